@@ -1,0 +1,103 @@
+-- Deciding: refusals 7 to 9, and the reads (01, Verify, prove, encode; 000, Construction 5.2, decision phase).
+use Prim.Native.Nat.{ℕ, suc}
+use mathlib.Core.Bool.{Bool, false, not, cond}
+use mathlib.Core.List.{List, [], _∷_, _++_, map, flatMap, zipWith}
+use mathlib.Core.Option.{Option, none, some}
+use lib.ListN.{length, getD, take, drop}
+use Rattle.definition.specs.Lists.{firstTrue}
+use Rattle.definition.specs.Field.{Field, primeField}
+use Rattle.definition.specs.Sheet.{Sheet, Level, sheetOf, sheetLength, firstLevel, rootOfUnity}
+use Rattle.definition.specs.Polynomial.{Sample, pair, evaluate, clash, distinct, correctedValue}
+use Rattle.definition.specs.Domain.{point, inDomain, shiftPoint, foldAt, rootNumbers}
+use Rattle.definition.specs.Transcript.{Round, RoundCoins, Rest, final, round, Transcript}
+use Rattle.definition.specs.Layout.{Kind, message, coin, out, index, layout, readTranscript}
+use Rattle.definition.specs.Verdict.{Outcome, refused, Verdict, refuseAt, thenVerdict}
+
+-- is a word of a kind an out coin of round i that lies in domain i?
+unfoldable pub outInDomain : Sheet → Kind → ℕ → Bool
+outInDomain h message x = false
+outInDomain h coin x = false
+outInDomain h (out l) x = inDomain (primeField (h .prime)) (rootOfUnity h) l x
+outInDomain h (index n) x = false
+
+-- 7: an out coin of round i lies in domain i, at the word number of the first; all rounds are tested before any test 8
+unfoldable pub outTest : Sheet → List ℕ → Outcome
+outTest h w = refuseAt 7 (firstTrue sheetLength (zipWith (outInDomain h) (layout h) (drop sheetLength w)))
+
+-- A place: the table's number and the point's.
+pub record Place : Type 0 where
+  pub table : ℕ
+  pub number : ℕ
+
+-- A function on a domain: its value at each point number, and the table places that one value is worked out from.
+pub record Function (A : Type 0) : Type 0 where
+  pub value : ℕ → A
+  pub places : ℕ → List Place
+
+-- one place, of the level's own table
+unfoldable pub ownPlace : Level → ℕ → List Place
+ownPlace l j = record { table = l .number; number = j } ∷ []
+
+-- the places that shift or final coins lead to: those of the k roots of each
+unfoldable pub placesOf : Level → (ℕ → List Place) → List ℕ → List Place
+placesOf l places js = flatMap (λ j. flatMap places (rootNumbers l j)) js
+
+-- the reads: table words used, repeats counted
+unfoldable pub readsOf : List Place → ℕ
+readsOf used = length used
+
+-- the final coins treated: all, or up to and with the failing one
+unfoldable pub treated : List ℕ → Option ℕ → List ℕ
+treated js none = js
+treated js (some failing) = take (suc failing) js
+
+module _ {A : Type 0} (F : Field A) (ω : A) where
+  open Field F using (𝟘, equal)
+
+  -- G_i's list: the out coins with their replies, then the shift points of the level b before, with the fold of f_(i-1) by fold coin r
+  unfoldable pub answers : Level → (ℕ → A) → A → Round A → List (Sample A)
+  answers b f r ρ =
+      pair (ρ .coins .outs) (ρ .replies)
+      ++ map (λ j. record { point = shiftPoint F ω b j; value = foldAt F ω b f r j }) (ρ .coins .shifts)
+
+  -- f_0: table 0
+  unfoldable pub tableFunction : Level → List A → Function A
+  tableFunction l table = record { value = λ j. getD table j 𝟘; places = ownPlace l }
+
+  -- f_i: at point j of domain i, from the table g_i sent and the samples G_i
+  unfoldable pub nextFunction : List (Sample A) → Round A → Function A
+  nextFunction g ρ = record {
+    value = λ j. correctedValue F g (ρ .coins .combination) (point F ω (ρ .coins .level) j) (getD (ρ .table) j 𝟘);
+    places = ownPlace (ρ .coins .level);
+  }
+
+  -- for each final index: does the final polynomial differ there from the fold of f_M?
+  unfoldable pub differences : Level → (ℕ → A) → A → List A → List ℕ → List Bool
+  differences b f r coefficients js = map (λ j. not (equal (evaluate F coefficients (shiftPoint F ω b j)) (foldAt F ω b f r j))) js
+
+  -- 9: the final coefficient polynomial differs, at the position of the first such final index
+  unfoldable pub decideFinal : Level → Function A → A → List Place → List A → List ℕ → Verdict
+  decideFinal b f r used coefficients js =
+      let fault = firstTrue 0 (differences b (f .value) r coefficients js) in
+      record { outcome = refuseAt 9 fault; reads = readsOf (used ++ placesOf b (f .places) (treated js fault)) }
+
+  -- 8: in the first such round i, two equal points of G_i's list have different values; the place is i.
+  -- After level b, with f on its domain, fold coin r and the places used so far.
+  unfoldable pub decideRest : Level → Function A → A → List Place → Rest A → Verdict
+  decideRest b f r used (final coefficients js) = decideFinal b f r used coefficients js
+  decideRest b f r used (round ρ rest) =
+      let g = answers b (f .value) r ρ in
+      let now = used ++ placesOf b (f .places) (ρ .coins .shifts) in
+      let clashed : Verdict = record { outcome = refused 8 (ρ .coins .level .number); reads = readsOf now } in
+      let next = decideRest (ρ .coins .level) (nextFunction (distinct F g) ρ) (ρ .coins .fold) now rest in
+      cond (clash F g) clashed next
+
+  -- from table 0 on, nothing used yet
+  unfoldable pub decide : Level → Transcript A → Verdict
+  decide first τ = decideRest first (tableFunction first (τ .table)) (τ .fold) [] (τ .rest)
+
+-- Deciding, of a stream that passes reading.
+unfoldable pub deciding : List ℕ → Verdict
+deciding w =
+    thenVerdict (outTest (sheetOf w) w)
+    (decide (primeField (sheetOf w .prime)) (rootOfUnity (sheetOf w)) (firstLevel (sheetOf w)) (readTranscript (sheetOf w) (drop sheetLength w)))

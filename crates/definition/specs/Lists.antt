@@ -1,0 +1,28 @@
+-- Lists and tests: the few helpers that the library lacks.
+use Prim.Native.Nat.{ℕ, zero, suc}
+use mathlib.Core.Bool.{Bool, true, false, _||_}
+use mathlib.Core.List.{List, [], _∷_}
+use mathlib.Core.Option.{Option, none, some}
+use lib.Dec.{eqb}
+use lib.ListN.{take, drop}
+
+-- is a number in a list?
+unfoldable pub member : ℕ → List ℕ → Bool
+member x [] = false
+member x (y ∷ ys) = eqb x y || member x ys
+
+-- from, from + 1, .., count numbers
+unfoldable pub range : ℕ → ℕ → List ℕ
+range from zero = []
+range from (suc count) = from ∷ range (suc from) count
+
+-- the first count chunks of a list, size elements each
+unfoldable pub chunks : {A : Type 0} → ℕ → ℕ → List A → List (List A)
+chunks zero size xs = []
+chunks (suc count) size xs = take size xs ∷ chunks count size (drop size xs)
+
+-- the place of the first test that is true, where the list's head has place from
+unfoldable pub firstTrue : ℕ → List Bool → Option ℕ
+firstTrue from [] = none
+firstTrue from (true ∷ bs) = some from
+firstTrue from (false ∷ bs) = firstTrue (suc from) bs
