@@ -45,7 +45,7 @@ pub record OrdinaryField {A : Type 0} (F : Field A) : Type 0 where
 module _ {A : Type 0} (F : Field A) (O : OrdinaryField F) where
   infixl 65 _⊕_ _⊖_
   infixl 70 _⊗_
-  open Field F using (𝟘, 𝟙, _⊕_, _⊖_, _⊗_)
+  open Field F using (𝟘, _⊕_, _⊖_, _⊗_)
   open OrdinaryField O using (add-comm, add-assoc, add-zero, sub-add, mul-comm, mul-assoc, mul-one, mul-add, one≢zero, mul-inverse, equal-refl, equal-true)
 
   add-cancel : (x y z : A) → x ⊕ z ≡ y ⊕ z → x ≡ y
