@@ -8,14 +8,14 @@ use lib.ListN.{length}
 use Rattle.definition.specs.Lists.{chunks}
 use Rattle.definition.specs.Field.{Field}
 use Rattle.definition.specs.Polynomial.{Sample, points, evaluate, scale, addPoly, subPoly, mulPoly, vanishing, interpolate, horner, foldPoly}
-use Rattle.algebra.specs.ListFacts.{All, all-map, all-map₂, all-of-map}
+use Rattle.algebra.specs.ListFacts.{All, all-map, all-map₂}
 use Rattle.algebra.specs.Laws.{FieldLaws}
 use Rattle.algebra.specs.RingLaws.{neg-one, sub-self, sub-zero}
 use Rattle.algebra.specs.Lengths.{length-sub-le, length-horner, length-points, length-interpolate}
 use Rattle.algebra.specs.Evaluation.{evaluate-nil, evaluate-cons, reduce-evaluate, evaluate-sub}
 use Rattle.algebra.specs.Different.{Apart}
 use Rattle.algebra.specs.Division.{horner-cons, quotient-root}
-use Rattle.algebra.specs.Interpolation.{interpolate-through}
+use Rattle.algebra.specs.Interpolation.{all-of-points, interpolate-through}
 
 module _ {A : Type 0} (F : Field A) (L : FieldLaws F) where
   infixl 65 _⊕_ _⊖_
@@ -105,8 +105,7 @@ module _ {A : Type 0} (F : Field A) (L : FieldLaws F) where
   -- A is the only polynomial of degree below the number of samples, with elements as coefficients, through samples at different points
   pub interpolate-only : (ps : List (Sample A)) (q : List A) → Apart F (points ps) → length q ≡ length ps → Elements q →
       All (λ p. evaluate F q (p .point) ≡ reduce (p .value)) ps → q ≡ interpolate F ps
-  unfolding points
   interpolate-only ps q apart size elements through =
       same-coefficients (points ps) q (interpolate F ps) (size ∙ sym (length-interpolate F ps)) (omega (arith, size, length-points F ps)) apart elements (elements-interpolate ps)
-      (all-of-map (λ x. evaluate F q x ≡ evaluate F (interpolate F ps) x) (λ p. p .point) ps
+      (all-of-points (λ x. evaluate F q x ≡ evaluate F (interpolate F ps) x) ps
       (all-map₂ ps through (interpolate-through F L ps apart) (λ p e i. e ∙ sym i)))

@@ -4,13 +4,13 @@ use mathlib.Core.List.{List}
 use lib.ListN.{length}
 use Rattle.definition.specs.Field.{Field}
 use Rattle.definition.specs.Polynomial.{Sample, points, evaluate, subPoly, vanishing, interpolate, quotient, geometric, correctedValue, correctedPoly}
-use Rattle.algebra.specs.ListFacts.{All, all-map₂, all-of-map}
+use Rattle.algebra.specs.ListFacts.{All, all-map₂}
 use Rattle.algebra.specs.Laws.{FieldLaws}
 use Rattle.algebra.specs.RingLaws.{sub-self}
 use Rattle.algebra.specs.Evaluation.{reduce-evaluate, evaluate-mul, evaluate-sub}
 use Rattle.algebra.specs.Different.{Differ, Apart}
 use Rattle.algebra.specs.Division.{vanishing-nonzero, quotient-exact}
-use Rattle.algebra.specs.Interpolation.{interpolate-through}
+use Rattle.algebra.specs.Interpolation.{all-of-points, interpolate-through}
 
 module _ {A : Type 0} (F : Field A) (L : FieldLaws F) where
   infixl 65 _⊖_
@@ -21,7 +21,7 @@ module _ {A : Type 0} (F : Field A) (L : FieldLaws F) where
   pub corrected : (ps : List (Sample A)) (c : A) (f : List A) (x : A) → Apart F (points ps) →
       All (λ p. p .value ≡ evaluate F f (p .point)) ps → All (λ b. Differ F x b) (points ps) →
       correctedValue F ps c x (evaluate F f x) ≡ evaluate F (correctedPoly F ps c f) x
-  unfolding correctedValue correctedPoly points
+  unfolding correctedValue correctedPoly
   corrected ps c f x apart values off =
       ap (λ (v : A). v ⊗ evaluate F (geometric F c (length ps)) x) divided ∙ sym (evaluate-mul F L _ _ x)
     where
@@ -30,7 +30,7 @@ module _ {A : Type 0} (F : Field A) (L : FieldLaws F) where
       meets p e i = evaluate-sub F L f (interpolate F ps) (p .point) ∙ rw (i, e, reduce-evaluate F L, sub-self F L)
 
       roots : All (λ a. evaluate F (subPoly F f (interpolate F ps)) a ≡ 𝟘) (points ps)
-      roots = all-of-map (λ a. evaluate F (subPoly F f (interpolate F ps)) a ≡ 𝟘) (λ p. p .point) ps (all-map₂ ps values (interpolate-through F L ps apart) meets)
+      roots = all-of-points (λ a. evaluate F (subPoly F f (interpolate F ps)) a ≡ 𝟘) ps (all-map₂ ps values (interpolate-through F L ps apart) meets)
 
       exact : (q v : A) → (reduce v ≡ 𝟘 → ⊥) → (v ⊗ q) ⊗ inverse v ≡ reduce q
       exact q v k = rw (mul-comm v q, mul-assoc, mul-inverse v k, mul-one)

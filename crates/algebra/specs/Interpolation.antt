@@ -5,13 +5,18 @@ use mathlib.Core.List.{List, [], _∷_}
 use lib.ListN.{length}
 use Rattle.definition.specs.Field.{Field}
 use Rattle.definition.specs.Polynomial.{Sample, points, evaluate, subPoly, vanishing, interpolate}
-use Rattle.algebra.specs.ListFacts.{All, all-map, all-map₂, all-in-map}
+use Rattle.algebra.specs.ListFacts.{All, all-map, all-map₂, all-of-map, all-in-map}
 use Rattle.algebra.specs.Laws.{FieldLaws}
 use Rattle.algebra.specs.RingLaws.{sub-self, sub-add, sub-zero}
 use Rattle.algebra.specs.Lengths.{length-sub-le}
 use Rattle.algebra.specs.Evaluation.{reduce-evaluate, evaluate-scale, evaluate-add, evaluate-sub}
 use Rattle.algebra.specs.Different.{Apart}
 use Rattle.algebra.specs.Division.{vanishing-nonzero, vanishing-roots, vanishes}
+
+-- a property of the point of each sample is one of each point
+pub all-of-points : {A : Type 0} (P : A → Type 0) (ps : List (Sample A)) → All (λ p. P (p .point)) ps → All P (points ps)
+unfolding points
+all-of-points P ps h = all-of-map P (λ p. p .point) ps h
 
 module _ {A : Type 0} (F : Field A) (L : FieldLaws F) where
   infixl 65 _⊕_ _⊖_

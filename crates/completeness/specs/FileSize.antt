@@ -1,0 +1,106 @@
+-- No accepted file is so long as 65,536 bytes (01, A transcript by hand): what `check` reads is enough.
+use Prim.Native.Nat.{ℕ, zero, suc, _+_, _*_, _/_, _%_, _≤_, _<_}
+use native.Mathlib.Nat.{div-le-self}
+use native.Mathlib.Omega.{arith}
+use mathlib.Core.Path.{_≡_, refl, sym, subst}
+use mathlib.Core.Bool.{Bool, true, false, _||_, true≢false}
+use mathlib.Core.List.{List, [], _∷_, tail}
+use lib.Dec.{eqb}
+use lib.ListN.{length, getD, take, drop, replicate, length-append, length-replicate}
+use lib.Seq.{getD-drop}
+use borrow.Author.Tests.{eqb-true, not-false}
+use Rattle.algebra.specs.ListFacts.{All}
+use Rattle.completeness.specs.Allowed.{equal-passes, if-passes}
+use Rattle.completeness.specs.MessagePlaces.{rest-length}
+use Rattle.completeness.specs.ProveAccepted.{then-passes}
+use Rattle.completeness.specs.SheetFacts.{and-true}
+use Rattle.completeness.specs.SheetPassed.{between-true, exponents, rules-hold, small-repetitions}
+use Rattle.definition.specs.Block.{blockCount, streamOf}
+use Rattle.definition.specs.Layout.{coin, index, laterCount, layout, message, restLayout, wordsDue}
+use Rattle.definition.specs.Reading.{blocksTest, bodyTests, checkTest, lengthTest, reading, sheetTest, streamTests}
+use Rattle.definition.specs.Sheet.{Level, degreeRule, finalCount, firstLevel, laterLevels, levelsFrom, outCoinsRule, powerOfTwo, sheetOf, sheetRules, shiftCount}
+use Rattle.definition.specs.Verdict.{Outcome, Verdict, accepted, refused, thenVerdict}
+use Rattle.definition.specs.Verify.{verify}
+
+final-size : (s : ℕ) (b : Level) → length (restLayout s b []) ≤ b .degree + b .repetitions
+unfolding restLayout finalCount
+final-size s b =
+    omega (
+      arith,
+      length-append (replicate (b .degree / b .fold) message) (replicate (b .repetitions) (index (shiftCount b))),
+      length-replicate (b .degree / b .fold) message,
+      length-replicate (b .repetitions) (index (shiftCount b)),
+      div-le-self (b .degree) (b .fold),
+    )
+
+-- the words after a fold coin: the tables halve, and each round has at most 70 other words
+rest-size : (s k m i n d t : ℕ) (ts : List ℕ) → s ≤ 2 → t ≤ 64 → All (λ x. x ≤ 64) ts →
+    length (restLayout s (record { number = i; size = n; degree = d; fold = k; repetitions = t }) (levelsFrom (suc i) (n / 2) (d / k) (replicate m k) ts)) ≤ n + 70 * m + d + 64
+unfolding levelsFrom laterCount
+rest-size s k zero i n d t ts hs ht h = let b : Level = record { number = i; size = n; degree = d; fold = k; repetitions = t } in omega (arith, final-size s b)
+rest-size s k (suc m) i n d t [] hs ht h = let b : Level = record { number = i; size = n; degree = d; fold = k; repetitions = t } in omega (arith, final-size s b)
+rest-size s k (suc m) i n d t (x ∷ ts) hs ht h =
+    let b : Level = record { number = i; size = n; degree = d; fold = k; repetitions = t } in
+    let l : Level = record { number = suc i; size = n / 2; degree = d / k; fold = k; repetitions = x } in
+    omega (arith, rest-length s b l (levelsFrom (suc (suc i)) (n / 2 / 2) (d / k / k) (replicate m k) ts), rest-size s k m (suc i) (n / 2) (d / k) x ts hs (h .0) (h .1), div-le-self d k)
+
+small-front : (n : ℕ) (l : List ℕ) → ((i : ℕ) → i < n → getD l i 0 ≤ 64) → All (λ x. x ≤ 64) (take n l)
+small-front zero l h = tt
+small-front (suc n) [] h = tt
+small-front (suc n) (x ∷ l) h = (h 0 (omega arith), small-front n l (λ i u. h (suc i) (omega arith)))
+
+head-small : (l : List ℕ) → All (λ x. x ≤ 64) l → getD l 0 0 ≤ 64
+head-small [] h = omega arith
+head-small (x ∷ l) h = h .0
+
+tail-small : (l : List ℕ) → All (λ x. x ≤ 64) l → All (λ x. x ≤ 64) (tail l)
+tail-small [] h = tt
+tail-small (x ∷ l) h = h .1
+
+pub sheet-size : (w : List ℕ) → sheetTest w ≡ accepted → length (layout (sheetOf w)) ≤ 10656
+unfolding layout sheetOf firstLevel laterLevels sheetRules outCoinsRule degreeRule
+sheet-size w e =
+    let x = exponents w e in
+    let h = rules-hold w e in
+    let s = between-true 1 2 (getD w 5 0) (h .1 .1 .1 .1 .1 .0) in
+    let d = between-true 2 (getD w 1 0 / 2) (getD w 2 0) (and-true (powerOfTwo (getD w 2 0)) _ (h .1 .1 .0) .1) in
+    let ts = take (suc (getD w 4 0)) (drop 6 w) in
+    let small : All (λ y. y ≤ 64) ts = small-front (suc (getD w 4 0)) (drop 6 w)
+    (λ i u. subst (λ (y : ℕ). y ≤ 64) (sym (getD-drop 6 w i 0)) (small-repetitions w e i (omega (arith, x .most)))) in
+    let r = rest-size (getD w 5 0) (getD w 3 0) (getD w 4 0) 0 (getD w 1 0) (getD w 2 0) (getD ts 0 0) (tail ts) (s .1) (head-small ts small) (tail-small ts small) in
+    omega (
+      arith,
+      length-append (replicate (getD w 1 0) message) (coin ∷ restLayout (getD w 5 0) (firstLevel (sheetOf w)) (laterLevels (sheetOf w))),
+      length-replicate (getD w 1 0) message,
+      r,
+      x .small,
+      x .most,
+      d .1,
+    )
+
+-- the file of a sheet that passes
+pub file-size : (w : List ℕ) → sheetTest w ≡ accepted → 512 * blockCount (wordsDue (sheetOf w)) < 65536
+unfolding blockCount wordsDue
+file-size w e = omega (arith, sheet-size w e)
+
+reading-accepted : (o : Outcome) (v : Verdict) → thenVerdict o v .outcome ≡ accepted → o ≡ accepted
+unfolding thenVerdict
+reading-accepted accepted v e = refl
+reading-accepted (refused n p) v e = e
+
+or-false : (a b : Bool) → (a || b) ≡ false → b ≡ false
+or-false true b e = absurd (true≢false e)
+or-false false b e = e
+
+-- No accepted file is so long.
+pub accepted-short : (bytes : List ℕ) → verify bytes .outcome ≡ accepted → length bytes < 65536
+unfolding verify reading lengthTest streamTests bodyTests blocksTest
+accepted-short bytes e =
+    let w = streamOf bytes in
+    let a = then-passes (lengthTest bytes) _ (reading-accepted (reading bytes) _ e) in
+    let b = then-passes (checkTest bytes) _ (a .1) in
+    let c = then-passes (sheetTest w) _ (b .1) in
+    let d = then-passes (blocksTest (sheetOf w) (length bytes / 512)) _ (c .1) in
+    let n : length bytes / 512 ≡ blockCount (wordsDue (sheetOf w)) = equal-passes 4 (blockCount (wordsDue (sheetOf w))) (length bytes / 512) (blockCount (wordsDue (sheetOf w))) (d .0) in
+    let z : length bytes % 512 ≡ 0 = eqb-true (length bytes % 512) 0 (not-false (eqb (length bytes % 512) 0) (or-false (eqb (length bytes) 0) _ (if-passes 1 0 _ (a .0)))) in
+    omega (arith, n, z, file-size w (c .0))

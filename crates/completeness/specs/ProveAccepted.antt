@@ -1,0 +1,112 @@
+-- What prove writes is accepted: prove answers done exactly when its tests pass, and then the blocks at the front of its output are a file that verify accepts.
+use Prim.Native.Nat.{ℕ, _*_, _≤_}
+use native.Mathlib.Omega.{arith}
+use mathlib.Core.Path.{_≡_, refl, sym, ap, _∙_}
+use mathlib.Core.Logic.{_↔_}
+use mathlib.Core.List.{List, _++_}
+use lib.Dec.{ltb}
+use lib.ListN.{length, take, drop, length-append, length-drop}
+use lib.Seq.{take-at}
+use borrow.Author.Tests.{ltb-false}
+use Rattle.completeness.specs.Allowed.{Allowed, if-passes}
+use Rattle.completeness.specs.Completeness.{completeness, honest-length}
+use Rattle.completeness.specs.FileTrip.{file-length}
+use Rattle.completeness.specs.Reads.{readsDue}
+use Rattle.definition.specs.Block.{blockCount, fileOf}
+use Rattle.definition.specs.Layout.{coinKinds, layout, wordsDue}
+use Rattle.definition.specs.Prove.{Result, coefficientsTest, coinDomainTest, coinsTest, done, finish, inputRangeTest, outputTest, prove, proveTests, refusal, sheetLengthTest}
+use Rattle.definition.specs.Prover.{honestStream}
+use Rattle.definition.specs.Reading.{sheetTest}
+use Rattle.definition.specs.Sheet.{sheetOf}
+use Rattle.definition.specs.Verdict.{Outcome, _then_, accepted, refused}
+use Rattle.definition.specs.Verify.{verify}
+
+-- two tests that both pass
+pub then-passes : (a b : Outcome) → (a then b) ≡ accepted → (a ≡ accepted) × (b ≡ accepted)
+unfolding _then_
+then-passes accepted b e = (refl, e)
+then-passes (refused n p) b e = let z : _≡_ {A = ℕ} 0 1 = cc in absurd (omega arith)
+
+-- the output holds the blocks due
+abbrev pub Room : List ℕ → List ℕ → Type 0
+Room w output = outputTest (blockCount (wordsDue (sheetOf w))) (512 * blockCount (wordsDue (sheetOf w))) (length output) ≡ accepted
+
+finish-done : (o : Outcome) (count n : ℕ) (written output : List ℕ) → finish o count written output .answer ≡ done n → (o ≡ accepted) × (count ≡ n)
+unfolding finish
+finish-done accepted count n written output e = (refl, cc)
+finish-done (refused a b) count n written output e = let z : _≡_ {A = ℕ} 0 1 = cc in absurd (omega arith)
+
+finish-failed : (o : Outcome) (count n p : ℕ) (written output : List ℕ) → finish o count written output .answer ≡ refusal n p → finish o count written output .output ≡ output
+unfolding finish
+finish-failed accepted count n p written output e = let z : _≡_ {A = ℕ} 0 1 = cc in absurd (omega arith)
+finish-failed (refused a b) count n p written output e = refl
+
+module _ (w f coins output : List ℕ) where
+  abbrev tests : Outcome
+  tests = sheetLengthTest w then sheetTest w then proveTests (sheetOf w) f coins output
+
+  tests-pass : tests ≡ accepted → Allowed w f coins × Room w output
+  unfolding proveTests
+  tests-pass e =
+      let a = then-passes (sheetLengthTest w) _ e in
+      let b = then-passes (sheetTest w) _ (a .1) in
+      let c = then-passes (coefficientsTest (sheetOf w) f) _ (b .1) in
+      let d = then-passes (coinsTest (sheetOf w) coins) _ (c .1) in
+      let g = then-passes (inputRangeTest (sheetOf w) (coinKinds (layout (sheetOf w))) (f ++ coins)) _ (d .1) in
+      let k = then-passes (coinDomainTest (sheetOf w) coins) _ (g .1) in
+      (record { words = a .0; sheet = b .0; coefficients = c .0; full = d .0; range = g .0; outside = k .0 }, k .1)
+
+  pass-tests : Allowed w f coins → Room w output → tests ≡ accepted
+  unfolding proveTests _then_
+  pass-tests ok room = rw (ok .words, ok .sheet, ok .coefficients, ok .full, ok .range, ok .outside, room)
+
+  -- done only if the tests pass, and then with the number of blocks that the sheet needs
+  pub done-allowed : (n : ℕ) → prove w f coins output .answer ≡ done n → Allowed w f coins × Room w output × (n ≡ blockCount (wordsDue (sheetOf w)))
+  unfolding prove
+  done-allowed n e =
+      let r = finish-done tests (blockCount (wordsDue (sheetOf w))) n (fileOf (honestStream w f coins)) output e in
+      let t = tests-pass (r .0) in
+      (t .0, t .1, sym (r .1))
+
+  -- and if the tests pass: the file, and after it the output as before
+  pub allowed-done : Allowed w f coins → Room w output →
+      prove w f coins output ≡ record { answer = done (blockCount (wordsDue (sheetOf w))); output = fileOf (honestStream w f coins) ++ drop (512 * blockCount (wordsDue (sheetOf w))) output }
+  unfolding prove finish
+  allowed-done ok room =
+      rw (pass-tests ok room)
+      (λ i. record {
+        answer = done (blockCount (wordsDue (sheetOf w)));
+        output = fileOf (honestStream w f coins) ++ drop ((file-length (honestStream w f coins) ∙ ap (λ (m : ℕ). 512 * blockCount m) (honest-length ok)) i) output;
+      })
+
+  -- done exactly when the tests pass
+  pub done-exactly : (prove w f coins output .answer ≡ done (blockCount (wordsDue (sheetOf w)))) ↔ (Allowed w f coins × Room w output)
+  done-exactly = (
+    λ e. let r = done-allowed (blockCount (wordsDue (sheetOf w))) e in (r .0, r .1),
+    λ t. ap (λ (x : Result). x .answer) (allowed-done (t .0) (t .1)),
+  )
+
+  -- refused: the output as before
+  pub refused-same : (n p : ℕ) → prove w f coins output .answer ≡ refusal n p → prove w f coins output .output ≡ output
+  unfolding prove
+  refused-same n p e = finish-failed tests (blockCount (wordsDue (sheetOf w))) n p (fileOf (honestStream w f coins)) output e
+
+  -- Completeness of prove: where it answers done with n blocks, the first n blocks of the output are a file that verify accepts.
+  pub prove-accepted : (n : ℕ) → prove w f coins output .answer ≡ done n →
+      verify (take (512 * n) (prove w f coins output .output)) ≡ record { outcome = accepted; reads = readsDue w }
+  prove-accepted n e =
+      let r = done-allowed n e in
+      let size : length (fileOf (honestStream w f coins)) ≡ 512 * n = file-length (honestStream w f coins) ∙ ap (λ (m : ℕ). 512 * blockCount m) (honest-length (r .0)) ∙ ap (λ (m : ℕ). 512 * m) (sym (r .2)) in
+      ap verify (ap (λ (x : Result). take (512 * n) (x .output)) (allowed-done (r .0) (r .1)) ∙ take-at (fileOf (honestStream w f coins)) _ (512 * n) size)
+      ∙ completeness w f coins (r .0)
+
+  -- the output keeps its length
+  pub prove-length : (n : ℕ) → prove w f coins output .answer ≡ done n → length (prove w f coins output .output) ≡ length output
+  unfolding outputTest
+  prove-length n e =
+      let r = done-allowed n e in
+      let b = blockCount (wordsDue (sheetOf w)) in
+      let size : length (fileOf (honestStream w f coins)) ≡ 512 * b = file-length (honestStream w f coins) ∙ ap (λ (m : ℕ). 512 * blockCount m) (honest-length (r .0)) in
+      let enough : 512 * b ≤ length output = ltb-false (length output) (512 * b) (if-passes 11 b (ltb (length output) (512 * b)) (r .1)) in
+      ap (λ (x : Result). length (x .output)) (allowed-done (r .0) (r .1)) ∙ length-append (fileOf (honestStream w f coins)) _
+      ∙ omega (arith, size, length-drop (512 * b) output)

@@ -1,0 +1,104 @@
+-- A sheet that passes is ready: its field has the laws and a fitting root of unity, its levels are right, and its indices are words.
+use Rattle.algebra.specs.PrimeField.{fitting-root, prime-field}
+use Prim.Native.Nat.{ℕ, suc, _+_, _-_, _/_, _%_, _^_, _≤_, _<_}
+use native.Mathlib.Nat.{pow-suc, div-le-self, mul-le-mul-right, one-mul}
+use native.Mathlib.Omega.{arith}
+use mathlib.Core.Path.{_≡_, sym, subst}
+use mathlib.Core.List.{List, [], _∷_}
+use lib.ListN.{length, getD, replicate}
+use lib.Pow.{pow-pos}
+use Rattle.algebra.specs.Laws.{FieldLaws}
+use Rattle.algebra.specs.ListFacts.{All, all-append}
+use Rattle.algebra.specs.PrimeField.{Suited, suited}
+use Rattle.algebra.specs.RootsOfUnity.{minusOne}
+use Rattle.completeness.specs.FileTrip.{all-replicate}
+use Rattle.completeness.specs.SheetFacts.{Chain, Right}
+use Rattle.completeness.specs.SheetLevels.{Steps, sheet-chain, sheet-steps}
+use Rattle.completeness.specs.SheetPassed.{exponents}
+use Rattle.definition.specs.Field.{power, primeField}
+use Rattle.definition.specs.Layout.{Kind, coin, index, layout, limit, message, out, restLayout, roundLayout}
+use Rattle.definition.specs.Reading.{sheetTest}
+use Rattle.definition.specs.Sheet.{Level, Sheet, finalCount, firstLevel, laterLevels, rootOfUnity, sheetOf, shiftCount}
+use Rattle.definition.specs.Verdict.{accepted}
+
+pub record Ready (h : Sheet) : Type 0 where
+  pub laws : FieldLaws (primeField (h .prime))
+  pub large : 2 < h .prime
+  pub small : h .prime < 4294967296
+  pub e : ℕ
+  pub bound : 2 ^ suc e ≤ 4096
+  pub root : power (primeField (h .prime)) (rootOfUnity h) (2 ^ e) ≡ minusOne (primeField (h .prime))
+  pub chain : Chain (suc e) (firstLevel h) (laterLevels h)
+  pub steps : Steps (h .outCoins) (firstLevel h) (laterLevels h)
+
+root-at : (p g a n : ℕ) (S : Suited p g) → n ≡ 2 ^ suc a → (p - 1) % n ≡ 0 →
+    power (primeField p) (g ^ ((p - 1) / n) % p) (2 ^ a) ≡ minusOne (primeField p)
+root-at p g a n S e h =
+    let twice : n ≡ 2 ^ a + 2 ^ a = omega (arith, pow-suc 2 a) in
+    subst (λ (m : ℕ). power (primeField p) (g ^ ((p - 1) / m) % p) (2 ^ a) ≡ minusOne (primeField p)) (sym twice)
+    (fitting-root p g (2 ^ a) (S .large) (S .fits) (subst (λ (m : ℕ). (p - 1) % m ≡ 0) twice h))
+
+pub ready : (w : List ℕ) → length w ≡ 12 → sheetTest w ≡ accepted → Ready (sheetOf w)
+unfolding sheetOf rootOfUnity
+ready w long passed =
+    let x = exponents w passed in
+    let S = suited (getD w 0 0) in
+    record {
+      laws = prime-field _ (S .prime);
+      large = S .large;
+      small = S .small;
+      e = x .a;
+      bound = subst (λ (n : ℕ). n ≤ 4096) (x .size) (x .small);
+      root = root-at _ _ (x .a) (getD w 1 0) S (x .size) (x .divides);
+      chain = sheet-chain w long passed;
+      steps = sheet-steps w long passed;
+    }
+
+-- every limit of the layout is a word's
+shift-count : (a : ℕ) (b : Level) → Right a b → shiftCount b ≤ 2 ^ a
+unfolding shiftCount
+shift-count a b r =
+    omega (arith, div-le-self (b .size) (b .fold), mul-le-mul-right (b .size) (pow-pos (b .number)), one-mul (b .size), r .whole)
+
+module _ (p : ℕ) (small : p < 4294967296) (a : ℕ) (bound : 2 ^ a ≤ 4096) (s : ℕ) where
+  abbrev Fits : Kind → Type 0
+  Fits k = limit p k ≤ 4294967296
+
+  message-fits : Fits message
+  unfolding limit
+  message-fits = omega arith
+
+  coin-fits : Fits coin
+  unfolding limit
+  coin-fits = omega arith
+
+  out-fits : (l : Level) → Fits (out l)
+  unfolding limit
+  out-fits l = omega arith
+
+  index-fits : (b : Level) → Right a b → Fits (index (shiftCount b))
+  unfolding limit
+  index-fits b r = omega (arith, shift-count a b r)
+
+  round-fits : (b l : Level) → Right a b → All Fits (roundLayout s b l)
+  unfolding roundLayout
+  round-fits b l r =
+      all-append Fits (replicate (l .size) message) _ (all-replicate Fits (l .size) message message-fits)
+      (all-append Fits (replicate s (out l)) _ (all-replicate Fits s (out l) (out-fits l))
+      (all-append Fits (replicate s message) _ (all-replicate Fits s message message-fits)
+      (coin-fits, (coin-fits, all-replicate Fits (b .repetitions) (index (shiftCount b)) (index-fits b r)))))
+
+  rest-fits : (b : Level) (ls : List Level) → Chain a b ls → All Fits (restLayout s b ls)
+  unfolding restLayout
+  rest-fits b [] r =
+      all-append Fits (replicate (finalCount b) message) _ (all-replicate Fits (finalCount b) message message-fits)
+      (all-replicate Fits (b .repetitions) (index (shiftCount b)) (index-fits b r))
+  rest-fits b (l ∷ ls) r = all-append Fits (roundLayout s b l) _ (round-fits b l (r .0)) (rest-fits l ls (r .2))
+
+pub layout-fits : (h : Sheet) → Ready h → All (λ k. limit (h .prime) k ≤ 4294967296) (layout h)
+unfolding layout
+layout-fits h r =
+    let p = h .prime in
+    let s = h .outCoins in
+    all-append _ (replicate (h .size) message) _ (all-replicate _ (h .size) message (message-fits p (r .small) (suc (r .e)) (r .bound) s))
+    (coin-fits p (r .small) (suc (r .e)) (r .bound) s, rest-fits p (r .small) (suc (r .e)) (r .bound) s (firstLevel h) (laterLevels h) (r .chain))
