@@ -1,1 +1,5 @@
 pub mod Laws
+pub mod NormalForm
+pub mod RingLaws
+pub mod Solver
+pub mod SolverExamples
