@@ -1,6 +1,6 @@
 -- Division by X - a and by the vanishing polynomial of a list of points; a polynomial with as many roots as coefficients is 0 everywhere.
 use Prim.Native.Nat.{_≤_}
-use mathlib.Core.Path.{_≡_, refl, sym, ap, _∙_, _≡⟨_⟩_, _∎}
+use mathlib.Core.Path.{_≡_, refl, sym, ap, _∙_}
 use mathlib.Core.List.{List, [], _∷_}
 use native.Mathlib.Nat.{le-of-suc-le-suc, not-suc-le-zero}
 use lib.ListN.{length, getD}
@@ -8,7 +8,8 @@ use Rattle.definition.specs.Field.{Field}
 use Rattle.definition.specs.Polynomial.{evaluate, vanishing, horner, divide, quotient}
 use Rattle.algebra.specs.ListFacts.{All, all-map, all-map₂}
 use Rattle.algebra.specs.Laws.{FieldLaws}
-use Rattle.algebra.specs.RingLaws.{add-left-comm, mul-left-comm, add-mul, zero-add, zero-mul, sub-self, sub-add, reduce-sub, cancel}
+use Rattle.algebra.specs.Solver.{_:+_, _:-_, _:*_, _:=_, solve₅}
+use Rattle.algebra.specs.RingLaws.{zero-add, zero-mul, sub-self, reduce-sub, cancel}
 use Rattle.algebra.specs.Lengths.{length-horner}
 use Rattle.algebra.specs.Evaluation.{evaluate-nil, evaluate-cons, reduce-evaluate, evaluate-mul}
 use Rattle.algebra.specs.Different.{Differ, differ-sym, Apart}
@@ -17,7 +18,7 @@ module _ {A : Type 0} (F : Field A) (L : FieldLaws F) where
   infixl 65 _⊕_ _⊖_
   infixl 70 _⊗_
   open Field F using (𝟘, 𝟙, _⊕_, _⊖_, _⊗_)
-  open FieldLaws L using (add-comm, add-assoc, mul-comm, mul-assoc, mul-add, add-zero, mul-one, mul-zero, sub-def, reduce-one, reduce-add, reduce-mul, add-reduce, mul-reduce, one≢zero)
+  open FieldLaws L using (add-comm, mul-comm, mul-assoc, add-zero, mul-one, mul-zero, sub-def, reduce-one, reduce-add, reduce-mul, add-reduce, one≢zero)
 
   pub vanishing-nil : (x : A) → evaluate F (vanishing F []) x ≡ 𝟙
   unfolding vanishing
@@ -59,17 +60,8 @@ module _ {A : Type 0} (F : Field A) (L : FieldLaws F) where
   unfolding horner evaluate
   horner-cons a c cs = ap (λ (v : A). (c ⊕ a ⊗ v) ∷ horner F a cs) (horner-head a cs)
 
-  pub horner-step : (a c e q x : A) → c ⊕ x ⊗ ((x ⊖ a) ⊗ q ⊕ e) ≡ (x ⊖ a) ⊗ (e ⊕ x ⊗ q) ⊕ (c ⊕ a ⊗ e)
-  horner-step a c e q x =
-      c ⊕ x ⊗ ((x ⊖ a) ⊗ q ⊕ e) ≡⟨ ap (λ (v : A). c ⊕ v) (mul-add x ((x ⊖ a) ⊗ q) e) ⟩
-      c ⊕ (x ⊗ ((x ⊖ a) ⊗ q) ⊕ x ⊗ e) ≡⟨ (λ i. c ⊕ (mul-left-comm F L x (x ⊖ a) q i ⊕ split i)) ⟩
-      c ⊕ ((x ⊖ a) ⊗ (x ⊗ q) ⊕ ((x ⊖ a) ⊗ e ⊕ a ⊗ e)) ≡⟨ ap (λ (v : A). c ⊕ v) (add-left-comm F L _ _ _ ∙ sym (add-assoc _ _ _)) ⟩
-      c ⊕ ((x ⊖ a) ⊗ e ⊕ (x ⊖ a) ⊗ (x ⊗ q) ⊕ a ⊗ e) ≡⟨ add-left-comm F L _ _ _ ⟩
-      (x ⊖ a) ⊗ e ⊕ (x ⊖ a) ⊗ (x ⊗ q) ⊕ (c ⊕ a ⊗ e) ≡⟨ ap (λ (v : A). v ⊕ (c ⊕ a ⊗ e)) (sym (mul-add (x ⊖ a) e (x ⊗ q))) ⟩
-      (x ⊖ a) ⊗ (e ⊕ x ⊗ q) ⊕ (c ⊕ a ⊗ e) ∎
-    where
-      split : x ⊗ e ≡ (x ⊖ a) ⊗ e ⊕ a ⊗ e
-      split = mul-comm x e ∙ sym (mul-reduce e x) ∙ ap (λ (v : A). e ⊗ v) (sym (sub-add F L x a)) ∙ mul-comm e _ ∙ add-mul F L (x ⊖ a) a e
+  horner-step : (a c e q x : A) → c ⊕ x ⊗ ((x ⊖ a) ⊗ q ⊕ e) ≡ (x ⊖ a) ⊗ (e ⊕ x ⊗ q) ⊕ (c ⊕ a ⊗ e)
+  horner-step = solve₅ F L (λ a c e q x. c :+ x :* ((x :- a) :* q :+ e) := (x :- a) :* (e :+ x :* q) :+ (c :+ a :* e)) tt
 
   pub horner-quotient : (a c : A) (cs : List A) (x : A) → evaluate F (c ∷ cs) x ≡ (x ⊖ a) ⊗ evaluate F (horner F a cs) x ⊕ evaluate F (c ∷ cs) a
   horner-quotient a c [] x = rw (evaluate-cons F c [] x, evaluate-cons F c [] a, horner-nil, evaluate-nil F, evaluate-nil F, mul-zero, mul-zero, mul-zero, zero-add F L, reduce-add)

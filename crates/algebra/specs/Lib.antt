@@ -1,9 +1,12 @@
 -- Algebra over the definition's own operations and polynomials: fields on words, polynomials as coefficient lists, roots of unity, and the three
 -- prime fields. A lemma takes a field F, and its laws L where it uses them.
--- fields
+-- fields, and a solver for identities in them
 pub mod ListFacts
 pub mod Laws
 pub mod RingLaws
+pub mod NormalForm
+pub mod Solver
+pub mod SolverExamples
 pub mod Different
 -- polynomials
 pub mod Lengths

@@ -1,7 +1,7 @@
 -- Powers of a root of unity ω with ω^(n/2) = -1, n a power of two, in any field where -1 is not 1: those below n are pairwise different, and odd and even powers differ.
 use Prim.Native.Nat.{ℕ, zero, suc, _+_, _-_, _*_, _^_, _<_}
 use native.Mathlib.Nat
-use native.Mathlib.Nat.{suc-add, zero-add, mul-suc, mul-zero, pow-suc}
+use native.Mathlib.Nat.{mul-suc, mul-zero, pow-suc}
 use native.Mathlib.Omega.{arith}
 use lib.Pow.{pow-pos}
 use mathlib.Core.Path.{_≡_, refl, sym, ap, _∙_, subst}
@@ -9,7 +9,7 @@ use mathlib.Core.List.{map}
 use Rattle.definition.specs.Field.{Field, power}
 use Rattle.definition.specs.Lists.{range}
 use Rattle.algebra.specs.Laws.{FieldLaws}
-use Rattle.algebra.specs.RingLaws.{neg-one, neg-unique, reduce-sub, sub-zero}
+use Rattle.algebra.specs.RingLaws.{neg-one, neg-unique, power-add, reduce-power, reduce-sub, sub-zero}
 use Rattle.algebra.specs.Different.{Differ, Apart, apart-range}
 
 -- a number is even or odd
@@ -36,12 +36,7 @@ module _ {A : Type 0} (F : Field A) (L : FieldLaws F) where
   infixl 65 _⊖_
   infixl 70 _⊗_
   open Field F using (𝟘, 𝟙, _⊖_, _⊗_)
-  open FieldLaws L using (reduce, add-comm, mul-comm, mul-assoc, mul-one, mul-zero, neg-add, reduce-one, reduce-mul)
-
-  pub power-reduced : (x : A) (n : ℕ) → reduce (power F x n) ≡ power F x n
-  unfolding power
-  power-reduced x zero = reduce-one
-  power-reduced x (suc n) = reduce-mul x (power F x n)
+  open FieldLaws L using (reduce, add-comm, mul-comm, mul-assoc, mul-one, mul-zero, neg-add, reduce-one)
 
   pub power-suc : (x : A) (n : ℕ) → power F x (suc n) ≡ x ⊗ power F x n
   unfolding power
@@ -51,16 +46,12 @@ module _ {A : Type 0} (F : Field A) (L : FieldLaws F) where
   unfolding power
   power-zero x = refl
 
-  pub one-times : (x : A) (n : ℕ) → 𝟙 ⊗ power F x n ≡ power F x n
-  one-times x n = mul-comm 𝟙 _ ∙ mul-one _ ∙ power-reduced x n
-
-  pub power-add : (x : A) (m n : ℕ) → power F x (m + n) ≡ power F x m ⊗ power F x n
-  power-add x zero n = rw (zero-add, power-zero, one-times)
-  power-add x (suc m) n = rw (suc-add, power-suc x (m + n), power-add x m n, power-suc x m, mul-assoc)
+  one-times : (x : A) (n : ℕ) → 𝟙 ⊗ power F x n ≡ power F x n
+  one-times x n = mul-comm 𝟙 _ ∙ mul-one _ ∙ reduce-power F L x n
 
   pub power-mul : (x : A) (m n : ℕ) → power F (power F x m) n ≡ power F x (m * n)
   power-mul x m zero = rw (Nat.mul-zero, power-zero, power-zero)
-  power-mul x m (suc n) = rw (power-suc (power F x m) n, power-mul x m n, ← power-add, mul-suc, Nat.add-comm m (m * n))
+  power-mul x m (suc n) = rw (power-suc (power F x m) n, power-mul x m n, ← power-add F L, mul-suc, Nat.add-comm m (m * n))
 
   pub power-one : (n : ℕ) → power F 𝟙 n ≡ 𝟙
   power-one zero = power-zero 𝟙
@@ -111,19 +102,19 @@ module _ {A : Type 0} (F : Field A) (L : FieldLaws F) where
     pub powers-differ : (e : ℕ) (ω : A) (a c : ℕ) → power F ω (2 ^ e) ≡ minusOne F → 0 < c → c < 2 ^ e + 2 ^ e → Differ F (power F ω (a + c)) (power F ω a)
     powers-differ e ω a c h l u z = nontrivial e ω c (half c) h l u
         (sym (one-times ω c) ∙ ap (λ (y : A). y ⊗ power F ω c) (sym unit) ∙ mul-assoc _ _ _
-        ∙ ap (λ (y : A). power F ω (a * m) ⊗ y) (sym (power-add ω a c) ∙ same) ∙ unit)
+        ∙ ap (λ (y : A). power F ω (a * m) ⊗ y) (sym (power-add F L ω a c) ∙ same) ∙ unit)
       where
         m : ℕ
         m = 2 ^ e + 2 ^ e - 1
 
         full : power F ω (suc m) ≡ 𝟙
-        full = ap (power F ω) (size (2 ^ e) (pow-pos e)) ∙ power-add ω (2 ^ e) (2 ^ e) ∙ rw h minus-square
+        full = ap (power F ω) (size (2 ^ e) (pow-pos e)) ∙ power-add F L ω (2 ^ e) (2 ^ e) ∙ rw h minus-square
 
         unit : power F ω (a * m) ⊗ power F ω a ≡ 𝟙
-        unit = sym (power-add ω (a * m) a) ∙ ap (power F ω) (sym (mul-suc a m) ∙ Nat.mul-comm a (suc m)) ∙ sym (power-mul ω (suc m) a) ∙ ap (λ (y : A). power F y a) full ∙ power-one a
+        unit = sym (power-add F L ω (a * m) a) ∙ ap (power F ω) (sym (mul-suc a m) ∙ Nat.mul-comm a (suc m)) ∙ sym (power-mul ω (suc m) a) ∙ ap (λ (y : A). power F y a) full ∙ power-one a
 
         same : power F ω (a + c) ≡ power F ω a
-        same = sym (power-reduced ω (a + c)) ∙ sub-zero F L (power F ω (a + c)) (power F ω a) z ∙ power-reduced ω a
+        same = sym (reduce-power F L ω (a + c)) ∙ sub-zero F L (power F ω (a + c)) (power F ω a) z ∙ reduce-power F L ω a
 
     minus-even : (d : ℕ) → power F (minusOne F) (d + d) ≡ 𝟙
     minus-even d = ap (power F (minusOne F)) (sym (two-times d)) ∙ sym (power-mul (minusOne F) 2 d) ∙ ap (λ (y : A). power F y d) square ∙ power-one d
@@ -139,7 +130,7 @@ module _ {A : Type 0} (F : Field A) (L : FieldLaws F) where
         raised n k = power-mul ω n h ∙ ap (power F ω) (Nat.mul-comm n h) ∙ sym (power-mul ω h n) ∙ ap (λ (y : A). power F y n) e ∙ k
 
         same : power F ω (suc (d + d)) ≡ power F ω (c + c)
-        same = sym (power-reduced ω (suc (d + d))) ∙ sub-zero F L _ _ z ∙ power-reduced ω (c + c)
+        same = sym (reduce-power F L ω (suc (d + d))) ∙ sub-zero F L _ _ z ∙ reduce-power F L ω (c + c)
 
     -- THE POWERS OF ω BELOW n ARE PAIRWISE DIFFERENT, n = 2^(e+1)
     pub powers-apart : (e : ℕ) (ω : A) → power F ω (2 ^ e) ≡ minusOne F → Apart F (map (power F ω) (range 0 (2 ^ e + 2 ^ e)))

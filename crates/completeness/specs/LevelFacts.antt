@@ -5,6 +5,7 @@ use native.Mathlib.Nat.{mul-le-mul-left, mul-lt-mul-of-pos-right, mul-lt-mul-of-
 use native.Mathlib.Omega.{arith}
 use lib.Pow.{pow-pos}
 use mathlib.Core.Path.{_≡_, sym, ap, _∙_, subst}
+use Rattle.algebra.specs.RingLaws
 use Rattle.algebra.specs.RootsOfUnity
 use Rattle.algebra.specs.Different.{Differ, apart-range}
 use Rattle.algebra.specs.Laws.{FieldLaws}
@@ -46,7 +47,7 @@ module _ {A : Type 0} (F : Field A) (L : FieldLaws F) (ω : A) (signs : minusOne
   pub full-power : (m : ℕ) → power F ω ((2 ^ e + 2 ^ e) * m) ≡ 𝟙
   full-power m =
       sym (RootsOfUnity.power-mul F L ω (2 ^ e + 2 ^ e) m)
-      ∙ ap (λ (y : A). power F y m) (RootsOfUnity.power-add F L ω (2 ^ e) (2 ^ e) ∙ rw root (RootsOfUnity.minus-square F L)) ∙ RootsOfUnity.power-one F L m
+      ∙ ap (λ (y : A). power F y m) (RingLaws.power-add F L ω (2 ^ e) (2 ^ e) ∙ rw root (RootsOfUnity.minus-square F L)) ∙ RootsOfUnity.power-one F L m
 
   pub roots-power : (b : Level) (j m : ℕ) → Placed b → power F (point F ω b (j + m * (b .size / b .fold))) (b .fold) ≡ shiftPoint F ω b j
   unfolding point shiftPoint
@@ -55,8 +56,8 @@ module _ {A : Type 0} (F : Field A) (L : FieldLaws F) (ω : A) (signs : minusOne
       let q = b .size / b .fold in
       RootsOfUnity.power-mul F L ω (1 + t * (j + m * q)) (b .fold)
       ∙ ap (power F ω) (folded t j m q (b .fold) ∙ ap (λ (n : ℕ). (1 + t * j) * b .fold + n * m) (ap (λ (n : ℕ). t * n) (placed .folds) ∙ placed .whole))
-      ∙ RootsOfUnity.power-add F L ω ((1 + t * j) * b .fold) ((2 ^ e + 2 ^ e) * m)
-      ∙ ap (λ (y : A). power F ω ((1 + t * j) * b .fold) ⊗ y) (full-power m) ∙ mul-one _ ∙ RootsOfUnity.power-reduced F L ω ((1 + t * j) * b .fold)
+      ∙ RingLaws.power-add F L ω ((1 + t * j) * b .fold) ((2 ^ e + 2 ^ e) * m)
+      ∙ ap (λ (y : A). power F ω ((1 + t * j) * b .fold) ⊗ y) (full-power m) ∙ mul-one _ ∙ RingLaws.reduce-power F L ω ((1 + t * j) * b .fold)
       ∙ sym (RootsOfUnity.power-mul F L ω (1 + t * j) (b .fold))
 
   pub root-below : (b : Level) (j m : ℕ) → Placed b → j < b .size / b .fold → m < b .fold → j + m * (b .size / b .fold) < b .size

@@ -8,6 +8,7 @@ use mathlib.Core.List.{List, [], _∷_, _++_, map, zipWith, append-nil}
 use lib.ListN.{length, replicate, length-replicate}
 use lib.Pow.{pow-pos}
 use borrow.Author.Tests.{eq-eqb, ne-eqb, lt-leb}
+use Rattle.algebra.specs.RingLaws
 use Rattle.algebra.specs.RootsOfUnity
 use Rattle.algebra.specs.Laws.{FieldLaws}
 use Rattle.algebra.specs.ListFacts.{All, all-append, all-map}
@@ -50,7 +51,7 @@ module _ {A : Type 0} (F : Field A) (L : FieldLaws F) where
       one-more n = omega arith
 
       square : power F (minusOne F) 2 ≡ 𝟙
-      square = ap (power F (minusOne F)) (one-more 1) ∙ RootsOfUnity.power-add F L (minusOne F) 1 1 ∙ (λ i. single i ⊗ single i) ∙ RootsOfUnity.minus-square F L
+      square = ap (power F (minusOne F)) (one-more 1) ∙ RingLaws.power-add F L (minusOne F) 1 1 ∙ (λ i. single i ⊗ single i) ∙ RootsOfUnity.minus-square F L
         where
           single : power F (minusOne F) 1 ≡ minusOne F
           single = RootsOfUnity.power-suc F L (minusOne F) 0 ∙ ap (λ (y : A). minusOne F ⊗ y) (RootsOfUnity.power-zero F L (minusOne F)) ∙ mul-one (minusOne F) ∙ RootsOfUnity.minus-reduced F L
@@ -60,7 +61,7 @@ module _ {A : Type 0} (F : Field A) (L : FieldLaws F) where
       let k = 2 ^ e in
       let a : power F (power F ω n) k ≡ 𝟘 = ap (λ (y : A). power F y k) z ∙ nought-power k (pow-pos e) in
       let b : power F (minusOne F) n ≡ 𝟘 = ap (λ (y : A). power F y n) (sym root) ∙ RootsOfUnity.power-mul F L ω k n ∙ ap (power F ω) (Nat.mul-comm k n) ∙ sym (RootsOfUnity.power-mul F L ω n k) ∙ a in
-      one≢zero (sym (minus-twice n) ∙ RootsOfUnity.power-add F L (minusOne F) n n ∙ ap (λ (y : A). power F (minusOne F) n ⊗ y) b ∙ mul-zero (power F (minusOne F) n))
+      one≢zero (sym (minus-twice n) ∙ RingLaws.power-add F L (minusOne F) n n ∙ ap (λ (y : A). power F (minusOne F) n ⊗ y) b ∙ mul-zero (power F (minusOne F) n))
 
 -- lists of zeros
 each-zeros : (R : Kind → ℕ → Type 0) (ks : List Kind) → All (λ k. R k 0) ks → Each R ks (replicate (length ks) 0)
