@@ -50,7 +50,7 @@ struct Transcript {
 
 /// Tests 1 to 7 in order.
 fn read_transcript(file: &[u8]) -> Result<Transcript, Fault> {
-    if file.is_empty() || file.len() % BLOCK_BYTES != 0 {
+    if file.is_empty() || !file.len().is_multiple_of(BLOCK_BYTES) {
         return Err(Fault::new(1, 0));
     }
     if let Some(block) = first_wrong_check(file) {

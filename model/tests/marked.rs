@@ -32,6 +32,35 @@ fn p1_domain_1() {
     assert_eq!(subgroup().point(0, 15), 1);
 }
 
+/// Points by their definition, roots of shift points, and no meeting of the two.
+#[test]
+fn domains_of_every_field() {
+    for (number, n0) in [(0, 4), (0, 16), (1, 8), (1, 4096), (2, 64), (2, 4096)] {
+        let field = Field::numbered(number).unwrap();
+        let subgroup = Subgroup::new(field, n0);
+        let omega = field.pow(field.g, (field.p - 1) / n0 as u64);
+        assert_eq!(field.pow(omega, n0 as u64 / 2), field.p - 1);
+        for i in 0..n0.ilog2().min(6) as usize {
+            let domain = subgroup.domain(i);
+            assert_eq!(domain.len(), n0 >> i);
+            for (j, &point) in domain.iter().enumerate() {
+                let exponent = 1 + (1 << i) * j as u64;
+                assert_eq!(point, field.pow(omega, exponent));
+            }
+            for k in [2, 4, 8, 16].into_iter().filter(|k| k * 2 <= n0 >> i) {
+                for j in [0, 1, (n0 >> i) / k - 1] {
+                    let shift = subgroup.shift_point(i, k, j);
+                    let places = subgroup.root_places(i, k, j);
+                    let powers = places.map(|place| field.pow(domain[place], k as u64));
+                    assert_eq!(powers.collect::<Vec<_>>(), vec![shift; k]);
+                    assert!(!subgroup.domain(i + 1).contains(&shift));
+                }
+            }
+        }
+    }
+    assert_eq!(subgroup().domain(2), [3, 5, 14, 12]);
+}
+
 #[test]
 fn p2_fold_at_shift_0() {
     let table: Vec<u64> = STREAM[12..28].iter().map(|&word| word.into()).collect();
