@@ -188,3 +188,31 @@ fn encode_refusals() {
         assert_eq!(encoded(&TWO_ROUNDS, &coefficients, length), (0, 256));
     }
 }
+
+/// Lists and outputs of any length, words of any size: an answer, and nothing
+/// written but what is announced.
+#[test]
+fn any_lists_get_an_answer() {
+    let mut rng = Rng::new(22);
+    let mut done = 0;
+    for _ in 0..5000 {
+        let mut sheet = generate::sheet_up_to(&mut rng, 32).to_vec();
+        let known: [u32; 12] = sheet[..].try_into().unwrap();
+        let mut coefficients = generate::coefficients(&mut rng, &known);
+        let mut coins = generate::coins(&mut rng, &known, true);
+        for list in [&mut sheet, &mut coefficients, &mut coins] {
+            let at = rng.place(list.len());
+            match rng.below(12) {
+                0 => list.truncate(at),
+                1 => list.push(0),
+                2 => list[at] = rng.word(),
+                3 => list[at] = list[at].wrapping_add(1),
+                _ => {}
+            }
+        }
+        let length = rng.pick(&[0, 511, 512, 1024, 1500]);
+        done += usize::from(proved(&sheet, &coefficients, &coins, length).0 == 0);
+        encoded(&sheet, &coefficients, length / 30);
+    }
+    assert!(done > 500, "{done}");
+}

@@ -5,21 +5,13 @@ mod common;
 
 use common::*;
 use tevrolig_model::domain::Subgroup;
-use tevrolig_model::generate::{aim, damage, sheet_up_to, Rng};
+use tevrolig_model::generate::Rng;
 use tevrolig_model::layout::Part;
 use tevrolig_model::sheet::Sheet;
 use tevrolig_model::stream::read_word;
-use tevrolig_model::{verify, Outcome};
 
 /// Two rounds over field 1, several blocks: k = 2, s = 2, t = 4 3 5.
 const TWO_ROUNDS: [u32; 12] = [1, 256, 64, 2, 2, 2, 4, 3, 5, 0, 0, 0];
-
-fn number(file: &[u8]) -> u32 {
-    match verify(file).outcome {
-        Outcome::Accepted => 0,
-        Outcome::Refused { number, .. } => number,
-    }
-}
 
 /// An honest file of TWO_ROUNDS with coins that do not meet.
 fn two_rounds() -> Vec<u8> {
@@ -311,50 +303,4 @@ fn comparison_9() {
     // Words that no coin leads to are tested for their range alone.
     let unused: Vec<(usize, u32)> = indices.map(|word| (word, 1)).chain([moved[1]]).collect();
     assert_eq!(judged(&changed(&file, &unused)), "accepted 0 0 40");
-}
-
-#[test]
-fn the_lower_number_wins() {
-    let mut rng = Rng::new(77);
-    let mut pairs = 0;
-    for _ in 0..3000 {
-        let sheet = sheet_up_to(&mut rng, 64);
-        let file = honest(&mut rng, &sheet, false);
-        let high = 3 + rng.below(7) as u32;
-        let low = 1 + rng.below(u64::from(high) - 1) as u32;
-        let mut both = file.clone();
-        // A changed block count or sheet leaves no room for a second aim.
-        if high <= 4 {
-            continue;
-        }
-        if aim(&mut rng, &mut both, high) && aim(&mut rng, &mut both, low) {
-            pairs += 1;
-            if low <= 7 {
-                assert_eq!(number(&both), low, "{low} before {high}");
-            }
-        }
-    }
-    assert!(pairs > 1000);
-}
-
-#[test]
-fn damage_hits_what_it_aims_at() {
-    let mut rng = Rng::new(78);
-    let mut seen = [0; 10];
-    let mut missed = 0;
-    for _ in 0..20_000 {
-        let sheet = sheet_up_to(&mut rng, 32);
-        let hostile = rng.one_in(2);
-        let mut file = honest(&mut rng, &sheet, hostile);
-        let aimed = damage(&mut rng, &mut file);
-        let found = number(&file);
-        seen[found as usize] += 1;
-        match aimed {
-            Some(aimed) if aimed <= 7 => assert_eq!(found, aimed),
-            Some(aimed) => missed += u32::from(found != aimed),
-            None => {}
-        }
-    }
-    assert!(seen.iter().all(|&count| count > 100), "{seen:?}");
-    assert!(missed < 1500, "{missed}");
 }

@@ -1,11 +1,11 @@
-//! What several tests share: the transcript by hand and small helpers.
+//! What several tests share: the transcript by hand and a few functions.
 #![allow(dead_code)]
 
 use tevrolig_model::generate::{self, rewrite_checks, Rng};
 use tevrolig_model::layout::Layout;
 use tevrolig_model::sheet::Sheet;
 use tevrolig_model::stream::write_word;
-use tevrolig_model::{line, verify};
+use tevrolig_model::{line, verify, Outcome};
 
 /// "A transcript by hand" of document 01.
 pub const SHEET: [u32; 12] = [0, 16, 8, 2, 1, 1, 1, 1, 0, 0, 0, 0];
@@ -46,6 +46,14 @@ pub fn changed(file: &[u8], changes: &[(usize, u32)]) -> Vec<u8> {
 /// The verdict line of a file.
 pub fn judged(file: &[u8]) -> String {
     line(verify(file))
+}
+
+/// The number of the refusal, 0 for accepted.
+pub fn number(file: &[u8]) -> u32 {
+    match verify(file).outcome {
+        Outcome::Accepted => 0,
+        Outcome::Refused { number, .. } => number,
+    }
 }
 
 /// A random honest file for a sheet.
