@@ -62,3 +62,17 @@ fn damage_hits_what_it_aims_at() {
     assert!(seen.iter().all(|&count| count > 100), "{seen:?}");
     assert!(missed < 1500, "{missed}");
 }
+
+/// Damage over damage, from any state of the file.
+#[test]
+fn damage_takes_any_file() {
+    let mut rng = Rng::new(79);
+    for _ in 0..5000 {
+        let sheet = sheet_up_to(&mut rng, 32);
+        let mut file = honest(&mut rng, &sheet, true);
+        for _ in 0..4 {
+            damage(&mut rng, &mut file);
+            judged(&file);
+        }
+    }
+}

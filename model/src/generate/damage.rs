@@ -152,6 +152,12 @@ impl<'a> Target<'a> {
         words.start + self.rng.place(words.len())
     }
 
+    /// One index of a part over domain i, brought into range if damaged before.
+    fn some_index(&mut self, part: Part, i: usize) -> usize {
+        let word = self.some_word(part);
+        read_word(self.file, word) as usize % (self.sheet.n(i) / self.sheet.k)
+    }
+
     /// One of the rounds 1 to M, if there is one.
     fn some_round(&mut self) -> Option<usize> {
         let rounds = self.sheet.rounds;
@@ -236,8 +242,7 @@ impl<'a> Target<'a> {
             let reply = self.other_element(replies.start + kept);
             self.write(replies.start + 1 - kept, reply);
         } else {
-            let index = self.some_word(Part::ShiftIndices(i));
-            let index = read_word(self.file, index) as usize;
+            let index = self.some_index(Part::ShiftIndices(i), i - 1);
             let out = self.rng.place(outs.len());
             let point = Subgroup::of(&self.sheet).shift_point(i - 1, self.sheet.k, index);
             self.write(outs.start + out, point);
@@ -252,8 +257,7 @@ impl<'a> Target<'a> {
     fn break_comparison(&mut self) -> bool {
         let last = self.sheet.rounds;
         let word = if self.rng.one_in(2) {
-            let index = self.some_word(Part::FinalIndices);
-            let index = read_word(self.file, index) as usize;
+            let index = self.some_index(Part::FinalIndices, last);
             let m = self.rng.place(self.sheet.k);
             let stride = self.sheet.n(last) / self.sheet.k;
             self.layout.range(Part::Table(last)).start + index + m * stride

@@ -25,8 +25,19 @@ pub fn sheet_up_to(rng: &mut Rng, most_n0: u32) -> [u32; SHEET_WORDS] {
     sheet_over(rng, field, most_n0)
 }
 
-/// The same for a given field, which is 0, 1 or 2.
+/// The same for a given field, which is 0, 1 or 2. A sheet without rounds is
+/// drawn again up to four times, as most small ones have none.
 pub fn sheet_over(rng: &mut Rng, field: u32, most_n0: u32) -> [u32; SHEET_WORDS] {
+    let mut words = any_sheet(rng, field, most_n0);
+    for _ in 0..4 {
+        if words[4] == 0 {
+            words = any_sheet(rng, field, most_n0);
+        }
+    }
+    words
+}
+
+fn any_sheet(rng: &mut Rng, field: u32, most_n0: u32) -> [u32; SHEET_WORDS] {
     let most_n0 = most_n0.clamp(4, if field == 0 { 16 } else { 4096 });
     let n0 = power_of_two(rng, 4, most_n0);
     let d0 = power_of_two(rng, 2, n0 / 2).max(power_of_two(rng, 2, n0 / 2));
@@ -55,9 +66,9 @@ pub fn sheet_over(rng: &mut Rng, field: u32, most_n0: u32) -> [u32; SHEET_WORDS]
     words
 }
 
-/// A power of two from `least` to `most`, which are powers of two themselves.
+/// A power of two from `least`, which is one itself, to `most`, which is not below it.
 fn power_of_two(rng: &mut Rng, least: u32, most: u32) -> u32 {
-    let choices = most.trailing_zeros().saturating_sub(least.trailing_zeros()) + 1;
+    let choices = most.ilog2() - least.ilog2() + 1;
     least << rng.below(u64::from(choices))
 }
 
