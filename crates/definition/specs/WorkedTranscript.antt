@@ -1,6 +1,7 @@
 -- For the cases: the transcript of 01, A transcript by hand, as words and as bytes, and one name that unfolds all definitions.
 use Prim.Native.Nat.{ℕ}
-use mathlib.Core.List.{List, [], _∷_, zipWith, flatMap}
+use mathlib.Core.List.{List, [], _∷_, _++_, zipWith, flatMap}
+use lib.ListN.{take, replicate}
 use Rattle.definition.specs.Lists.{member, range, chunks, firstTrue}
 use Rattle.definition.specs.Field.{Field, primeField, power, knownField, primeOf, generatorOf, fieldOf, inField, sum, difference, product, powerOf, inverseOf}
 use Rattle.definition.specs.Polynomial.{points, pair, evaluate, scale, addPoly, subPoly, mulPoly, vanishing, interpolate, horner, divide, quotient, geometric, foldPoly, sampledAt, distinct, contradicts, clash, correctedValue, correctedPoly}
@@ -75,6 +76,35 @@ file =
     ∷ 0 ∷ 0 ∷ 0 ∷ 0 ∷ 0 ∷ 0 ∷ 0 ∷ 0 ∷ 0 ∷ 0 ∷ 0 ∷ 0 ∷ 0 ∷ 0 ∷ 0 ∷ 0
     ∷ 0 ∷ 0 ∷ 0 ∷ 0 ∷ 0 ∷ 0 ∷ 0 ∷ 0 ∷ 0 ∷ 0 ∷ 0 ∷ 0 ∷ 0 ∷ 0 ∷ 0 ∷ 0
     ∷ 0 ∷ 0 ∷ 0 ∷ 0 ∷ 0 ∷ 0 ∷ 0 ∷ 0 ∷ 0 ∷ 0 ∷ 0 ∷ 0 ∷ 255 ∷ 23 ∷ 0 ∷ 0 ∷ []
+
+-- Coefficients 1 to 8, fold coin 2: table 0, the fold coin and table 1, which are the words 12 to 36.
+abbrev pub tables : List ℕ
+tables =
+    5 ∷ 1 ∷ 9 ∷ 12 ∷ 13 ∷ 3 ∷ 5 ∷ 13 ∷ 0 ∷ 6 ∷ 11 ∷ 14 ∷ 8 ∷ 8 ∷ 8 ∷ 2
+    ∷ 2
+    ∷ 13 ∷ 12 ∷ 11 ∷ 3 ∷ 14 ∷ 15 ∷ 16 ∷ 7 ∷ []
+
+-- With t_0 = 2 and t_1 = 2: out coin 37, reply 38, combination and fold coin 39 40, shift indices 41 42, final coefficients 43 44, final
+-- indices 45 46. The two shift points are 9 and 4.
+abbrev pub doubled : List ℕ
+doubled = 0 ∷ 16 ∷ 8 ∷ 2 ∷ 1 ∷ 1 ∷ 2 ∷ 2 ∷ 0 ∷ 0 ∷ 0 ∷ 0 ∷ (tables ++ (0 ∷ 5 ∷ 2 ∷ 4 ∷ 0 ∷ 5 ∷ 3 ∷ 12 ∷ 1 ∷ 2 ∷ []))
+
+-- With s = 2 and t_1 = 2: out coins 37 38, replies 39 40, combination and fold coin 41 42, shift index 43, final coefficients 44 45, final
+-- indices 46 47. The shift point is 4.
+abbrev pub twoOuts : List ℕ
+twoOuts = 0 ∷ 16 ∷ 8 ∷ 2 ∷ 1 ∷ 2 ∷ 1 ∷ 2 ∷ 0 ∷ 0 ∷ 0 ∷ 0 ∷ (tables ++ (0 ∷ 2 ∷ 5 ∷ 7 ∷ 2 ∷ 4 ∷ 5 ∷ 3 ∷ 12 ∷ 1 ∷ 2 ∷ []))
+
+-- The smallest sheet, M = 0: table 0, fold coin 16, final coefficient 17, final index 18.
+abbrev pub smallest : List ℕ
+smallest = 0 ∷ 4 ∷ 2 ∷ 2 ∷ 0 ∷ 1 ∷ 1 ∷ 0 ∷ 0 ∷ 0 ∷ 0 ∷ 0 ∷ 12 ∷ 16 ∷ 0 ∷ 13 ∷ 5 ∷ 7 ∷ 1 ∷ []
+
+-- M = 0 and k = 4: table 0, fold coin 28, final coefficients 29 30, final indices 31 32.
+abbrev pub folded4 : List ℕ
+folded4 = 0 ∷ 16 ∷ 8 ∷ 4 ∷ 0 ∷ 1 ∷ 2 ∷ 0 ∷ 0 ∷ 0 ∷ 0 ∷ 0 ∷ (take 16 tables ++ (5 ∷ 8 ∷ 3 ∷ 1 ∷ 3 ∷ []))
+
+-- M = 2 in field 1, with t_0 = 2 and s = 2: 87 words.
+abbrev pub twoRounds : List ℕ
+twoRounds = 1 ∷ 32 ∷ 16 ∷ 2 ∷ 2 ∷ 2 ∷ 2 ∷ 1 ∷ 1 ∷ 0 ∷ 0 ∷ 0 ∷ (replicate 56 0 ++ (1 ∷ replicate 18 0))
 
 -- the field of 17 elements, and the two levels of the sheet; ω is 3
 abbrev pub F₁₇ : Field ℕ
