@@ -8,7 +8,8 @@ use Rattle.definition.specs.WorkedTranscript.{stream, doubled, twoOuts, 
 
 -- `fileOf` makes the checks right.
 pub record DecidingCases : Type 0 where
-  -- accepted: the reads are k for each shift and each final coin; a repeated shift index is one point of G and a repeated final index the same test, and both are read twice
+  -- accepted: the reads are k for each shift and each final coin; a repeated shift index is one point of G, and it is read twice,
+  -- as a repeated final index is
   pub accepts : verify (fileOf doubled) ≡ accept 8
   pub shift·repeated : verify (fileOf (set (set (set doubled 41 5) 43 2) 44 0)) ≡ accept 8
   pub final·repeated : verify (fileOf (set doubled 46 1)) ≡ accept 8
@@ -34,7 +35,7 @@ pub record DecidingCases : Type 0 where
   -- 8: an out coin is the first shift point, or the second; the reads are those of all shift coins of the round
   pub clash·with·first·shift : verify (fileOf (set doubled 37 9)) ≡ refuse 8 1 4
   pub clash·with·second·shift : verify (fileOf (set doubled 37 4)) ≡ refuse 8 1 4
-  -- 8: two equal out coins have different replies; the second out coin is a shift point; equal replies do not clash, also wrong ones
+  -- 8: two equal out coins with different replies; the second out coin is a shift point; equal replies do not clash, not even wrong ones
   pub clash·of·outs : verify (fileOf (set twoOuts 38 0)) ≡ refuse 8 1 2
   pub clash·of·second·out : verify (fileOf (set twoOuts 38 4)) ≡ refuse 8 1 2
   pub equal·wrong·replies : verify (fileOf (set (set (set twoOuts 38 0) 39 6) 40 6)) ≡ refuse 9 0 4
@@ -44,17 +45,18 @@ pub record DecidingCases : Type 0 where
   pub first·final : verify (fileOf (set (set doubled 43 12) 44 13)) ≡ refuse 9 0 6
   pub second·final : verify (fileOf (set (set doubled 43 5) 44 13)) ≡ refuse 9 1 8
   pub both·finals : verify (fileOf (set doubled 43 0)) ≡ refuse 9 0 6
-  -- 9 for a wrong word of table 0 that a shift coin reads, and of table 1 that a final coin reads; none for words that no coin reads
+  -- 9: a wrong word of table 0 that a shift coin reads, or of table 1 that a final coin reads; words that no coin reads are not judged
   pub table·0·read : verify (fileOf (set doubled 12 6)) ≡ refuse 9 0 6
   pub table·0·not·read : verify (fileOf (set doubled 13 6)) ≡ accept 8
   pub table·1·read : verify (fileOf (set doubled 34 6)) ≡ refuse 9 0 6
   pub table·1·not·read : verify (fileOf (set doubled 29 6)) ≡ accept 8
-  -- two rounds in field 1, all words after the sheet 0 but the second shift index of round 1: out coins 61 62 and 77 78, replies 63 64 and 79 80.
-  -- 8 in round 1, in round 2, in both: the place is the round, the reads are those of the rounds up to it
+  -- two rounds, out coins 61 62 and 77 78, replies 63 64 and 79 80: 8 in round 1, in round 2, in both; the place is the round, and the
+  -- reads are those of the rounds up to it
   pub clash·in·round·1 : verify (fileOf (set twoRounds 63 1)) ≡ refuse 8 1 4
   pub clash·in·round·2 : verify (fileOf (set twoRounds 79 1)) ≡ refuse 8 2 6
   pub clash·in·both : verify (fileOf (set (set twoRounds 63 1) 79 1)) ≡ refuse 8 1 4
-  -- 7 in round 2 comes before 8 in round 1; a coin of round 2 is tested against domain 2 alone: 65529 is in both domains, 65025 in domain 1 only
+  -- 7 in round 2 comes before 8 in round 1; a coin of round 2 is tested against domain 2 alone: 65529 is in both domains, 65025 in
+  -- domain 1 only
   pub out·coin·of·round·2 : verify (fileOf (set (set twoRounds 63 1) 78 65529)) ≡ refuse 7 78 0
   pub out·coins·of·both : verify (fileOf (set (set twoRounds 62 65025) 77 65529)) ≡ refuse 7 62 0
   pub round·2·and·domain·1 : verify (fileOf (set (set twoRounds 63 1) 77 65025)) ≡ refuse 8 1 4

@@ -78,7 +78,9 @@ pub record FieldCases : Type 0 where
   -- the levels of the sheet of the transcript by hand, and those of a sheet with k = 4 and M = 2
   pub level·0 : firstLevel (sheetOf sheetWords) ≡ level0
   pub level·1 : laterLevels (sheetOf sheetWords) ≡ level1 ∷ []
-  pub levels·later : laterLevels (sheetOf (1 ∷ 128 ∷ 64 ∷ 4 ∷ 2 ∷ 1 ∷ 3 ∷ 2 ∷ 5 ∷ 0 ∷ 0 ∷ 0 ∷ [])) ≡ record { number = 1; size = 64; degree = 16; fold = 4; repetitions = 2 } ∷ record { number = 2; size = 32; degree = 4; fold = 4; repetitions = 5 } ∷ []
+  pub levels·later : laterLevels (sheetOf (1 ∷ 128 ∷ 64 ∷ 4 ∷ 2 ∷ 1 ∷ 3 ∷ 2 ∷ 5 ∷ 0 ∷ 0 ∷ 0 ∷ []))
+      ≡ record { number = 1; size = 64; degree = 16; fold = 4; repetitions = 2 }
+      ∷ record { number = 2; size = 32; degree = 4; fold = 4; repetitions = 5 } ∷ []
   pub words·due : wordsDue (sheetOf (1 ∷ 128 ∷ 64 ∷ 4 ∷ 2 ∷ 1 ∷ 3 ∷ 2 ∷ 5 ∷ 0 ∷ 0 ∷ 0 ∷ [])) ≡ 256
   -- domain 0 is the whole subgroup, ω first and 1 last; domain 2 of n0 = 16 has the exponents 1, 5, 9 and 13
   pub domain·0 : domain F₁₇ 3 level0 ≡ 3 ∷ 9 ∷ 10 ∷ 13 ∷ 5 ∷ 15 ∷ 11 ∷ 16 ∷ 14 ∷ 8 ∷ 7 ∷ 4 ∷ 12 ∷ 2 ∷ 6 ∷ 1 ∷ []

@@ -15,7 +15,7 @@ use Rattle.definition.specs.Reading.{lengthTest, checkTest, sheetTest, b
 use Rattle.definition.specs.Deciding.{outInDomain, outTest, ownPlace, placesOf, readsOf, treated, answers, tableFunction, nextFunction, differences, decideFinal, decideRest, decide, deciding}
 use Rattle.definition.specs.Verify.{verify}
 use Rattle.definition.specs.Prover.{tableOf, samplesOf, honestRound, honestAnswers, nextPoly, honestRest, honest, honestStream}
-use Rattle.definition.specs.Prove.{finish, sheetLengthTest, coefficientsTest, coinsTest, inputRangeTest, coinDomainTest, outputTest, proveTests, prove, encodeTests, encode}
+use Rattle.definition.specs.Prove.{Result, refusal, finish, sheetLengthTest, coefficientsTest, coinsTest, inputRangeTest, coinDomainTest, outputTest, proveTests, prove, encodeTests, encode}
 
 -- the sheet, the coefficients and the coins: fold 2, out 0, combination 3, fold 4, shift 0, final 1
 abbrev pub sheetWords : List ℕ
@@ -77,6 +77,10 @@ file =
     ∷ 0 ∷ 0 ∷ 0 ∷ 0 ∷ 0 ∷ 0 ∷ 0 ∷ 0 ∷ 0 ∷ 0 ∷ 0 ∷ 0 ∷ 0 ∷ 0 ∷ 0 ∷ 0
     ∷ 0 ∷ 0 ∷ 0 ∷ 0 ∷ 0 ∷ 0 ∷ 0 ∷ 0 ∷ 0 ∷ 0 ∷ 0 ∷ 0 ∷ 255 ∷ 23 ∷ 0 ∷ 0 ∷ []
 
+-- Another first polynomial, for the other transcripts of the cases.
+abbrev pub oneToEight : List ℕ
+oneToEight = 1 ∷ 2 ∷ 3 ∷ 4 ∷ 5 ∷ 6 ∷ 7 ∷ 8 ∷ []
+
 -- Coefficients 1 to 8, fold coin 2: table 0, the fold coin and table 1, which are the words 12 to 36.
 abbrev pub tables : List ℕ
 tables =
@@ -102,7 +106,7 @@ smallest = 0 ∷ 4 ∷ 2 ∷ 2 ∷ 0 ∷ 1 ∷ 1 ∷ 0 ∷ 0 ∷ 0 ∷ 0 ∷ 0 �
 abbrev pub folded4 : List ℕ
 folded4 = 0 ∷ 16 ∷ 8 ∷ 4 ∷ 0 ∷ 1 ∷ 2 ∷ 0 ∷ 0 ∷ 0 ∷ 0 ∷ 0 ∷ (take 16 tables ++ (5 ∷ 8 ∷ 3 ∷ 1 ∷ 3 ∷ []))
 
--- M = 2 in field 1, with t_0 = 2 and s = 2: 87 words.
+-- M = 2 in field 1, with t_0 = 2 and s = 2: 87 words, after the sheet all 0 but the second shift index of round 1.
 abbrev pub twoRounds : List ℕ
 twoRounds = 1 ∷ 32 ∷ 16 ∷ 2 ∷ 2 ∷ 2 ∷ 2 ∷ 1 ∷ 1 ∷ 0 ∷ 0 ∷ 0 ∷ (replicate 56 0 ++ (1 ∷ replicate 18 0))
 
@@ -122,6 +126,10 @@ accept reads = record { outcome = accepted; reads = reads }
 
 abbrev pub refuse : ℕ → ℕ → ℕ → Verdict
 refuse number place reads = record { outcome = refused number place; reads = reads }
+
+-- refused by prove or encode: the output is kept as before
+abbrev pub kept : ℕ → ℕ → List ℕ → Result
+kept number place output = record { answer = refusal number place; output = output }
 
 -- all definitions, unfolded by this one name
 unfoldable pub definitions : Unit {0}
