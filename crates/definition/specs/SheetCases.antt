@@ -39,8 +39,9 @@ pub record SheetCases : Type 0 where
   pub k·32 : sheetTest (1 ∷ 64 ∷ 32 ∷ 32 ∷ 0 ∷ 1 ∷ 1 ∷ 0 ∷ 0 ∷ 0 ∷ 0 ∷ 0 ∷ []) ≡ refused 3 3
   pub k·16 : sheetTest (1 ∷ 64 ∷ 32 ∷ 16 ∷ 0 ∷ 1 ∷ 1 ∷ 0 ∷ 0 ∷ 0 ∷ 0 ∷ 0 ∷ []) ≡ accepted
   pub k·above·d0 : sheetTest (0 ∷ 16 ∷ 8 ∷ 16 ∷ 0 ∷ 1 ∷ 1 ∷ 0 ∷ 0 ∷ 0 ∷ 0 ∷ 0 ∷ []) ≡ refused 3 3
-  -- word 4: M is 6, though k^7 = 128 is at most d0; k^(M+1) = 16 is above d0 = 8, though k^M is not
+  -- word 4: M is 6, though k^7 = 128 is at most d0; M is the largest word; k^(M+1) = 16 is above d0 = 8, though k^M is not
   pub M·6 : sheetTest (1 ∷ 4096 ∷ 2048 ∷ 2 ∷ 6 ∷ 1 ∷ 1 ∷ 1 ∷ 1 ∷ 1 ∷ 1 ∷ 1 ∷ []) ≡ refused 3 4
+  pub M·largest : sheetTest (0 ∷ 16 ∷ 8 ∷ 2 ∷ 4294967295 ∷ 1 ∷ 1 ∷ 1 ∷ 0 ∷ 0 ∷ 0 ∷ 0 ∷ []) ≡ refused 3 4
   pub k·to·M·plus·1·above·d0 : sheetTest (0 ∷ 16 ∷ 8 ∷ 2 ∷ 3 ∷ 1 ∷ 1 ∷ 1 ∷ 1 ∷ 1 ∷ 0 ∷ 0 ∷ []) ≡ refused 3 4
   -- word 5: s is 0 or 3
   pub s·0 : sheetTest (0 ∷ 16 ∷ 8 ∷ 2 ∷ 1 ∷ 0 ∷ 1 ∷ 1 ∷ 0 ∷ 0 ∷ 0 ∷ 0 ∷ []) ≡ refused 3 5
@@ -102,6 +103,7 @@ sheetCases = record {
   k·16 = refl;
   k·above·d0 = refl;
   M·6 = refl;
+  M·largest = refl;
   k·to·M·plus·1·above·d0 = refl;
   s·0 = refl;
   s·2 = refl;
