@@ -14,6 +14,10 @@ use Rattle.stream.specs.Chunks.{Blocks, chunks-at, chunks-length, fronts
 abbrev pub wordAt : List ℕ → ℕ → ℕ
 wordAt bytes at = wordOf (take 4 (drop at bytes))
 
+-- the words of block b, without its check word
+unfoldable pub blockWords : List ℕ → ℕ → List ℕ
+blockWords bytes b = take 127 (getD (fileBlocks bytes) b [])
+
 -- the sum of the bytes, each times its weight
 pub word-sum : (bytes : List ℕ) (at : ℕ) → at + 4 ≤ length bytes
     → getD bytes at 0 + 256 * getD bytes (at + 1) 0 + 65536 * getD bytes (at + 2) 0 + 16777216 * getD bytes (at + 3) 0 ≡ wordAt bytes at
@@ -64,6 +68,14 @@ module _ (bytes : List ℕ) where
       ∙ words-at (128 * b + w) (omega arith)
       ∙ ap (wordAt bytes) e
 
+  pub block-words-length : (b : ℕ) → b < length bytes / 512 → length (blockWords bytes b) ≡ 127
+  unfolding blockWords
+  block-words-length b h = length-take-le 127 (getD (fileBlocks bytes) b []) (omega (arith, block-length b h))
+
+  pub block-words-at : (b w : ℕ) → b < length bytes / 512 → w < 127 → getD (blockWords bytes b) w 0 ≡ wordAt bytes (512 * b + 4 * w)
+  unfolding blockWords
+  block-words-at b w h l = getD-take 127 (getD (fileBlocks bytes) b []) w 0 l ∙ block-word b w h (omega arith)
+
   pub blocks-full : Blocks (fileBlocks bytes)
   blocks-full = record { full = λ b h. block-length b (omega (arith, blocks-count)) }
 
@@ -74,8 +86,8 @@ module _ (bytes : List ℕ) where
 
   -- the stream up to a block, and that block's words
   pub stream-next : (b : ℕ) → b < length bytes / 512
-      → take (127 * b) (streamOf bytes) ++ take 127 (getD (fileBlocks bytes) b []) ≡ take (127 * (b + 1)) (streamOf bytes)
-  unfolding streamOf
+      → take (127 * b) (streamOf bytes) ++ blockWords bytes b ≡ take (127 * (b + 1)) (streamOf bytes)
+  unfolding streamOf blockWords
   stream-next b h = fronts-next (fileBlocks bytes) b blocks-full (omega (arith, blocks-count))
 
   -- word n of the stream

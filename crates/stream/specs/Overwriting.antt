@@ -4,8 +4,8 @@ use native.Mathlib.Numerals.{add-one}
 use native.Mathlib.Omega.{arith}
 use mathlib.Core.Path.{_≡_, refl, sym, ap, _∙_}
 use mathlib.Core.List.{List, [], _∷_, _++_, append-assoc}
-use lib.ListN.{length, take, drop, set, length-append, length-take, length-drop}
-use lib.Seq.{append-snoc, drop-append-add, drop-drop, length-take-le, paste-zero, set-split, take-append-le, take-at}
+use lib.ListN.{length, take, drop, set, getD, length-append, length-take, length-drop}
+use lib.Seq.{append-snoc, drop-append-add, drop-drop, length-take-le, paste-zero, set-split, take-append-le, take-at, take-suc, take-take}
 
 -- the list with q in the places from number `at` on
 unfoldable pub overwrite : List ℕ → ℕ → List ℕ → List ℕ
@@ -37,10 +37,7 @@ module _ (l : List ℕ) (at : ℕ) (q : List ℕ) (h : at ≤ length l) where
   unfolding overwrite
   overwrite-before n b =
       let e : length (take at l) ≡ at = length-take-le at l h in
-      rw append-assoc (take-append-le n (take at l) (q ++ drop (at + length q) l) (omega arith) ∙ take-shorter n b)
-    where
-      take-shorter : (k : ℕ) → k ≤ at → take k (take at l) ≡ take k l
-      take-shorter k b = lib.Seq.take-take k at l b
+      rw append-assoc (take-append-le n (take at l) (q ++ drop (at + length q) l) (omega arith) ∙ take-take n at l b)
 
   -- one part after the other is both at once
   pub overwrite-join : (p : List ℕ) → overwrite (overwrite l at q) (at + length q) p ≡ overwrite l at (q ++ p)
@@ -57,3 +54,11 @@ module _ (l : List ℕ) (at : ℕ) (q : List ℕ) (h : at ≤ length l) where
   -- a store right behind what was put there
   pub overwrite-store : (v : ℕ) → at + length q < length l → set (overwrite l at q) (at + length q) v ≡ overwrite l at (q ++ (v ∷ []))
   overwrite-store v b = overwrite-one (overwrite l at q) (at + length q) v (rw (overwrite-length l at q (omega arith)) b) ∙ overwrite-join (v ∷ [])
+
+-- the elements of x one after the other, from number `at` on: one more
+pub overwrite-next : (l : List ℕ) (at : ℕ) (x : List ℕ) (w : ℕ) {v : ℕ} {o : List ℕ} → at + length x ≤ length l → w < length x → v ≡ getD x w 0
+    → o ≡ overwrite l at (take w x) → set o (at + w) v ≡ overwrite l at (take (w + 1) x)
+overwrite-next l at x w h b e s =
+    let n : length (take w x) ≡ w = length-take-le w x (omega arith) in
+    let t = overwrite-store l at (take w x) (omega arith) (getD x w 0) (omega arith) in
+    rw (s, e, add-one, take-suc x w 0) (ap (λ (k : ℕ). set (overwrite l at (take w x)) (at + k) (getD x w 0)) (sym n) ∙ t)

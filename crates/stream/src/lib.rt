@@ -2,10 +2,10 @@
 ghost use mathlib.Core.Path.{_≡_};
 ghost use mathlib.Core.List.{[]};
 ghost use Prim.Native.Nat.{ℕ, _+_, _*_, _/_, _≤_, _<_, min};
-ghost use lib.ListN.{length, getD, take};
+ghost use lib.ListN.{length, getD};
 ghost use Rattle.definition.specs.Block.{fileBlocks};
 ghost use Rattle.stream.specs.Overwriting.{overwrite};
-ghost use Rattle.stream.specs.FileWords.{wordAt};
+ghost use Rattle.stream.specs.FileWords.{wordAt, blockWords};
 ghost use Rattle.stream.specs.Checks.{rightCheck};
 ghost use Rattle.stream.specs.Loaded.{Loaded};
 
@@ -37,7 +37,7 @@ fn add_weighted(sum: u64, w: usize, x: u32) -> u64
 fn take_block(file: &[u8], b: usize, words: &mut [u32], at: usize) -> bool
     requires { ⌜ (b < length (now file) / 512) × (at + 127 ≤ length (now words)) ⌝ }
     ensures { λ r. ⌜ r ≡ rightCheck b (getD (fileBlocks (now (file .entry))) b []) ⌝ }
-    ensures { λ r. ⌜ now (words .exit) ≡ overwrite (now (words .entry)) at (take 127 (getD (fileBlocks (now (file .entry))) b [])) ⌝ }
+    ensures { λ r. ⌜ now (words .exit) ≡ overwrite (now (words .entry)) at (blockWords (now (file .entry)) b) ⌝ }
 {
     let from = 512 * b;
     let mut sum = b as u64 + 1;

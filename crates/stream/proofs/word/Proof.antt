@@ -1,3 +1,5 @@
+use native.Mathlib.Omega.{arith}
+use Rattle.stream.specs.FileWords.{word-sum}
 use borrow.Author.Needs.{needs}
 use Rattle.stream.proofs.word.Statement.{statement}
 use Rattle.stream.proofs.word.Tie as tie
@@ -75,7 +77,9 @@ add-result-3 c = search needs
 
 -- src/lib.rt:21:1
 returns : tie.Need-returns
-returns c = ?
+returns c =
+    let s = c .before .before .before .before .before .before .before .before .before in
+    omega (arith, word-sum (s .args .s .now) (s .args .at) (s .pre))
 
 pub word-spec : {M : Type 1} → statement M
 word-spec =
