@@ -8,7 +8,6 @@ ghost use Rattle.stream.specs.Overwriting.{overwrite};
 ghost use Rattle.stream.specs.FileWords.{wordAt, blockWords};
 ghost use Rattle.stream.specs.Checks.{rightCheck};
 ghost use Rattle.stream.specs.Loaded.{Loaded};
-
 use outcome::Found;
 
 fn wide(b: u8) -> u32

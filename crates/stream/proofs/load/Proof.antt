@@ -7,7 +7,7 @@ use mathlib.Core.List.{List, [], _++_}
 use lib.ListN.{length, getD, take, drop}
 use lib.Seq.{take-take}
 use borrow.Author.Tests.{not-true, not-false}
-use native.Mathlib.Nat.{le-refl, lt-or-le}
+use native.Mathlib.Nat.{eq-zero-or-pos, le-refl}
 use Rattle.definition.specs.Lists.{firstTrue}
 use Rattle.definition.specs.Block.{fileBlocks, streamOf, wrongChecks}
 use Rattle.outcome.specs.declared.Found.{Found}
@@ -53,23 +53,16 @@ module _ (file : List ℕ) (b : ℕ) where
   hold-more : (l : List ℕ) {o : List ℕ} {at : ℕ} → b < length file / 512 → length l ≡ 8763 → at ≡ 127 * min b 68
       → o ≡ overwrite l at (blockWords file b) → Holding file b l → Holding file (b + 1) o
   unfolding Holding
-  hold-more l {o} {at} h n e q w = ⊎-elim below above (lt-or-le b 68)
+  hold-more l {o} {at} h n e q w = ⊎-elim (λ z. above (omega arith)) (λ z. below (omega arith)) (eq-zero-or-pos (68 - b))
     where
-      x : List ℕ
-      x = blockWords file b
-
-      room : 127 * min b 68 ≤ length l
-      room = omega (arith, n)
-
       below : b < 68 → take (127 * min (b + 1) 68) o ≡ take (127 * min (b + 1) 68) (streamOf file)
       below k =
           let m : min b 68 ≡ b = omega arith in
-          let j : 127 * min (b + 1) 68 ≡ 127 * b + length (blockWords file b) = omega (arith, block-words-length file b h) in
-          let i : 127 * min (b + 1) 68 ≡ 127 * (b + 1) = omega arith in
-          ap (take (127 * min (b + 1) 68)) (q ∙ rw (e, m))
-          ∙ rw j (overwrite-front l (127 * b) (blockWords file b) (omega (arith, n)))
-          ∙ ap (λ (y : List ℕ). y ++ blockWords file b) (rw m at w)
-          ∙ rw i (stream-next file b h)
+          let j : 127 * b + length (blockWords file b) ≡ 127 * (b + 1) = omega (arith, block-words-length file b h) in
+          let i : min (b + 1) 68 ≡ b + 1 = omega arith in
+          let f = overwrite-front l (127 * b) (blockWords file b) (omega (arith, n)) in
+          let g = ap (λ (y : List ℕ). y ++ blockWords file b) (rw m at w) in
+          rw (i, q, e, m) ((rw j at f) ∙ g ∙ stream-next file b h)
 
       above : 68 ≤ b → take (127 * min (b + 1) 68) o ≡ take (127 * min (b + 1) 68) (streamOf file)
       above k =
@@ -83,7 +76,7 @@ all-right file b words e s w =
     record {
       checked = sym (wrong-nowhere (fileBlocks file) b (omega (arith, blocks-count file))) ∙ s;
       front =
-        λ q m h k.
+          λ q m h k.
           let t : 127 * m ≤ 127 * min b 68 = omega arith in
           sym (take-take (127 * m) (127 * min b 68) words t) ∙ ap (take (127 * m)) w ∙ take-take (127 * m) (127 * min b 68) (streamOf file) t;
     }

@@ -85,7 +85,7 @@ loop-again c =
     let s = c .before .before .before .before .before .before in
     let a = s .args in
     let x = blockWords (a .file .now) (a .b) in
-    let t : l .w < 127 = c .before .before .loop-test .taken in
+    let t : l .w < 127 = omega (arith, c .before .before .loop-test .taken) in
     let n : length x ≡ 127 = block-words-length (a .file .now) (a .b) (s .pre .0) in
     let e : c .before .word .result ≡ getD x (l .w) 0 = c .before .word .ensures ∙ sym (block-words-at (a .file .now) (a .b) (l .w) (s .pre .0) t) in (
       summed-next x n t e (c .add-weighted .ensures) (l .inv .0),
@@ -118,7 +118,7 @@ returns c =
     let s = c .before .before .before .before .before in
     let a = s .args in
     let x = blockWords (a .file .now) (a .b) in
-    let t : 127 ≤ l .w = c .before .loop-test .left in
+    let t : 127 ≤ l .w = omega (arith, c .before .loop-test .left) in
     let n : length x ≡ 127 = block-words-length (a .file .now) (a .b) (s .pre .0) in
     let whole : take (l .w) x ≡ x = take-all (l .w) x (omega (arith, n, t)) in
     (answer (a .file .now) (a .b) (s .pre .0) (c .word2 .ensures) (summed-end x n t (l .inv .0)), rw whole at (l .inv .1 .1))
