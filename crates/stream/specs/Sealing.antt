@@ -6,7 +6,6 @@ use mathlib.Core.Path.{_≡_, refl, sym, ap, _∙_}
 use mathlib.Core.List.{List, [], _∷_, _++_, flatMap, append-assoc, append-nil}
 use lib.ListN.{length, getD, take, drop, set, replicate, length-append, length-drop, length-replicate}
 use lib.Seq.{getD-drop, getD-take, length-take-le, sets-eq, take-all, take-suc}
-use Rattle.definition.specs.Lists.{chunks}
 use Rattle.definition.specs.Block.{blockCount, blocksOf, bytesOf, checkWord, fileOf, lowBytes, sealFrom}
 use Rattle.stream.specs.Chunks.{chunks-at, chunks-length}
 use Rattle.stream.specs.Overwriting.{overwrite, overwrite-join}

@@ -1,7 +1,7 @@
 // The blocks and words of a file: 512 bytes a block, of which 508 are 127 words and the last four a check word.
 ghost use mathlib.Core.Path.{_≡_};
 ghost use mathlib.Core.List.{[], _++_};
-ghost use Prim.Native.Nat.{ℕ, _+_, _*_, _/_, _≤_, _<_, min};
+ghost use Prim.Native.Nat.{_+_, _*_, _/_, _≤_, _<_, min};
 ghost use lib.ListN.{length, getD, take, drop};
 ghost use Rattle.definition.specs.Block.{fileBlocks, blockCount, bytesOf, fileOf};
 ghost use Rattle.stream.specs.Overwriting.{overwrite};
@@ -101,15 +101,15 @@ fn seal_block(words: &[u32], count: usize, b: usize, out: &mut [u8])
     ensures { λ _. ⌜ now (out .exit) ≡ overwrite (now (out .entry)) (512 * b) (sealedBlock b (blockOf (take count (now (words .entry))) b)) ⌝ }
 {
     let from = 512 * b;
-    let mut sum = b as u64 + 1;
+    let mut total = b as u64 + 1;
     let mut i = 0;
     while i < 127 {
         let x = filled(words, count, 127 * b + i);
         put_word(out, from + 4 * i, x);
-        sum = add_weighted(sum, i, x);
+        total = add_weighted(total, i, x);
         i += 1;
     }
-    put_word(out, from + 508, (sum % 4294967291) as u32);
+    put_word(out, from + 508, (total % 4294967291) as u32);
 }
 
 // Writes the file of the first `count` words at the front of `out`; the bytes behind it stay.

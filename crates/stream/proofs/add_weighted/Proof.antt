@@ -1,5 +1,4 @@
 -- `stream::add_weighted` meets its contract: the product fits by `weighted-small`.
-use Prim.Native.Nat.{_+_, _*_, _≤_}
 use native.Mathlib.Omega.{arith}
 use mathlib.Core.Path.{refl}
 use Rattle.stream.specs.Checks.{weighted-small}

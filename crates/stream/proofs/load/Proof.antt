@@ -11,7 +11,6 @@ use borrow.Author.Tests.{not-true, not-false}
 use native.Mathlib.Nat.{eq-zero-or-pos, le-refl}
 use Rattle.definition.specs.Lists.{firstTrue}
 use Rattle.definition.specs.Block.{fileBlocks, streamOf, wrongChecks}
-use Rattle.outcome.specs.declared.Found.{Found}
 use Rattle.outcome.specs.declared.Found.the-variants.{At, Nothing}
 use Rattle.outcome.specs.Meaning.{placeOf}
 use Rattle.stream.specs.Overwriting.{overwrite, overwrite-before, overwrite-front}

@@ -1,8 +1,8 @@
 -- `stream::seal_block` meets its contract. The loop's invariant: the sum of the words before number i, and the bytes of these words written.
-use Prim.Native.Nat.{ℕ, _+_, _-_, _*_, _%_, _≤_, _<_}
+use Prim.Native.Nat.{_-_, _*_, _≤_, _<_}
 use native.Mathlib.Omega.{arith}
-use mathlib.Core.Path.{_≡_, refl, sym, ap, _∙_}
-use mathlib.Core.List.{List, flatMap}
+use mathlib.Core.Path.{_≡_, refl, sym, _∙_}
+use mathlib.Core.List.{flatMap}
 use lib.ListN.{length, getD, take}
 use lib.Seq.{length-take-le, take-all}
 use Rattle.definition.specs.Block.{blockCount, bytesOf}
@@ -13,16 +13,16 @@ use Rattle.stream.proofs.seal_block.Statement.{statement}
 use Rattle.stream.proofs.seal_block.Tie as tie
 
 abbrev Inv-loop : tie.InvT-loop
-Inv-loop words count b out₀ from sum₀ i₀ out sum i = Summed (blockOf (take count words) b) b sum i × ((length out ≡ length out₀) × (out ≡ overwrite out₀ (512 * b) (flatMap bytesOf (take i (blockOf (take count words) b)))))
+Inv-loop words count b out₀ from total₀ i₀ out total i = Summed (blockOf (take count words) b) b total i × ((length out ≡ length out₀) × (out ≡ overwrite out₀ (512 * b) (flatMap bytesOf (take i (blockOf (take count words) b)))))
 
 abbrev μ-loop : tie.MeasureT-loop
-μ-loop words count b out₀ from sum₀ i₀ out sum i = 127 - i
+μ-loop words count b out₀ from total₀ i₀ out total i = 127 - i
 
 mul-from : tie.Need-mul-from Inv-loop μ-loop
 mul-from c = omega arith
 
-add-sum : tie.Need-add-sum Inv-loop μ-loop
-add-sum c = omega arith
+add-total : tie.Need-add-total Inv-loop μ-loop
+add-total c = omega arith
 
 loop-holds : tie.Need-loop-holds Inv-loop μ-loop
 unfolding flatMap
@@ -110,7 +110,7 @@ seal-block-spec =
     Inv-loop
     μ-loop
     mul-from
-    add-sum
+    add-total
     loop-holds
     mul-filled
     add-filled

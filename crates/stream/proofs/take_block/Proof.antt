@@ -1,10 +1,10 @@
 -- `stream::take_block` meets its contract. The loop's invariant: the sum of the words before number w, and these words stored.
-use Prim.Native.Nat.{ℕ, _+_, _-_, _*_, _/_, _%_, _≤_, _<_}
+use Prim.Native.Nat.{ℕ, _+_, _-_, _*_, _/_, _≤_, _<_}
 use native.Mathlib.Omega.{arith}
-use mathlib.Core.Path.{_≡_, refl, sym, ap, _∙_}
+use mathlib.Core.Path.{_≡_, refl, sym, _∙_}
 use mathlib.Core.List.{List, []}
 use lib.Dec.{eqb, lit<}
-use lib.ListN.{length, getD, take, drop, set, length-set}
+use lib.ListN.{length, getD, take, length-set}
 use lib.Seq.{take-all}
 use Rattle.definition.specs.Block.{checkWord, fileBlocks}
 use Rattle.stream.specs.Overwriting.{overwrite, overwrite-none, overwrite-next}
