@@ -13,6 +13,7 @@ use Rattle.powers.specs.Root.{root, Stored}
 use Rattle.domain.specs.Powers.{Powers, Fitting}
 use Rattle.domain.specs.Roots.{around, round, root-step, size-positive, whole-steps}
 
+-- the power 0 is 1
 pub first-power : (field w : ℕ) → 1 ≡ power (fieldOf field) w 0
 unfolding power fieldOf primeField
 first-power field w = refl
@@ -50,8 +51,9 @@ from-largest size e t f s =
     ∙ around F L ω 0 m 4096 (round 2 4096 largest)
     ∙ ap (power F ω) (zero-add m)
     ∙ sym (power-mul F L ω step (1 + e))
-    ∙ ap (λ (r : ℕ). power F r (1 + e)) (sym (root-step 2 size 4096 step (size-positive f) (lit< tt) (whole-steps 2 size f) refl))
+    ∙ ap (λ (r : ℕ). power F r (1 + e)) (sym (root-step 2 size 4096 step (size-positive f) (whole-steps 2 size f) refl))
 
+-- a table of every step-th of the stored powers; a number above 1 stands for field 2
 pub powers-stored : (field size : ℕ) (pw t : List ℕ) → 2 ≤ field → Fitting field size → Stored t → length pw ≡ size →
     ((e : ℕ) → e < size → getD pw e 0 ≡ getD t (4096 / size * (1 + e) % 4096) 0) → Powers field (root field size) pw
 unfolding fieldOf root primeOf generatorOf

@@ -57,9 +57,9 @@ round field size f =
     ∙ rw half′ (minus-square F (laws field))
 
 -- where n·step = m and m divides p - 1, the ω of n is the step-th power of that of m
-pub root-step : (field n m step : ℕ) → 0 < n → 0 < m → step * n ≡ m → (primeOf field - 1) % m ≡ 0 → root field n ≡ power (fieldOf field) (root field m) step
+pub root-step : (field n m step : ℕ) → 0 < n → step * n ≡ m → (primeOf field - 1) % m ≡ 0 → root field n ≡ power (fieldOf field) (root field m) step
 unfolding fieldOf root
-root-step field n m step hn hm e divides =
+root-step field n m step hn e divides =
     let p = primeOf field in
     let g = generatorOf field in
     let q = (p - 1) / m in
