@@ -26,3 +26,6 @@ pub mod Entries
 pub mod Causal
 pub mod NonAnticipation
 pub mod Premises
+pub mod Numbered
+pub mod LevelsByNumber
+pub mod CoinsByNumber
