@@ -20,7 +20,8 @@ use Rattle.completeness.specs.EachWord.{each-length, each-map, each-none
 use Rattle.completeness.specs.FairCoins.{Passes, chain-head, fair, in-range}
 use Rattle.completeness.specs.FileTrip.{Word, file-checks, file-length, file-stream, fillCount, filled}
 use Rattle.completeness.specs.HonestStream.{first-degree, words-each, words-read}
-use Rattle.completeness.specs.Reads.{all-reads, readsDue, sheet-reads}
+use Rattle.completeness.specs.Numbered.{readsDue}
+use Rattle.completeness.specs.Reads.{all-reads, sheet-reads}
 use Rattle.completeness.specs.Ready.{Ready, layout-fits, ready}
 use Rattle.completeness.specs.SheetLevels.{rules-front, sheet-front}
 use Rattle.completeness.specs.SheetPassed.{sheet-words}

@@ -29,3 +29,5 @@ pub mod Premises
 pub mod Numbered
 pub mod LevelsByNumber
 pub mod CoinsByNumber
+pub mod Parts
+pub mod LayoutByNumber

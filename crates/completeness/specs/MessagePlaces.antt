@@ -8,7 +8,7 @@ use lib.Seq.{take-at, take-append-add}
 use Rattle.algebra.specs.ListFacts.{All, all-map, all-of-map, map-map}
 use Rattle.completeness.specs.CoinFacts.{coins-append, coins-final, coins-messages, coins-outs, round-coins}
 use Rattle.completeness.specs.Messages.{Message, later, messages, messagesAfter, part, part-later, regroup, replies-part, table-part}
-use Rattle.completeness.specs.Reads.{total}
+use Rattle.completeness.specs.Numbered.{total}
 use Rattle.definition.specs.Layout.{Kind, coin, coinKinds, index, laterCount, layout, message, out, restLayout, roundLayout}
 use Rattle.definition.specs.Sheet.{Level, Sheet, finalCount, firstLevel, laterLevels, shiftCount}
 

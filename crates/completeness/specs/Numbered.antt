@@ -1,7 +1,7 @@
 -- THE VOCABULARY OF THE PAGE: 01's notions by number, over a sheet's words w, coefficients f, a coin list and a word stream. It holds no lemma and no proof.
 -- M is the number of rounds, k the folding number, s the number of out coins of a round; t_i, n_i and d_i belong to level i.
-use Prim.Native.Nat.{ℕ, zero, suc, _+_, _/_, _^_, _≤_}
-use mathlib.Core.List.{List, [], map}
+use Prim.Native.Nat.{ℕ, zero, suc, _+_, _*_, _/_, _^_, _≤_}
+use mathlib.Core.List.{List, [], _∷_}
 use lib.ListN.{getD, take, drop}
 use Rattle.definition.specs.Field.{Field, primeField}
 use Rattle.definition.specs.Polynomial.{Sample, points, subPoly, vanishing, interpolate, quotient, foldPoly, distinct}
@@ -34,6 +34,15 @@ levelOf w i = record {
   fold = getD w 3 0;
   repetitions = getD w (6 + i) 0;
 }
+
+-- the sum of a list
+unfoldable pub total : List ℕ → ℕ
+total [] = 0
+total (x ∷ xs) = x + total xs
+
+-- the reads of an accepted transcript: k·(t_0 + .. + t_M)
+unfoldable pub readsDue : List ℕ → ℕ
+readsDue w = getD w 3 0 * total (sheetOf w .repetitions)
 
 -- THE COINS BY ROUND. Round 0 has fold coin 0 alone; round i + 1 has s out coins, a combination coin, fold coin i + 1 and t_i shift indices.
 unfoldable pub coinCount : List ℕ → ℕ → ℕ

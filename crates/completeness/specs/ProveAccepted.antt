@@ -11,7 +11,7 @@ use borrow.Author.Tests.{ltb-false}
 use Rattle.completeness.specs.Allowed.{Allowed, if-passes}
 use Rattle.completeness.specs.Completeness.{completeness, honest-length}
 use Rattle.completeness.specs.FileTrip.{file-length}
-use Rattle.completeness.specs.Reads.{readsDue}
+use Rattle.completeness.specs.Numbered.{readsDue}
 use Rattle.definition.specs.Block.{blockCount, fileOf}
 use Rattle.definition.specs.Layout.{coinKinds, layout, wordsDue}
 use Rattle.definition.specs.Prove.{Result, coefficientsTest, coinDomainTest, coinsTest, done, finish, inputRangeTest, outputTest, prove, proveTests, refusal, sheetLengthTest}

@@ -11,6 +11,7 @@ use Rattle.completeness.specs.Complete
 use Rattle.algebra.specs.Laws.{FieldLaws}
 use Rattle.completeness.specs.CoinFacts.{each-later, each-replicate}
 use Rattle.completeness.specs.EachWord.{Dealt}
+use Rattle.completeness.specs.Numbered.{readsDue, total}
 use Rattle.completeness.specs.SheetLevels.{about-levels}
 use Rattle.completeness.specs.SheetPassed.{exponents}
 use Rattle.definition.specs.Deciding.{ownPlace, placesOf}
@@ -20,15 +21,6 @@ use Rattle.definition.specs.Layout.{Kind, index, laterCount, readFinals, readRo
 use Rattle.definition.specs.Reading.{sheetTest}
 use Rattle.definition.specs.Sheet.{Level, firstLevel, laterLevels, levelsFrom, sheetOf, shiftCount}
 use Rattle.definition.specs.Verdict.{accepted}
-
--- the sum of a list
-unfoldable pub total : List ℕ → ℕ
-total [] = 0
-total (x ∷ xs) = x + total xs
-
--- k·(t_0 + .. + t_M), of the sheet's words
-unfoldable pub readsDue : List ℕ → ℕ
-readsDue w = getD w 3 0 * total (sheetOf w .repetitions)
 
 -- the same level by level
 abbrev pub levelReads : Level → List Level → ℕ
