@@ -5,7 +5,7 @@ use mathlib.Core.Path.{_≡_, refl, ap, _∙_, subst}
 use mathlib.Core.Bool.{Bool, true, false}
 use mathlib.Core.List.{List, [], _∷_, _++_, zipWith, append-assoc}
 use mathlib.Core.Option.{Option, none, some}
-use lib.ListN.{length, take, drop, replicate, length-replicate}
+use lib.ListN.{length, take, drop, replicate, length-append, length-replicate}
 use Rattle.algebra.specs.ListFacts.{All}
 use Rattle.definition.specs.Layout.{Kind, coin, coinKinds, index, laterCount, message, out, restLayout, roundLayout}
 use Rattle.definition.specs.Lists.{firstTrue}
@@ -101,22 +101,21 @@ coins-round s b l ls =
     ∙ ap (λ (r : List Kind). r ++ coinKinds (restLayout s l ls)) (round-coins s b l)
     ∙ append-assoc (replicate s (out l)) _ _
 
--- what holds of the coins of each round
-abbrev pub Coined : (Kind → ℕ → Type 0) → ℕ → Level → List Level → List ℕ → Type 0
-Coined R s b [] w = (length w ≡ b .repetitions) × All (R (index (shiftCount b))) w
-Coined R s b (l ∷ ls) w =
-    (length (take s w) ≡ s) × All (R (out l)) (take s w)
-    × (length (take (laterCount b) (drop s w)) ≡ laterCount b) × All (R (index (shiftCount b))) (drop 2 (take (laterCount b) (drop s w)))
-    × Coined R s l ls (drop (laterCount b) (drop s w))
-
-pub coined : (R : Kind → ℕ → Type 0) (s : ℕ) (b : Level) (ls : List Level) (w : List ℕ) → Each R (coinKinds (restLayout s b ls)) w → Coined R s b ls w
-unfolding laterCount
-coined R s b [] w h = each-replicate R (b .repetitions) (index (shiftCount b)) w (subst (λ (ks : List Kind). Each R ks w) (coins-final s b) h)
-coined R s b (l ∷ ls) w h =
-    let outs = replicate s (out l) in
-    let later = coin ∷ coin ∷ replicate (b .repetitions) (index (shiftCount b)) in
-    let r = each-append-at R s outs (later ++ coinKinds (restLayout s l ls)) w (length-replicate s (out l)) (subst (λ (ks : List Kind). Each R ks w) (coins-round s b l ls) h) in
-    let q = each-append-at R (laterCount b) later (coinKinds (restLayout s l ls)) (drop s w) (omega (arith, length-replicate (b .repetitions) (index (shiftCount b)))) (r .1) in
-    let o = each-replicate R s (out l) (take s w) (r .0) in
-    let v = each-later R (b .repetitions) (shiftCount b) (take (laterCount b) (drop s w)) (q .0) in
-    (o .0, o .1, v .0, v .1, coined R s l ls (drop (laterCount b) (drop s w)) (q .1))
+-- the number of words of a round
+pub round-length : (s : ℕ) (b l : Level) → length (roundLayout s b l) ≡ l .size + (s + (s + laterCount b))
+unfolding roundLayout laterCount
+round-length s b l =
+    let t = replicate (l .size) message in
+    let o = replicate s (out l) in
+    let p = replicate s message in
+    let q = coin ∷ coin ∷ replicate (b .repetitions) (index (shiftCount b)) in
+    omega (
+      arith,
+      length-append t (o ++ (p ++ q)),
+      length-append o (p ++ q),
+      length-append p q,
+      length-replicate (l .size) message,
+      length-replicate s (out l),
+      length-replicate s message,
+      length-replicate (b .repetitions) (index (shiftCount b)),
+    )

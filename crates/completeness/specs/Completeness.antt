@@ -10,12 +10,12 @@ use lib.Dec.{eqb}
 use lib.ListN.{length, drop, replicate, length-append}
 use lib.Seq.{drop-at}
 use borrow.Author.Tests.{eq-eqb, ne-eqb}
-use Rattle.completeness.specs.Complete
+use Rattle.completeness.specs.DecidingAccepts
 use Rattle.algebra.specs.ListFacts.{All, all-append}
 use Rattle.completeness.specs.Allowed.{Allowed, allowed-degree, allowed-first, allowed-long, allowed-rounds}
 use Rattle.completeness.specs.CoinFacts.{Each}
-use Rattle.completeness.specs.Complete.{Fair}
-use Rattle.completeness.specs.Domains.{level-ok}
+use Rattle.completeness.specs.DecidingAccepts.{Fair}
+use Rattle.completeness.specs.Domains.{foldable}
 use Rattle.completeness.specs.EachWord.{each-length, each-map, each-none}
 use Rattle.completeness.specs.FairCoins.{Passes, chain-head, fair, in-range}
 use Rattle.completeness.specs.FileTrip.{Word, file-checks, file-length, file-stream, fillCount, filled}
@@ -176,15 +176,15 @@ module _ {w f coins : List ℕ} (ok : Allowed w f coins) where
   unfolding readCoins readsOf
   decided =
       ap (decide F ω (firstLevel h)) (words-read h (sheetReady .laws) positive f coins (allowed-degree ok) (allowed-first ok) (allowed-rounds ok) fair-coins fill)
-      ∙ Complete.completeness F (sheetReady .laws) ω (firstLevel h) f (readCoins h coins) degree
-      (level-ok F (sheetReady .laws) ω (signs-differ (h .prime) (sheetReady .large)) (sheetReady .e) (sheetReady .root) (firstLevel h) (chain-head _ (firstLevel h) (laterLevels h) (sheetReady .chain)))
+      ∙ DecidingAccepts.deciding-accepts F (sheetReady .laws) ω (firstLevel h) f (readCoins h coins) degree
+      (foldable F (sheetReady .laws) ω (signs-differ (h .prime) (sheetReady .large)) (sheetReady .e) (sheetReady .root) (firstLevel h) (chain-head _ (firstLevel h) (laterLevels h) (sheetReady .chain)))
       fair-coins
       ∙ (λ i. record { outcome = accepted; reads = counted i })
     where
       degree : length f ≡ firstLevel h .degree
       degree = first-degree h f (allowed-degree ok)
 
-      counted : length (Complete.allPlaces F (sheetReady .laws) ω (firstLevel h) (ownPlace (firstLevel h)) (readRounds (h .outCoins) (firstLevel h) (laterLevels h) (drop 1 coins)) (readFinals (h .outCoins) (firstLevel h) (laterLevels h) (drop 1 coins))) ≡ readsDue w
+      counted : length (DecidingAccepts.allPlaces (firstLevel h) (ownPlace (firstLevel h)) (readRounds (h .outCoins) (firstLevel h) (laterLevels h) (drop 1 coins)) (readFinals (h .outCoins) (firstLevel h) (laterLevels h) (drop 1 coins))) ≡ readsDue w
       counted = all-reads F (sheetReady .laws) ω (Passes h) (h .outCoins) (firstLevel h) (laterLevels h) (drop 1 coins) (allowed-rounds ok) ∙ sheet-reads w long (ok .sheet)
 
   deciding-passes : deciding (w ++ (transcriptWords τ ++ fill)) ≡ record { outcome = accepted; reads = readsDue w }

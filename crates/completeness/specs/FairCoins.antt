@@ -9,16 +9,17 @@ use mathlib.Core.List.{List, [], _∷_, map}
 use lib.ListN.{take, drop, replicate}
 use borrow.Author.Tests.{leb-false}
 use Rattle.algebra.specs.Different
-use Rattle.completeness.specs.Complete
+use Rattle.algebra.specs.RingLaws
+use Rattle.completeness.specs.DistinctPoints
 use Rattle.algebra.specs.Different.{Differ}
 use Rattle.algebra.specs.Laws.{FieldLaws}
 use Rattle.algebra.specs.ListFacts.{All, all-append, all-in-map, all-map, all-of-map}
 use Rattle.algebra.specs.RootsOfUnity.{minusOne}
 use Rattle.completeness.specs.CoinFacts.{Each, each-later, each-replicate}
-use Rattle.completeness.specs.Complete.{Fair, FairRound}
-use Rattle.completeness.specs.Domains.{level-ok, shift-off}
+use Rattle.completeness.specs.DecidingAccepts.{Fair, FairRound}
+use Rattle.completeness.specs.Domains.{foldable, never-meet}
 use Rattle.completeness.specs.EachWord.{Dealt}
-use Rattle.completeness.specs.SheetFacts.{Chain, Right}
+use Rattle.completeness.specs.SheetFacts.{Chain, Sized}
 use Rattle.completeness.specs.SheetLevels.{Step, Steps}
 use Rattle.completeness.specs.SheetPassed.{all-at}
 use Rattle.definition.specs.Deciding.{outInDomain}
@@ -37,7 +38,7 @@ pub in-range : (h : Sheet) (k : Kind) (x : ℕ) → Passes h k x → x < limit (
 unfolding outOfRange
 in-range h k x p = leb-false (limit (h .prime) k) x (p .0)
 
-pub chain-head : (a : ℕ) (b : Level) (ls : List Level) → Chain a b ls → Right a b
+pub chain-head : (a : ℕ) (b : Level) (ls : List Level) → Chain a b ls → Sized a b
 chain-head a b [] h = h
 chain-head a b (l ∷ ls) h = h .0
 
@@ -71,10 +72,10 @@ module _ (h : Sheet) (L : FieldLaws (primeField (h .prime))) (signs : minusOne (
       let apart = all-at (λ j. F .equal x (point F ω l j) ≡ false) 0 (l .size)
       (all-in-map (λ y. F .equal x y ≡ false) (point F ω l) (range 0 (l .size)) (not-in-list x (map (point F ω l) (range 0 (l .size))) (p .1))) m hm in
       Different.differ-sym F L x (point F ω l m)
-      (Complete.unequal-differ F L ω x (point F ω l m) (reduced x (in-range h (out l) x p)) (Complete.reduce-power F L ω ω _)
+      (DistinctPoints.unequal-differ F L x (point F ω l m) (reduced x (in-range h (out l) x p)) (RingLaws.reduce-power F L ω _)
       (subst (λ (j : ℕ). F .equal x (point F ω l j) ≡ false) (Nat.zero-add m) apart))
 
-  fair-round : (s : ℕ) (b l : Level) (outs v : List ℕ) → l .degree ≡ b .degree / b .fold → Right (suc e) l → Step s b l →
+  fair-round : (s : ℕ) (b l : Level) (outs v : List ℕ) → l .degree ≡ b .degree / b .fold → Sized (suc e) l → Step s b l →
       Each (Passes h) (replicate s (out l)) outs → Each (Passes h) (coin ∷ coin ∷ replicate (b .repetitions) (index (shiftCount b))) v →
       FairRound F L ω b (roundCoins l outs v)
   unfolding roundCoins limit
@@ -85,10 +86,10 @@ module _ (h : Sheet) (L : FieldLaws (primeField (h .prime))) (signs : minusOne (
         indices = all-map (drop 2 v) (t .1) (λ j p. in-range h (index (shiftCount b)) j p);
         elements = all-map outs (o .1) (λ x p. reduced x (in-range h (out l) x p));
         off = λ m hm. all-append _ outs _ (all-map outs (o .1) (λ x p. out-off l m x hm p))
-            (all-of-map _ (shiftPoint F ω b) (drop 2 v) (all-map (drop 2 v) (t .1) (λ j p. shift-off (primeField (h .prime)) L (rootOfUnity h) signs e root s b l m j st)));
+            (all-of-map _ (shiftPoint F ω b) (drop 2 v) (all-map (drop 2 v) (t .1) (λ j p. never-meet (primeField (h .prime)) L (rootOfUnity h) signs e root s b l m j st)));
         degree = eq;
         few = omega (arith, st .few, o .0, t .0, lib.ListN.length-drop 2 v);
-        next = level-ok (primeField (h .prime)) L (rootOfUnity h) signs e root l r;
+        next = foldable (primeField (h .prime)) L (rootOfUnity h) signs e root l r;
       }
 
   -- coins that pass are fair

@@ -8,12 +8,12 @@ use lib.ListN.{length, getD, take, drop, replicate, length-map, length-drop}
 use lib.Seq.{take-at, drop-at}
 use borrow.Author.Tests.{lt-leb}
 use Rattle.algebra.specs.Lengths
-use Rattle.completeness.specs.Complete
+use Rattle.completeness.specs.DecidingAccepts
 use Rattle.completeness.specs.RoundTrip
 use Rattle.algebra.specs.Laws.{FieldLaws}
 use Rattle.algebra.specs.ListFacts.{All}
 use Rattle.completeness.specs.CoinFacts.{Each, each-later, each-replicate}
-use Rattle.completeness.specs.Complete.{Fair}
+use Rattle.completeness.specs.DecidingAccepts.{Fair}
 use Rattle.completeness.specs.EachWord.{Dealt, each-join, each-same}
 use Rattle.completeness.specs.FairCoins.{Passes}
 use Rattle.completeness.specs.RoundTrip.{Shaped}
@@ -95,7 +95,7 @@ module _ (h : Sheet) (L : FieldLaws (primeField (h .prime))) (positive : 0 < h .
 
   pub table-length : (l : Level) (f : List ℕ) → length (tableOf F ω l f) ≡ l .size
   unfolding tableOf domain
-  table-length l f = length-map (map (point F ω l) (range 0 (l .size))) (evaluate F f) ∙ length-map (range 0 (l .size)) (point F ω l) ∙ Complete.range-length F L ω 0 (l .size)
+  table-length l f = length-map (map (point F ω l) (range 0 (l .size))) (evaluate F f) ∙ length-map (range 0 (l .size)) (point F ω l) ∙ DecidingAccepts.range-length 0 (l .size)
 
   table-values : (l : Level) (f : List ℕ) → All (Passes h message) (tableOf F ω l f)
   unfolding tableOf
@@ -136,7 +136,7 @@ module _ (h : Sheet) (L : FieldLaws (primeField (h .prime))) (positive : 0 < h .
       let v = take (laterCount b) (drop s w) in
       let c = roundCoins l (take s w) v in
       each-join (Passes h) (roundLayout s b l) _ _ _ (round-each s b l g (take s w) v (d .0) (d .1))
-      (rest-each s l ls (nextPoly F ω b g c) (getD v 1 0) (drop (laterCount b) (drop s w)) (Complete.next-fits F L ω b f r c len (fair .0)) (d .2) (fair .1))
+      (rest-each s l ls (nextPoly F ω b g c) (getD v 1 0) (drop (laterCount b) (drop s w)) (DecidingAccepts.next-fits F L ω b f r c len (fair .0)) (d .2) (fair .1))
 
   -- the honest messages have the lengths due
   pub rest-shaped : (s : ℕ) (b : Level) (ls : List Level) (f : List ℕ) (r : ℕ) (w : List ℕ) → length f ≡ b .degree → Dealt (Passes h) s b ls w →
@@ -157,7 +157,7 @@ module _ (h : Sheet) (L : FieldLaws (primeField (h .prime))) (positive : 0 < h .
           replies = length-map (take s w) (evaluate F g) ∙ o;
           shifts = length-drop 2 v ∙ omega (arith, each-later (Passes h) (b .repetitions) (shiftCount b) v (d .1) .0);
         },
-        rest-shaped s l ls (nextPoly F ω b g c) (getD v 1 0) (drop (laterCount b) (drop s w)) (Complete.next-fits F L ω b f r c len (fair .0)) (d .2) (fair .1),
+        rest-shaped s l ls (nextPoly F ω b g c) (getD v 1 0) (drop (laterCount b) (drop s w)) (DecidingAccepts.next-fits F L ω b f r c len (fair .0)) (d .2) (fair .1),
       )
 
   first-level-table : (f : List ℕ) → length (tableOf F ω (firstLevel h) f) ≡ h .size

@@ -6,7 +6,7 @@ use mathlib.Core.Path.{_≡_, refl, sym, ap, _∙_}
 use mathlib.Core.List.{List, [], _∷_, _++_, map, append-assoc}
 use lib.ListN.{length, getD, take, drop, replicate, length-append, length-replicate, length-take, length-drop}
 use lib.Seq.{take-at, drop-at, drop-drop, take-append-add, drop-append-add}
-use Rattle.completeness.specs.CoinFacts.{coins-append, coins-final, coins-messages, coins-outs, round-coins}
+use Rattle.completeness.specs.CoinFacts.{coins-append, coins-final, coins-messages, coins-outs, round-coins, round-length}
 use Rattle.completeness.specs.LevelsByNumber.{level-first, levels-later}
 use Rattle.completeness.specs.Numbered.{Due, Message, coinCount, coinsBefore, final, lengthOf, levelOf, outsOf, replies, roundStart, roundsOf, sentBefore, startOf, table, total, wordCount}
 use Rattle.completeness.specs.Parts.{firsts, firsts-length, joined, split-joined}
@@ -49,23 +49,9 @@ module _ (w : List ℕ) where
       ∙ sym (append-assoc (replicate (levelOf w 0 .size) message) (coin ∷ []) _)
 
   kinds-length : (i : ℕ) → length (roundKinds i) ≡ wordCount w i
-  unfolding roundKinds afterKinds wordCount laterCount
+  unfolding roundKinds afterKinds wordCount roundLayout
   kinds-length zero = length-append (replicate (levelOf w 0 .size) message) (coin ∷ []) ∙ ap (λ (n : ℕ). n + 1) (length-replicate (levelOf w 0 .size) message)
-  kinds-length (suc i) =
-      let t = replicate (levelOf w (suc i) .size) message in
-      let o = replicate (outsOf w) (out (levelOf w (suc i))) in
-      let p = replicate (outsOf w) message in
-      let q = coin ∷ coin ∷ replicate (levelOf w i .repetitions) (index (shiftCount (levelOf w i))) in
-      omega (
-        arith,
-        length-append t (o ++ (p ++ q)),
-        length-append o (p ++ q),
-        length-append p q,
-        length-replicate (levelOf w (suc i) .size) message,
-        length-replicate (outsOf w) (out (levelOf w (suc i))),
-        length-replicate (outsOf w) message,
-        length-replicate (levelOf w i .repetitions) (index (shiftCount (levelOf w i))),
-      )
+  kinds-length (suc i) = round-length (outsOf w) (levelOf w i) (levelOf w (suc i))
 
   kinds-coins : (i : ℕ) → length (coinKinds (roundKinds i)) ≡ coinCount w i
   unfolding roundKinds afterKinds coinCount coinKinds laterCount roundLayout

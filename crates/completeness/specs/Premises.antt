@@ -19,7 +19,7 @@ use Rattle.completeness.specs.Completeness.{at-none, if-false}
 use Rattle.completeness.specs.EachWord.{each-join, each-none, each-same}
 use Rattle.completeness.specs.FileTrip.{all-replicate}
 use Rattle.completeness.specs.Ready.{Ready, ready}
-use Rattle.completeness.specs.SheetFacts.{Chain, Right}
+use Rattle.completeness.specs.SheetFacts.{Chain, Sized}
 use Rattle.definition.specs.Deciding.{outInDomain}
 use Rattle.definition.specs.Domain.{domain, inDomain, inList, point}
 use Rattle.definition.specs.Field.{Field, power, primeField}
@@ -76,7 +76,7 @@ coins-of P (coin ∷ ks) h = (h .0, coins-of P ks (h .1))
 coins-of P (out l ∷ ks) h = (h .0, coins-of P ks (h .1))
 coins-of P (index n ∷ ks) h = (h .0, coins-of P ks (h .1))
 
-shift-positive : (a : ℕ) (b : Level) → Right a b → 0 < shiftCount b
+shift-positive : (a : ℕ) (b : Level) → Sized a b → 0 < shiftCount b
 unfolding shiftCount
 shift-positive a b r = go (b .size / b .fold) refl
   where
@@ -109,7 +109,7 @@ module _ (h : Sheet) (r : Ready h) where
   unfolding outOfRange outInDomain limit
   coin-zero = (lt-leb (h .prime) 0 positive, refl)
 
-  index-zero : (b : Level) → Right (suc (r .e)) b → Zero (index (shiftCount b))
+  index-zero : (b : Level) → Sized (suc (r .e)) b → Zero (index (shiftCount b))
   unfolding outOfRange outInDomain limit
   index-zero b rb = (lt-leb (shiftCount b) 0 (shift-positive (suc (r .e)) b rb), refl)
 
@@ -123,7 +123,7 @@ module _ (h : Sheet) (r : Ready h) where
   unfolding outOfRange outInDomain limit inDomain domain
   out-zero l = (lt-leb (h .prime) 0 positive, not-listed l (range 0 (l .size)))
 
-  round-zeros : (s : ℕ) (b l : Level) → Right (suc (r .e)) b → All Zero (roundLayout s b l)
+  round-zeros : (s : ℕ) (b l : Level) → Sized (suc (r .e)) b → All Zero (roundLayout s b l)
   unfolding roundLayout
   round-zeros s b l rb =
       all-append Zero (replicate (l .size) message) _ (all-replicate Zero (l .size) message message-zero)

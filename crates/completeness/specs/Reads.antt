@@ -7,7 +7,7 @@ use mathlib.Core.Path.{_≡_, refl, sym, ap, _∙_}
 use mathlib.Core.List.{List, [], _∷_, flatMap}
 use lib.ListN.{length, getD, take, drop, replicate, length-append, length-drop, length-take}
 use lib.Seq.{drop-cons}
-use Rattle.completeness.specs.Complete
+use Rattle.completeness.specs.DecidingAccepts
 use Rattle.algebra.specs.Laws.{FieldLaws}
 use Rattle.completeness.specs.CoinFacts.{each-later, each-replicate}
 use Rattle.completeness.specs.EachWord.{Dealt}
@@ -37,11 +37,11 @@ module _ {A : Type 0} (F : Field A) (L : FieldLaws F) (ω : A) where
   unfolding placesOf ownPlace
   places-length b js =
       flat-length (λ j. flatMap (ownPlace b) (rootNumbers b j)) (b .fold) js
-      (λ j. flat-length (ownPlace b) 1 (rootNumbers b j) (λ m. refl) ∙ omega (arith, Complete.roots-length F L ω b j))
+      (λ j. flat-length (ownPlace b) 1 (rootNumbers b j) (λ m. refl) ∙ omega (arith, DecidingAccepts.roots-length b j))
 
 module _ (F : Field ℕ) (L : FieldLaws F) (ω : ℕ) (R : Kind → ℕ → Type 0) (s : ℕ) where
   pub all-reads : (b : Level) (ls : List Level) (w : List ℕ) → Dealt R s b ls w →
-      length (Complete.allPlaces F L ω b (ownPlace b) (readRounds s b ls w) (readFinals s b ls w)) ≡ levelReads b ls
+      length (DecidingAccepts.allPlaces b (ownPlace b) (readRounds s b ls w) (readFinals s b ls w)) ≡ levelReads b ls
   unfolding readRounds readFinals roundCoins
   all-reads b [] w d = places-length F L ω b w ∙ ap (λ (n : ℕ). n * b .fold) (each-replicate R (b .repetitions) (index (shiftCount b)) w d .0)
   all-reads b (l ∷ ls) w d =

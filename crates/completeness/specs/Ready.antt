@@ -12,7 +12,7 @@ use Rattle.algebra.specs.ListFacts.{All, all-append}
 use Rattle.algebra.specs.PrimeField.{Suited, suited}
 use Rattle.algebra.specs.RootsOfUnity.{minusOne}
 use Rattle.completeness.specs.FileTrip.{all-replicate}
-use Rattle.completeness.specs.SheetFacts.{Chain, Right}
+use Rattle.completeness.specs.SheetFacts.{Chain, Sized}
 use Rattle.completeness.specs.SheetLevels.{Steps, sheet-chain, sheet-steps}
 use Rattle.completeness.specs.SheetPassed.{exponents}
 use Rattle.definition.specs.Field.{power, primeField}
@@ -55,7 +55,7 @@ ready w long passed =
     }
 
 -- every limit of the layout is a word's
-shift-count : (a : ℕ) (b : Level) → Right a b → shiftCount b ≤ 2 ^ a
+shift-count : (a : ℕ) (b : Level) → Sized a b → shiftCount b ≤ 2 ^ a
 unfolding shiftCount
 shift-count a b r =
     omega (arith, div-le-self (b .size) (b .fold), mul-le-mul-right (b .size) (pow-pos (b .number)), one-mul (b .size), r .whole)
@@ -76,11 +76,11 @@ module _ (p : ℕ) (small : p < 4294967296) (a : ℕ) (bound : 2 ^ a ≤ 4096) (
   unfolding limit
   out-fits l = omega arith
 
-  index-fits : (b : Level) → Right a b → Fits (index (shiftCount b))
+  index-fits : (b : Level) → Sized a b → Fits (index (shiftCount b))
   unfolding limit
   index-fits b r = omega (arith, shift-count a b r)
 
-  round-fits : (b l : Level) → Right a b → All Fits (roundLayout s b l)
+  round-fits : (b l : Level) → Sized a b → All Fits (roundLayout s b l)
   unfolding roundLayout
   round-fits b l r =
       all-append Fits (replicate (l .size) message) _ (all-replicate Fits (l .size) message message-fits)

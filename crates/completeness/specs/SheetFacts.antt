@@ -48,24 +48,24 @@ pub quotient : (v c : ℕ) → 2 ^ (v + c) / 2 ^ c ≡ 2 ^ v
 quotient v c = ap (λ (n : ℕ). n / 2 ^ c) (pow-add 2 v c) ∙ mul-div-cancel (2 ^ v) (pow-pos c)
 
 -- what is right of a level of a sheet with n0 = 2^a
-pub record Right (a : ℕ) (l : Level) : Type 0 where
+pub record Sized (a : ℕ) (l : Level) : Type 0 where
   pub whole : 2 ^ l .number * l .size ≡ 2 ^ a
   pub folds : l .size / l .fold * l .fold ≡ l .size
   pub degrees : l .degree / l .fold * l .fold ≡ l .degree
 
 -- each level is right, and its degree bound is the one before over the folding number before
 abbrev pub Chain : ℕ → Level → List Level → Type 0
-Chain a b [] = Right a b
-Chain a b (l ∷ ls) = Right a b × (l .degree ≡ b .degree / b .fold) × Chain a l ls
+Chain a b [] = Sized a b
+Chain a b (l ∷ ls) = Sized a b × (l .degree ≡ b .degree / b .fold) × Chain a l ls
 
-pub right : (i u v c t : ℕ) → Right (i + (u + c)) (record { number = i; size = 2 ^ (u + c); degree = 2 ^ (v + c); fold = 2 ^ c; repetitions = t })
+pub right : (i u v c t : ℕ) → Sized (i + (u + c)) (record { number = i; size = 2 ^ (u + c); degree = 2 ^ (v + c); fold = 2 ^ c; repetitions = t })
 right i u v c t = record {
   whole = sym (pow-add 2 i (u + c));
   folds = ap (λ (n : ℕ). n * 2 ^ c) (quotient u c) ∙ sym (pow-add 2 u c);
   degrees = ap (λ (n : ℕ). n * 2 ^ c) (quotient v c) ∙ sym (pow-add 2 v c);
 }
 
-pub right-at : (a i u v c t n d : ℕ) → i + u ≡ a → c ≤ u → c ≤ v → n ≡ 2 ^ u → d ≡ 2 ^ v → Right a (record { number = i; size = n; degree = d; fold = 2 ^ c; repetitions = t })
+pub right-at : (a i u v c t n d : ℕ) → i + u ≡ a → c ≤ u → c ≤ v → n ≡ 2 ^ u → d ≡ 2 ^ v → Sized a (record { number = i; size = n; degree = d; fold = 2 ^ c; repetitions = t })
 right-at a i u v c t n d ea hu hv en ed =
     let fu : u ≡ u - c + c = omega arith in
     let fv : v ≡ v - c + c = omega arith in
