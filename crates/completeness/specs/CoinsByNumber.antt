@@ -7,12 +7,11 @@ use mathlib.Core.Path.{_≡_, refl, sym, ap, _∙_}
 use mathlib.Core.List.{List, [], _∷_, map}
 use lib.ListN.{length, getD, take, drop}
 use lib.Seq.{take-nil, take-take, drop-drop, getD-take, getD-drop}
-use Rattle.completeness.specs.Numbered
+use Rattle.completeness.specs.LevelsByNumber.{level-first, levels-later}
 use Rattle.completeness.specs.Numbered.{coinCount, coinsBefore, coinsOf, combinationCoin, finalIndices, foldCoin, levelOf, outCoinsOf, outsOf, roundsOf, shiftIndices}
 use Rattle.definition.specs.Layout.{laterCount, readCoins, readFinals, readRounds, roundCoins}
 use Rattle.definition.specs.Lists.{range}
-use Rattle.definition.specs.Sheet.{Level}
-use Rattle.definition.specs.Transcript.{RoundCoins}
+use Rattle.definition.specs.Sheet.{Level, firstLevel, laterLevels, sheetOf}
 
 drop-take : {A : Type 0} (n m : ℕ) (l : List A) → drop n (take (n + m) l) ≡ take m (drop n l)
 drop-take zero m l = ap (λ (k : ℕ). take k l) (zero-add m)
@@ -47,6 +46,10 @@ module _ (w coins : List ℕ) where
       ap (drop (laterCount (levelOf w i))) (drop-drop s b coins) ∙ drop-drop (laterCount (levelOf w i)) (b + s) coins
       ∙ ap (λ (n : ℕ). drop n coins) (Nat.add-assoc b s (laterCount (levelOf w i)))
 
+  first-coins : drop 1 coins ≡ drop (coinsBefore w 1) coins
+  unfolding coinsBefore coinCount
+  first-coins = refl
+
   -- m rounds from round i + 1 on
   rounds-read : (m i : ℕ) → readRounds (outsOf w) (levelOf w i) (map (levelOf w) (range (suc i) m)) (drop (coinsBefore w (suc i)) coins) ≡ map (coinsOf w coins) (range (suc i) m)
   unfolding readRounds range
@@ -60,3 +63,17 @@ module _ (w coins : List ℕ) where
   finals-read (suc m) i =
       ap (readFinals (outsOf w) (levelOf w (suc i)) (map (levelOf w) (range (suc (suc i)) m))) (next-coins i) ∙ finals-read m (suc i)
       ∙ ap (λ (n : ℕ). drop (coinsBefore w (suc n)) coins) (suc-add i m ∙ sym (Nat.add-suc i m))
+
+  -- the coins that the sheet makes of the list
+  pub coins-read : 7 + roundsOf w ≤ length w →
+      readCoins (sheetOf w) coins ≡ record { fold = foldCoin w coins 0; rounds = map (coinsOf w coins) (range 1 (roundsOf w)); finals = finalIndices w coins }
+  unfolding readCoins sheetOf foldCoin finalIndices
+  coins-read l = λ x. record {
+    fold = getD coins 0 0;
+    rounds = (readAt (λ b ls u. readRounds (outsOf w) b ls u) ∙ rounds-read (roundsOf w) 0) x;
+    finals = (readAt (λ b ls u. readFinals (outsOf w) b ls u) ∙ finals-read (roundsOf w) 0 ∙ ap (λ (n : ℕ). drop (coinsBefore w (suc n)) coins) (zero-add (roundsOf w))) x;
+  }
+    where
+      readAt : {B : Type 0} (read : Level → List Level → List ℕ → B) →
+          read (firstLevel (sheetOf w)) (laterLevels (sheetOf w)) (drop 1 coins) ≡ read (levelOf w 0) (map (levelOf w) (range 1 (roundsOf w))) (drop (coinsBefore w 1) coins)
+      readAt read = λ x. read (level-first w x) (levels-later w l x) (first-coins x)

@@ -73,17 +73,18 @@ module _ {w f coins : List ℕ} (ok : Allowed w f coins) where
   abbrev ω : ℕ
   ω = rootOfUnity (sheetOf w)
 
-  long : length w ≡ 12
+  abbrev long : length w ≡ 12
   long = allowed-long ok
 
-  pub sheetReady : Ready (sheetOf w)
-  sheetReady = ready w long (ok .sheet)
+  abbrev pub sheetReady : Ready (sheetOf w)
+  sheetReady = ready w (allowed-long ok) (ok .sheet)
 
   abbrev τ : Transcript ℕ
   τ = honest (primeField (sheetOf w .prime)) (rootOfUnity (sheetOf w)) (firstLevel (sheetOf w)) f (readCoins (sheetOf w) coins)
 
   -- the allowed coins are fair
-  pub fair-coins : Fair F (sheetReady .laws) ω (firstLevel h) (readRounds (h .outCoins) (firstLevel h) (laterLevels h) (drop 1 coins)) (readFinals (h .outCoins) (firstLevel h) (laterLevels h) (drop 1 coins))
+  pub fair-coins : Fair F (sheetReady .laws) ω (firstLevel h) (readCoins h coins .rounds) (readCoins h coins .finals)
+  unfolding readCoins
   fair-coins = fair h (sheetReady .laws) (signs-differ (h .prime) (sheetReady .large)) (sheetReady .e) (sheetReady .root) (h .outCoins) (firstLevel h) (laterLevels h) (drop 1 coins) (sheetReady .chain) (sheetReady .steps) (allowed-rounds ok)
 
   positive : 0 < h .prime
@@ -91,6 +92,7 @@ module _ {w f coins : List ℕ} (ok : Allowed w f coins) where
 
   -- the words after the sheet
   pub honest-each : Each (Passes h) (layout h) (transcriptWords τ)
+  unfolding readCoins
   honest-each = words-each h (sheetReady .laws) positive f coins (allowed-degree ok) (allowed-first ok) (allowed-rounds ok) fair-coins
 
   pub honest-words : All Word (honestStream w f coins)

@@ -40,6 +40,13 @@ odd-exponent i m =
 at-least : (a c n : ℕ) → a + c < 0 + n → c < n
 at-least a c n h = omega arith
 
+module _ {A : Type 0} (F : Field A) (ω : A) where
+  -- Root m of shift point j, m from 0 to k-1: a point of the domain; its k-th power is the shift point; roots of different numbers are different points.
+  pub record Roots (l : Level) (j : ℕ) : Type 0 where
+    pub below : (m : ℕ) → m < l .fold → j + m * shiftCount l < l .size
+    pub power-is : (m : ℕ) → m < l .fold → power F (point F ω l (j + m * shiftCount l)) (l .fold) ≡ shiftPoint F ω l j
+    pub different : (m n : ℕ) → m < l .fold → n < l .fold → point F ω l (j + m * shiftCount l) ≡ point F ω l (j + n * shiftCount l) → m ≡ n
+
 -- numbers with different values
 module _ {A : Type 0} (F : Field A) (L : FieldLaws F) where
   infixl 65 _⊖_
@@ -131,13 +138,7 @@ module _ {A : Type 0} (F : Field A) (L : FieldLaws F) (ω : A) (signs : minusOne
     divides = omega (arith, r .degrees);
   }
 
-  -- Root m of shift point j, m from 0 to k-1: a point of the domain; its k-th power is the shift point; roots of different numbers are different points.
-  pub record Roots (l : Level) (j : ℕ) : Type 0 where
-    pub below : (m : ℕ) → m < l .fold → j + m * shiftCount l < l .size
-    pub power-is : (m : ℕ) → m < l .fold → power F (point F ω l (j + m * shiftCount l)) (l .fold) ≡ shiftPoint F ω l j
-    pub different : (m n : ℕ) → m < l .fold → n < l .fold → point F ω l (j + m * shiftCount l) ≡ point F ω l (j + n * shiftCount l) → m ≡ n
-
-  pub roots : (l : Level) (j : ℕ) → Sized (suc e) l → j < shiftCount l → Roots l j
+  pub roots : (l : Level) (j : ℕ) → Sized (suc e) l → j < shiftCount l → Roots F ω l j
   unfolding shiftCount
   roots l j r h = record {
     below = λ m u. root-below l j m r h u;

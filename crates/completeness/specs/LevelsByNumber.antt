@@ -16,7 +16,7 @@ halved n i = div-div-eq-div-mul n (2 ^ i) 2 ∙ ap (λ (x : ℕ). n / x) (sym (p
 folded : (d k i : ℕ) → d / k ^ i / k ≡ d / k ^ suc i
 folded d k i = div-div-eq-div-mul d (k ^ i) k ∙ ap (λ (x : ℕ). d / x) (sym (pow-suc k i))
 
-undivided : (n k : ℕ) → n / k ^ 0 ≡ n
+pub undivided : (n k : ℕ) → n / k ^ 0 ≡ n
 undivided n k = ap (λ (x : ℕ). n / x) (pow-zero k) ∙ div-one n
 
 module _ (w : List ℕ) where

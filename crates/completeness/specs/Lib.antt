@@ -24,3 +24,6 @@ pub mod LevelsByNumber
 pub mod CoinsByNumber
 pub mod Parts
 pub mod LayoutByNumber
+pub mod RoundPolynomials
+pub mod DomainsByNumber
+pub mod RunByNumber

@@ -1,0 +1,151 @@
+-- The honest run under allowed coins, by round: the coins of each round are fair, and what holds of one round in any field holds of round i.
+use Prim.Native.Nat.{ℕ, zero, suc, _+_, _-_, _/_, _^_, _≤_, _<_}
+use native.Mathlib.Nat.{add-suc, suc-add, add-zero, zero-add, div-le-self}
+use native.Mathlib.Omega.{arith}
+use mathlib.Core.Path.{_≡_, refl, sym, ap, _∙_, subst}
+use mathlib.Core.List.{List, [], _∷_, map}
+use lib.ListN.{length, getD, drop, length-map}
+use lib.Pow.{pow-mono}
+use Rattle.algebra.specs.Coefficients
+use Rattle.algebra.specs.Lengths
+use Rattle.algebra.specs.Coefficients.{Elements}
+use Rattle.algebra.specs.Different.{Apart}
+use Rattle.algebra.specs.Laws.{FieldLaws}
+use Rattle.algebra.specs.ListFacts.{All}
+use Rattle.algebra.specs.PrimeField.{signs-differ}
+use Rattle.completeness.specs.Allowed.{Allowed, allowed-degree, allowed-long}
+use Rattle.completeness.specs.CoinsByNumber.{coins-read}
+use Rattle.completeness.specs.Completeness.{fair-coins, sheetReady}
+use Rattle.completeness.specs.DecidingAccepts
+use Rattle.completeness.specs.DecidingAccepts.{Fair, FairRound, Foldable}
+use Rattle.completeness.specs.Domains.{domain-apart, foldable}
+use Rattle.completeness.specs.DomainsByNumber.{enough-words, sized}
+use Rattle.completeness.specs.LevelsByNumber.{level-first, undivided}
+use Rattle.completeness.specs.Numbered.{answerPoly, coinCount, coinsBefore, coinsOf, correctedOf, fieldOf, finalIndices, foldCoin, levelOf, outsOf, pairsOf, quotientPoly, roundPoly, roundsOf, samplesAt, vanishingPoly, ωOf}
+use Rattle.completeness.specs.RoundPolynomials
+use Rattle.completeness.specs.SheetPassed.{exponents}
+use Rattle.definition.specs.Domain.{domain, point}
+use Rattle.definition.specs.Field.{Field}
+use Rattle.definition.specs.Layout.{readCoins}
+use Rattle.definition.specs.Lists.{range}
+use Rattle.definition.specs.Polynomial.{addPoly, evaluate, foldPoly, mulPoly, points}
+use Rattle.definition.specs.Prover.{nextPoly}
+use Rattle.definition.specs.Sheet.{Level, finalCount, firstLevel, sheetOf}
+use Rattle.definition.specs.Transcript.{Coins}
+
+-- n rounds past level i
+fair-at : (w coins : List ℕ) (L : FieldLaws (fieldOf w)) (js : List ℕ) (m i n : ℕ) → n < m → Fair (fieldOf w) L (ωOf w) (levelOf w i) (map (coinsOf w coins) (range (suc i) m)) js →
+    FairRound (fieldOf w) L (ωOf w) (levelOf w (i + n)) (coinsOf w coins (suc (i + n)))
+unfolding range
+fair-at w coins L js zero i n l h = absurd (omega arith)
+fair-at w coins L js (suc m) i zero l h = subst (λ (j : ℕ). FairRound (fieldOf w) L (ωOf w) (levelOf w j) (coinsOf w coins (suc j))) (sym (add-zero i)) (h .0)
+fair-at w coins L js (suc m) i (suc n) l h =
+    subst (λ (j : ℕ). FairRound (fieldOf w) L (ωOf w) (levelOf w j) (coinsOf w coins (suc j))) (suc-add i n ∙ sym (add-suc i n)) (fair-at w coins L js m (suc i) n (omega arith) (h .1))
+
+first-length : (w f : List ℕ) {coins : List ℕ} → Allowed w f coins → length f ≡ levelOf w 0 .degree
+unfolding sheetOf
+first-length w f ok = allowed-degree ok ∙ sym (undivided (getD w 2 0) (getD w 3 0))
+
+module _ {w f coins : List ℕ} (ok : Allowed w f coins) where
+  abbrev F : Field ℕ
+  F = fieldOf w
+
+  abbrev ω : ℕ
+  ω = ωOf w
+
+  abbrev L : FieldLaws (fieldOf w)
+  L = sheetReady ok .laws
+
+  abbrev long : length w ≡ 12
+  long = allowed-long ok
+
+  fair-all : Fair F L ω (levelOf w 0) (map (coinsOf w coins) (range 1 (roundsOf w))) (finalIndices w coins)
+  fair-all =
+      subst (λ (c : Coins ℕ). Fair F L ω (levelOf w 0) (c .rounds) (c .finals)) (coins-read w coins (enough-words w long (ok .sheet)))
+      (subst (λ (b : Level). Fair F L ω b (readCoins (sheetOf w) coins .rounds) (readCoins (sheetOf w) coins .finals)) (level-first w) fair-read)
+    where
+      fair-read : Fair F L ω (firstLevel (sheetOf w)) (readCoins (sheetOf w) coins .rounds) (readCoins (sheetOf w) coins .finals)
+      fair-read = fair-coins ok
+
+  -- the coins of round i + 1 are fair
+  pub fair-round : (i : ℕ) → i < roundsOf w → FairRound F L ω (levelOf w i) (coinsOf w coins (suc i))
+  fair-round i l = subst (λ (j : ℕ). FairRound F L ω (levelOf w j) (coinsOf w coins (suc j))) (zero-add i) (fair-at w coins L _ (roundsOf w) 0 i l fair-all)
+
+  pub level-folds : (i : ℕ) → i ≤ roundsOf w → Foldable F ω (levelOf w i)
+  level-folds i l = foldable F L ω (signs-differ (sheetOf w .prime) (sheetReady ok .large)) (sheetReady ok .e) (sheetReady ok .root) (levelOf w i) (sized w long (ok .sheet) i l)
+
+  -- DEGREES. f_i has d_i coefficients, and so has g_i; g_(i+1) has d_i/k.
+  pub corrected-length : (i : ℕ) → i ≤ roundsOf w → length (correctedOf w f coins i) ≡ levelOf w i .degree
+  unfolding correctedOf
+  corrected-length zero l = first-length w f ok
+  corrected-length (suc i) l =
+      DecidingAccepts.next-fits F L ω (levelOf w i) (correctedOf w f coins i) (foldCoin w coins i) (coinsOf w coins (suc i)) (corrected-length i (omega arith)) (fair-round i (omega arith))
+
+  pub folded-length : (i : ℕ) → i ≤ roundsOf w → length (roundPoly w f coins (suc i)) ≡ finalCount (levelOf w i)
+  unfolding roundPoly finalCount
+  folded-length i l = Lengths.length-fold F (levelOf w i .fold) (foldCoin w coins i) (correctedOf w f coins i) ∙ ap (λ (n : ℕ). n / levelOf w i .fold) (corrected-length i l)
+
+  pub round-length : (i : ℕ) → i ≤ roundsOf w → length (roundPoly w f coins i) ≡ levelOf w i .degree
+  unfolding roundPoly finalCount
+  round-length zero l = first-length w f ok
+  round-length (suc i) l = folded-length i (omega arith) ∙ sym (fair-round i (omega arith) .degree)
+
+  -- Round i + 1, of the round's facts in any field.
+  module _ (i : ℕ) (l : i < roundsOf w) where
+    abbrev g : List ℕ
+    g = roundPoly w f coins (suc i)
+
+    pub fewer : length (samplesAt w f coins (suc i)) < levelOf w (suc i) .degree
+    unfolding samplesAt pairsOf
+    fewer = DecidingAccepts.fewer-samples F L ω (levelOf w i) g (coinsOf w coins (suc i)) (fair-round i l)
+
+    pub answer-length : length (answerPoly w f coins (suc i)) ≡ length (samplesAt w f coins (suc i))
+    unfolding answerPoly
+    answer-length = Lengths.length-interpolate F (samplesAt w f coins (suc i))
+
+    pub vanishing-length : length (vanishingPoly w f coins (suc i)) ≡ suc (length (samplesAt w f coins (suc i)))
+    unfolding vanishingPoly
+    vanishing-length = Lengths.length-vanishing F (points (samplesAt w f coins (suc i))) ∙ ap suc (Lengths.length-points F (samplesAt w f coins (suc i)))
+
+    pub quotient-length : length (quotientPoly w f coins (suc i)) ≡ levelOf w (suc i) .degree - length (samplesAt w f coins (suc i))
+    unfolding quotientPoly answerPoly samplesAt pairsOf
+    quotient-length = RoundPolynomials.quotient-length F L ω (levelOf w i) g (coinsOf w coins (suc i)) (fair-round i l) (round-length (suc i) (omega arith))
+
+    pub samples-apart : Apart F (points (samplesAt w f coins (suc i)))
+    unfolding samplesAt pairsOf
+    samples-apart = RoundPolynomials.samples-apart F L ω (levelOf w i) g (coinsOf w coins (suc i)) (fair-round i l)
+
+    pub values-divide : (x : ℕ) → evaluate F g x
+        ≡ F ._⊕_ (evaluate F (answerPoly w f coins (suc i)) x) (F ._⊗_ (evaluate F (vanishingPoly w f coins (suc i)) x) (evaluate F (quotientPoly w f coins (suc i)) x))
+    unfolding quotientPoly vanishingPoly answerPoly samplesAt pairsOf
+    values-divide = RoundPolynomials.values-divide F L ω (levelOf w i) g (coinsOf w coins (suc i)) (fair-round i l)
+
+    round-elements : Elements F L g
+    unfolding roundPoly
+    round-elements = Coefficients.elements-fold F L (levelOf w i .fold) (foldCoin w coins i) (correctedOf w f coins i)
+
+    -- domain 0 has as many points as g has coefficients
+    enough : length g ≤ length (domain F ω (levelOf w 0))
+    unfolding domain
+    enough =
+        let x = exponents w (ok .sheet) in
+        let e : x .b ≤ suc (x .a) = omega (arith, x .below) in
+        let n : length (map (point F ω (levelOf w 0)) (range 0 (levelOf w 0 .size))) ≡ getD w 1 0 =
+        length-map (range 0 (levelOf w 0 .size)) (point F ω (levelOf w 0)) ∙ DecidingAccepts.range-length 0 (levelOf w 0 .size) ∙ undivided (getD w 1 0) 2 in
+        omega (arith, round-length (suc i) (omega arith), div-le-self (getD w 2 0) (getD w 3 0 ^ suc i), n, x .degree, x .size, pow-mono e)
+
+    pub coefficients-divide : g ≡ addPoly F (answerPoly w f coins (suc i)) (mulPoly F (vanishingPoly w f coins (suc i)) (quotientPoly w f coins (suc i)))
+    unfolding quotientPoly vanishingPoly answerPoly samplesAt pairsOf
+    coefficients-divide =
+        RoundPolynomials.coefficients-divide F L ω (levelOf w i) g (coinsOf w coins (suc i)) (fair-round i l) (round-length (suc i) (omega arith)) (domain F ω (levelOf w 0))
+        (domain-apart F L ω (signs-differ (sheetOf w .prime) (sheetReady ok .large)) (sheetReady ok .e) (sheetReady ok .root) (levelOf w 0) (sized w long (ok .sheet) 0 (omega arith)))
+        enough round-elements
+
+    pub passes-through : All (λ p. evaluate F (answerPoly w f coins (suc i)) (p .point) ≡ p .value) (pairsOf w f coins (suc i))
+    unfolding answerPoly samplesAt pairsOf
+    passes-through = RoundPolynomials.passes-through F L ω (levelOf w i) g (coinsOf w coins (suc i)) (fair-round i l)
+
+    pub only-answer : (q : List ℕ) → length q ≡ length (samplesAt w f coins (suc i)) → Elements F L q → All (λ p. evaluate F q (p .point) ≡ p .value) (samplesAt w f coins (suc i)) →
+        q ≡ answerPoly w f coins (suc i)
+    unfolding answerPoly samplesAt pairsOf
+    only-answer = RoundPolynomials.only-answer F L ω (levelOf w i) g (coinsOf w coins (suc i)) (fair-round i l)
