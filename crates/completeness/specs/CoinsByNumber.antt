@@ -13,7 +13,7 @@ use Rattle.definition.specs.Layout.{laterCount, readCoins, readFinals, readRoun
 use Rattle.definition.specs.Lists.{range}
 use Rattle.definition.specs.Sheet.{Level, firstLevel, laterLevels, sheetOf}
 
-drop-take : {A : Type 0} (n m : ℕ) (l : List A) → drop n (take (n + m) l) ≡ take m (drop n l)
+pub drop-take : {A : Type 0} (n m : ℕ) (l : List A) → drop n (take (n + m) l) ≡ take m (drop n l)
 drop-take zero m l = ap (λ (k : ℕ). take k l) (zero-add m)
 drop-take (suc n) m [] = ap (drop (suc n)) (take-nil (suc n + m)) ∙ sym (take-nil m)
 drop-take (suc n) m (x ∷ l) = ap (λ (k : ℕ). drop (suc n) (take k (x ∷ l))) (suc-add n m) ∙ drop-take n m l

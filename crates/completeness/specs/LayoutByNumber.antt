@@ -20,7 +20,7 @@ coins-length p q = ap length (coins-append p q) ∙ length-append (coinKinds p) 
 no-coins : (n : ℕ) → length (coinKinds (replicate n message)) ≡ 0
 no-coins n = ap length (coins-messages n)
 
-opened : {A : Type 0} (t o p q x : List A) → (t ++ (o ++ (p ++ q))) ++ x ≡ (t ++ o) ++ (p ++ (q ++ x))
+pub opened : {A : Type 0} (t o p q x : List A) → (t ++ (o ++ (p ++ q))) ++ x ≡ (t ++ o) ++ (p ++ (q ++ x))
 opened t o p q x = simp append-assoc
 
 module _ (w : List ℕ) where

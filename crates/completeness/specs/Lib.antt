@@ -27,3 +27,5 @@ pub mod LayoutByNumber
 pub mod RoundPolynomials
 pub mod DomainsByNumber
 pub mod RunByNumber
+pub mod StreamByNumber
+pub mod NonAnticipation
