@@ -29,3 +29,4 @@ pub mod DomainsByNumber
 pub mod RunByNumber
 pub mod StreamByNumber
 pub mod NonAnticipation
+pub mod FunctionsByNumber
