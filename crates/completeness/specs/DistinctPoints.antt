@@ -1,14 +1,14 @@
 -- The samples that `distinct` keeps: their points are pairwise different, there are no more of them than were given, and each point that was given is among them.
-use Prim.Native.Nat.{ℕ, suc, _≤_, zero-le, suc-le-suc}
+use Prim.Native.Nat.{ℕ, suc, _≤_, _<_, zero-le, suc-le-suc}
 use native.Mathlib.Omega.{arith}
 use mathlib.Core.Path.{_≡_, refl, sym, ap, _∙_, subst}
 use mathlib.Core.Bool.{Bool, true, false, cond, _||_, true≢false}
 use mathlib.Core.List.{List, [], _∷_}
-use lib.ListN.{length}
+use lib.ListN.{length, getD}
 use Rattle.algebra.specs.Different.{Apart, Differ}
 use Rattle.algebra.specs.Interpolation.{all-of-points}
 use Rattle.algebra.specs.Laws.{FieldLaws}
-use Rattle.algebra.specs.ListFacts.{All, all-map₂}
+use Rattle.algebra.specs.ListFacts.{All, all-map, all-map₂}
 use Rattle.algebra.specs.RingLaws.{sub-zero}
 use Rattle.definition.specs.Field.{Field}
 use Rattle.definition.specs.Polynomial.{Sample, distinct, points, sampledAt}
@@ -88,3 +88,12 @@ module _ {A : Type 0} (F : Field A) (L : FieldLaws F) where
           (All (λ q. P (q .point)) (distinct F ps) → All (λ q. P (q .point)) ps) → P (p .point) × All (λ q. P (q .point)) ps
       go true e k r = (sampled-holds P (p .point) ps e (r k), r k)
       go false e k r = (k .0, r (k .1))
+
+  -- every point given is the point of a sample kept, by place
+  places : (d : A) (ps : List (Sample A)) → All (λ p. (a : ℕ) × (a < length ps) × (getD (points ps) a d ≡ p .point)) ps
+  unfolding points
+  places d [] = tt
+  places d (p ∷ ps) = ((0, omega arith, refl), all-map ps (places d ps) (λ q k. (suc (k .0), omega (arith, k .1), k .2)))
+
+  pub kept-places : (d : A) (ps : List (Sample A)) → All (λ p. (a : ℕ) × (a < length (distinct F ps)) × (getD (points (distinct F ps)) a d ≡ p .point)) ps
+  kept-places d ps = kept-holds (λ x. (a : ℕ) × (a < length (distinct F ps)) × (getD (points (distinct F ps)) a d ≡ x)) ps (places d (distinct F ps))

@@ -12,7 +12,7 @@ use Rattle.completeness.specs.Allowed.{equal-passes}
 use Rattle.completeness.specs.Domains
 use Rattle.completeness.specs.Domains.{Roots}
 use Rattle.completeness.specs.LevelsByNumber.{level-first, levels-later}
-use Rattle.completeness.specs.Numbered.{fieldOf, levelOf, outsOf, roundsOf, ωOf}
+use Rattle.completeness.specs.Numbered.{sheetField, levelOf, outsOf, roundsOf, sheetRoot}
 use Rattle.completeness.specs.Ready.{Ready, ready}
 use Rattle.completeness.specs.SheetFacts.{Chain, Sized}
 use Rattle.completeness.specs.SheetLevels.{Step, Steps}
@@ -62,23 +62,23 @@ module _ (w : List ℕ) (long : length w ≡ 12) (passed : sheetTest w ≡ accep
 
   -- Domains, by level number.
   abbrev F : Field ℕ
-  F = fieldOf w
+  F = sheetField w
 
-  abbrev signs : minusOne (fieldOf w) ≡ fieldOf w .𝟙 → ⊥
+  abbrev signs : minusOne (sheetField w) ≡ sheetField w .𝟙 → ⊥
   signs = signs-differ (sheetOf w .prime) (r .large)
 
   pub points-different : (i a b : ℕ) → i ≤ roundsOf w → a < levelOf w i .size → b < levelOf w i .size →
-      point F (ωOf w) (levelOf w i) a ≡ point F (ωOf w) (levelOf w i) b → a ≡ b
-  points-different i a b l = Domains.same-point F (r .laws) (ωOf w) signs (r .e) (r .root) (levelOf w i) (sized i l) a b
+      point F (sheetRoot w) (levelOf w i) a ≡ point F (sheetRoot w) (levelOf w i) b → a ≡ b
+  points-different i a b l = Domains.same-point F (r .laws) (sheetRoot w) signs (r .e) (r .root) (levelOf w i) (sized i l) a b
 
-  pub roots-of-shift : (i j : ℕ) → i ≤ roundsOf w → j < shiftCount (levelOf w i) → Roots F (ωOf w) (levelOf w i) j
-  roots-of-shift i j l = Domains.roots F (r .laws) (ωOf w) signs (r .e) (r .root) (levelOf w i) j (sized i l)
+  pub roots-of-shift : (i j : ℕ) → i ≤ roundsOf w → j < shiftCount (levelOf w i) → Roots F (sheetRoot w) (levelOf w i) j
+  roots-of-shift i j l = Domains.roots F (r .laws) (sheetRoot w) signs (r .e) (r .root) (levelOf w i) j (sized i l)
 
   pub shifts-different : (i a b : ℕ) → i ≤ roundsOf w → a < shiftCount (levelOf w i) → b < shiftCount (levelOf w i) →
-      shiftPoint F (ωOf w) (levelOf w i) a ≡ shiftPoint F (ωOf w) (levelOf w i) b → a ≡ b
-  shifts-different i a b l = Domains.same-shift F (r .laws) (ωOf w) signs (r .e) (r .root) (levelOf w i) (sized i l) a b
+      shiftPoint F (sheetRoot w) (levelOf w i) a ≡ shiftPoint F (sheetRoot w) (levelOf w i) b → a ≡ b
+  shifts-different i a b l = Domains.same-shift F (r .laws) (sheetRoot w) signs (r .e) (r .root) (levelOf w i) (sized i l) a b
 
-  pub shifts-off-domain : (i m j : ℕ) → i < roundsOf w → point F (ωOf w) (levelOf w (suc i)) m ≡ shiftPoint F (ωOf w) (levelOf w i) j → ⊥
+  pub shifts-off-domain : (i m j : ℕ) → i < roundsOf w → point F (sheetRoot w) (levelOf w (suc i)) m ≡ shiftPoint F (sheetRoot w) (levelOf w i) j → ⊥
   shifts-off-domain i m j l e =
-      Domains.never-meet F (r .laws) (ωOf w) signs (r .e) (r .root) (sheetOf w .outCoins) (levelOf w i) (levelOf w (suc i)) m j (step i l)
-      (ap (λ (x : ℕ). F ._⊖_ x (shiftPoint F (ωOf w) (levelOf w i) j)) e ∙ sub-self F (r .laws) (shiftPoint F (ωOf w) (levelOf w i) j))
+      Domains.never-meet F (r .laws) (sheetRoot w) signs (r .e) (r .root) (sheetOf w .outCoins) (levelOf w i) (levelOf w (suc i)) m j (step i l)
+      (ap (λ (x : ℕ). F ._⊖_ x (shiftPoint F (sheetRoot w) (levelOf w i) j)) e ∙ sub-self F (r .laws) (shiftPoint F (sheetRoot w) (levelOf w i) j))

@@ -42,6 +42,11 @@ pub chain-head : (a : ℕ) (b : Level) (ls : List Level) → Chain a b ls → Si
 chain-head a b [] h = h
 chain-head a b (l ∷ ls) h = h .0
 
+-- a word below p is an element
+pub reduced : (p : ℕ) (L : FieldLaws (primeField p)) (x : ℕ) → x < p → L .reduce x ≡ x
+unfolding primeField
+reduced p L x l = sym (L .mul-one x) ∙ ap (λ (y : ℕ). y % p) (Nat.mul-one x) ∙ mod-eq-of-lt l
+
 module _ (h : Sheet) (L : FieldLaws (primeField (h .prime))) (signs : minusOne (primeField (h .prime)) ≡ primeField (h .prime) .𝟙 → ⊥)
     (e : ℕ) (root : power (primeField (h .prime)) (rootOfUnity h) (2 ^ e) ≡ minusOne (primeField (h .prime))) where
   abbrev F : Field ℕ
@@ -49,11 +54,6 @@ module _ (h : Sheet) (L : FieldLaws (primeField (h .prime))) (signs : minusOne (
 
   abbrev ω : ℕ
   ω = rootOfUnity h
-
-  -- a word below p is an element
-  reduced : (x : ℕ) → x < h .prime → L .reduce x ≡ x
-  unfolding primeField
-  reduced x l = sym (L .mul-one x) ∙ ap (λ (y : ℕ). y % h .prime) (Nat.mul-one x) ∙ mod-eq-of-lt l
 
   not-in-list : (x : ℕ) (ys : List ℕ) → inList F ω x ys ≡ false → All (λ y. F .equal x y ≡ false) ys
   unfolding inList
@@ -72,7 +72,7 @@ module _ (h : Sheet) (L : FieldLaws (primeField (h .prime))) (signs : minusOne (
       let apart = all-at (λ j. F .equal x (point F ω l j) ≡ false) 0 (l .size)
       (all-in-map (λ y. F .equal x y ≡ false) (point F ω l) (range 0 (l .size)) (not-in-list x (map (point F ω l) (range 0 (l .size))) (p .1))) m hm in
       Different.differ-sym F L x (point F ω l m)
-      (DistinctPoints.unequal-differ F L x (point F ω l m) (reduced x (in-range h (out l) x p)) (RingLaws.reduce-power F L ω _)
+      (DistinctPoints.unequal-differ F L x (point F ω l m) (reduced (h .prime) L x (in-range h (out l) x p)) (RingLaws.reduce-power F L ω _)
       (subst (λ (j : ℕ). F .equal x (point F ω l j) ≡ false) (Nat.zero-add m) apart))
 
   fair-round : (s : ℕ) (b l : Level) (outs v : List ℕ) → l .degree ≡ b .degree / b .fold → Sized (suc e) l → Step s b l →
@@ -84,7 +84,7 @@ module _ (h : Sheet) (L : FieldLaws (primeField (h .prime))) (signs : minusOne (
       let t = each-later (Passes h) (b .repetitions) (shiftCount b) v hv in
       record {
         indices = all-map (drop 2 v) (t .1) (λ j p. in-range h (index (shiftCount b)) j p);
-        elements = all-map outs (o .1) (λ x p. reduced x (in-range h (out l) x p));
+        elements = all-map outs (o .1) (λ x p. reduced (h .prime) L x (in-range h (out l) x p));
         off = λ m hm. all-append _ outs _ (all-map outs (o .1) (λ x p. out-off l m x hm p))
             (all-of-map _ (shiftPoint F ω b) (drop 2 v) (all-map (drop 2 v) (t .1) (λ j p. never-meet (primeField (h .prime)) L (rootOfUnity h) signs e root s b l m j st)));
         degree = eq;

@@ -5,11 +5,10 @@ use mathlib.Core.Path.{_≡_, refl, sym, ap, _∙_, subst}
 use mathlib.Core.List.{List, _++_}
 use lib.ListN.{length, getD}
 use Rattle.algebra.specs.ListFacts.{All, all-map}
-use Rattle.completeness.specs.Allowed.{Allowed}
 use Rattle.completeness.specs.Completeness.{sheetReady}
 use Rattle.completeness.specs.DecidingAccepts
 use Rattle.completeness.specs.DecidingAccepts.{Agrees}
-use Rattle.completeness.specs.Numbered.{coinsOf, correctedOf, fieldOf, foldCoin, functionOf, levelOf, replies, roundOf, roundPoly, roundsOf, table, wordsIn, ωOf}
+use Rattle.completeness.specs.Numbered.{Allowed, coinsOf, correctedOf, sheetField, foldCoin, functionOf, levelOf, replies, roundOf, roundPoly, roundsOf, table, wordsIn, sheetRoot}
 use Rattle.completeness.specs.RunByNumber.{corrected-length, fair-round, level-folds}
 use Rattle.completeness.specs.StreamByNumber.{message-words, messageOf}
 use Rattle.definition.specs.Deciding.{answers, nextFunction, tableFunction}
@@ -24,7 +23,7 @@ module _ {w f coins : List ℕ} (ok : Allowed w f coins) (z : List ℕ) where
   stream = honestStream w f coins ++ z
 
   -- round i + 1 as it stands in the stream is the honest round
-  round-stands : (i : ℕ) → i < roundsOf w → roundOf w coins stream (suc i) ≡ honestRound (fieldOf w) (ωOf w) (roundPoly w f coins (suc i)) (coinsOf w coins (suc i))
+  round-stands : (i : ℕ) → i < roundsOf w → roundOf w coins stream (suc i) ≡ honestRound (sheetField w) (sheetRoot w) (roundPoly w f coins (suc i)) (coinsOf w coins (suc i))
   unfolding honestRound messageOf
   round-stands i l = λ x. record {
     coins = coinsOf w coins (suc i);
@@ -32,12 +31,12 @@ module _ {w f coins : List ℕ} (ok : Allowed w f coins) (z : List ℕ) where
     replies = message-words ok z (replies (suc i)) (omega arith, l) x;
   }
 
-  pub function-agrees : (i : ℕ) → i ≤ roundsOf w → Agrees (fieldOf w) (ωOf w) (levelOf w i) (functionOf w coins stream i) (correctedOf w f coins i)
+  pub function-agrees : (i : ℕ) → i ≤ roundsOf w → Agrees (sheetField w) (sheetRoot w) (levelOf w i) (functionOf w coins stream i) (correctedOf w f coins i)
   unfolding functionOf correctedOf tableFunction messageOf roundPoly
-  function-agrees zero l = λ m h. ap (λ (t : List ℕ). getD t m (fieldOf w .𝟘)) (message-words ok z (table 0) l) ∙ DecidingAccepts.table-at (fieldOf w) (ωOf w) (levelOf w 0) f m h
+  function-agrees zero l = λ m h. ap (λ (t : List ℕ). getD t m (sheetField w .𝟘)) (message-words ok z (table 0) l) ∙ DecidingAccepts.table-at (sheetField w) (sheetRoot w) (levelOf w 0) f m h
   function-agrees (suc i) l =
-      let F = fieldOf w in
-      let ω = ωOf w in
+      let F = sheetField w in
+      let ω = sheetRoot w in
       let L = sheetReady ok .laws in
       let b = levelOf w i in
       let o = functionOf w coins stream i in
@@ -54,7 +53,7 @@ module _ {w f coins : List ℕ} (ok : Allowed w f coins) (z : List ℕ) where
 
   -- and the fold at a shift point, through the k roots, is the folded polynomial's value there, for every fold coin
   pub fold-agrees : (i r j : ℕ) → i ≤ roundsOf w → j < shiftCount (levelOf w i) →
-      foldAt (fieldOf w) (ωOf w) (levelOf w i) (functionOf w coins stream i) r j
-      ≡ evaluate (fieldOf w) (foldPoly (fieldOf w) (levelOf w i .fold) r (correctedOf w f coins i)) (shiftPoint (fieldOf w) (ωOf w) (levelOf w i) j)
+      foldAt (sheetField w) (sheetRoot w) (levelOf w i) (functionOf w coins stream i) r j
+      ≡ evaluate (sheetField w) (foldPoly (sheetField w) (levelOf w i .fold) r (correctedOf w f coins i)) (shiftPoint (sheetField w) (sheetRoot w) (levelOf w i) j)
   fold-agrees i r j l h =
-      DecidingAccepts.fold-agrees (fieldOf w) (sheetReady ok .laws) (ωOf w) (levelOf w i) (correctedOf w f coins i) (functionOf w coins stream i) r j (corrected-length ok i l) (level-folds ok i l) (function-agrees i l) h
+      DecidingAccepts.fold-agrees (sheetField w) (sheetReady ok .laws) (sheetRoot w) (levelOf w i) (correctedOf w f coins i) (functionOf w coins stream i) r j (corrected-length ok i l) (level-folds ok i l) (function-agrees i l) h

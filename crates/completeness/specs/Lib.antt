@@ -1,3 +1,4 @@
+pub mod ByPlace
 pub mod DistinctPoints
 pub mod DecidingAccepts
 pub mod SheetFacts

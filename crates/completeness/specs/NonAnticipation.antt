@@ -6,7 +6,7 @@ use mathlib.Core.List.{List, map}
 use lib.ListN.{getD, take, drop}
 use lib.Seq.{take-take, getD-take}
 use Rattle.completeness.specs.CoinsByNumber.{drop-take}
-use Rattle.completeness.specs.Numbered.{Due, Message, coinCount, coinsBefore, coinsOf, combinationCoin, correctedOf, fieldOf, final, foldCoin, levelOf, outCoinsOf, outsOf, replies, roundPoly, roundsOf, sentBefore, shiftIndices, table, ωOf}
+use Rattle.completeness.specs.Numbered.{Due, Message, coinCount, coinsBefore, coinsOf, combinationCoin, correctedOf, sheetField, final, foldCoin, levelOf, outCoinsOf, outsOf, replies, roundPoly, roundsOf, sentBefore, shiftIndices, table, sheetRoot}
 use Rattle.completeness.specs.StreamByNumber.{messageOf}
 use Rattle.definition.specs.Layout.{laterCount}
 use Rattle.definition.specs.Polynomial.{evaluate, foldPoly}
@@ -50,18 +50,18 @@ module _ (w f c d : List ℕ) where
   same-corrected (suc i) e =
       let n = coinsBefore w (suc i) in
       let a : take n c ≡ take n d = fewer n (coinsBefore w (suc (suc i))) c d (omega arith) e in
-      λ x. nextPoly (fieldOf w) (ωOf w) (levelOf w i) (foldPoly (fieldOf w) (levelOf w i .fold) (same-fold i a x) (same-corrected i a x)) (same-coins i e x)
+      λ x. nextPoly (sheetField w) (sheetRoot w) (levelOf w i) (foldPoly (sheetField w) (levelOf w i .fold) (same-fold i a x) (same-corrected i a x)) (same-coins i e x)
 
   same-round : (i : ℕ) → take (coinsBefore w i) c ≡ take (coinsBefore w i) d → roundPoly w f c i ≡ roundPoly w f d i
   unfolding roundPoly
   same-round zero e = refl
-  same-round (suc i) e = λ x. foldPoly (fieldOf w) (levelOf w i .fold) (same-fold i e x) (same-corrected i e x)
+  same-round (suc i) e = λ x. foldPoly (sheetField w) (levelOf w i .fold) (same-fold i e x) (same-corrected i e x)
 
   -- Each message is settled by the coins before it.
   pub same-message : (m : Message) → take (sentBefore w m) c ≡ take (sentBefore w m) d → messageOf w f c m ≡ messageOf w f d m
   unfolding sentBefore messageOf outCoinsOf
-  same-message (table i) e = ap (tableOf (fieldOf w) (ωOf w) (levelOf w i)) (same-round i e)
+  same-message (table i) e = ap (tableOf (sheetField w) (sheetRoot w) (levelOf w i)) (same-round i e)
   same-message (replies i) e =
       let b = coinsBefore w i in
-      λ x. map (evaluate (fieldOf w) (same-round i (fewer b (b + outsOf w) c d (omega arith) e) x)) (same-run b (outsOf w) (b + outsOf w) c d (omega arith) e x)
+      λ x. map (evaluate (sheetField w) (same-round i (fewer b (b + outsOf w) c d (omega arith) e) x)) (same-run b (outsOf w) (b + outsOf w) c d (omega arith) e x)
   same-message final e = same-round (suc (roundsOf w)) e

@@ -13,13 +13,14 @@ use Rattle.algebra.specs.RootsOfUnity
 use Rattle.algebra.specs.Laws.{FieldLaws}
 use Rattle.algebra.specs.ListFacts.{All, all-append, all-map}
 use Rattle.algebra.specs.RootsOfUnity.{minusOne}
-use Rattle.completeness.specs.Allowed.{Allowed, equal-passes}
+use Rattle.completeness.specs.Allowed.{equal-passes}
 use Rattle.completeness.specs.CoinFacts.{Each}
 use Rattle.completeness.specs.Completeness.{at-none, if-false}
 use Rattle.completeness.specs.EachWord.{each-join, each-none, each-same}
 use Rattle.completeness.specs.FileTrip.{all-replicate}
 use Rattle.completeness.specs.Ready.{Ready, ready}
 use Rattle.completeness.specs.SheetFacts.{Chain, Sized}
+use Rattle.completeness.specs.Numbered.{Allowed}
 use Rattle.definition.specs.Deciding.{outInDomain}
 use Rattle.definition.specs.Domain.{domain, inDomain, inList, point}
 use Rattle.definition.specs.Field.{Field, power, primeField}

@@ -8,10 +8,10 @@ use lib.Dec.{ltb}
 use lib.ListN.{length, take, drop, length-append, length-drop}
 use lib.Seq.{take-at}
 use borrow.Author.Tests.{ltb-false}
-use Rattle.completeness.specs.Allowed.{Allowed, if-passes}
+use Rattle.completeness.specs.Allowed.{if-passes}
 use Rattle.completeness.specs.Completeness.{completeness, honest-length}
 use Rattle.completeness.specs.FileTrip.{file-length}
-use Rattle.completeness.specs.Numbered.{readsDue}
+use Rattle.completeness.specs.Numbered.{Allowed, Room, readsDue}
 use Rattle.definition.specs.Block.{blockCount, fileOf}
 use Rattle.definition.specs.Layout.{coinKinds, layout, wordsDue}
 use Rattle.definition.specs.Prove.{Result, coefficientsTest, coinDomainTest, coinsTest, done, finish, inputRangeTest, outputTest, prove, proveTests, refusal, sheetLengthTest}
@@ -26,10 +26,6 @@ pub then-passes : (a b : Outcome) → (a then b) ≡ accepted → (a ≡ accepte
 unfolding _then_
 then-passes accepted b e = (refl, e)
 then-passes (refused n p) b e = let z : _≡_ {A = ℕ} 0 1 = cc in absurd (omega arith)
-
--- the output holds the blocks due
-abbrev pub Room : List ℕ → List ℕ → Type 0
-Room w output = outputTest (blockCount (wordsDue (sheetOf w))) (512 * blockCount (wordsDue (sheetOf w))) (length output) ≡ accepted
 
 finish-done : (o : Outcome) (count n : ℕ) (written output : List ℕ) → finish o count written output .answer ≡ done n → (o ≡ accepted) × (count ≡ n)
 unfolding finish

@@ -11,36 +11,39 @@ use Rattle.algebra.specs.Lengths
 use Rattle.algebra.specs.Coefficients.{Elements}
 use Rattle.algebra.specs.Different.{Apart}
 use Rattle.algebra.specs.Laws.{FieldLaws}
-use Rattle.algebra.specs.ListFacts.{All}
+use Rattle.algebra.specs.ListFacts.{all-map}
 use Rattle.algebra.specs.PrimeField.{signs-differ}
-use Rattle.completeness.specs.Allowed.{Allowed, allowed-degree, allowed-long}
+use Rattle.completeness.specs.Allowed.{allowed-degree, allowed-long}
+use Rattle.completeness.specs.ByPlace.{all-places, at-place, same-place}
 use Rattle.completeness.specs.CoinsByNumber.{coins-read}
 use Rattle.completeness.specs.Completeness.{fair-coins, sheetReady}
 use Rattle.completeness.specs.DecidingAccepts
 use Rattle.completeness.specs.DecidingAccepts.{Fair, FairRound, Foldable}
+use Rattle.completeness.specs.DistinctPoints.{all-distinct, kept-places}
 use Rattle.completeness.specs.Domains.{domain-apart, foldable}
 use Rattle.completeness.specs.DomainsByNumber.{enough-words, sized}
+use Rattle.completeness.specs.FairCoins.{reduced}
 use Rattle.completeness.specs.LevelsByNumber.{level-first, undivided}
-use Rattle.completeness.specs.Numbered.{answerPoly, coinCount, coinsBefore, coinsOf, correctedOf, fieldOf, finalIndices, foldCoin, levelOf, outsOf, pairsOf, quotientPoly, roundPoly, roundsOf, samplesAt, vanishingPoly, ωOf}
+use Rattle.completeness.specs.Numbered.{Allowed, answerPoly, coinCount, coinsBefore, coinsOf, correctedOf, sheetField, finalIndices, foldCoin, levelOf, pairAt, pairsOf, quotientPoly, roundPoly, roundsOf, samplesAt, vanishingPoly, sheetRoot}
 use Rattle.completeness.specs.RoundPolynomials
 use Rattle.completeness.specs.SheetPassed.{exponents}
 use Rattle.definition.specs.Domain.{domain, point}
 use Rattle.definition.specs.Field.{Field}
 use Rattle.definition.specs.Layout.{readCoins}
 use Rattle.definition.specs.Lists.{range}
-use Rattle.definition.specs.Polynomial.{addPoly, evaluate, foldPoly, mulPoly, points}
+use Rattle.definition.specs.Polynomial.{addPoly, distinct, evaluate, foldPoly, mulPoly, points}
 use Rattle.definition.specs.Prover.{nextPoly}
 use Rattle.definition.specs.Sheet.{Level, finalCount, firstLevel, sheetOf}
 use Rattle.definition.specs.Transcript.{Coins}
 
 -- n rounds past level i
-fair-at : (w coins : List ℕ) (L : FieldLaws (fieldOf w)) (js : List ℕ) (m i n : ℕ) → n < m → Fair (fieldOf w) L (ωOf w) (levelOf w i) (map (coinsOf w coins) (range (suc i) m)) js →
-    FairRound (fieldOf w) L (ωOf w) (levelOf w (i + n)) (coinsOf w coins (suc (i + n)))
+fair-at : (w coins : List ℕ) (L : FieldLaws (sheetField w)) (js : List ℕ) (m i n : ℕ) → n < m → Fair (sheetField w) L (sheetRoot w) (levelOf w i) (map (coinsOf w coins) (range (suc i) m)) js →
+    FairRound (sheetField w) L (sheetRoot w) (levelOf w (i + n)) (coinsOf w coins (suc (i + n)))
 unfolding range
 fair-at w coins L js zero i n l h = absurd (omega arith)
-fair-at w coins L js (suc m) i zero l h = subst (λ (j : ℕ). FairRound (fieldOf w) L (ωOf w) (levelOf w j) (coinsOf w coins (suc j))) (sym (add-zero i)) (h .0)
+fair-at w coins L js (suc m) i zero l h = subst (λ (j : ℕ). FairRound (sheetField w) L (sheetRoot w) (levelOf w j) (coinsOf w coins (suc j))) (sym (add-zero i)) (h .0)
 fair-at w coins L js (suc m) i (suc n) l h =
-    subst (λ (j : ℕ). FairRound (fieldOf w) L (ωOf w) (levelOf w j) (coinsOf w coins (suc j))) (suc-add i n ∙ sym (add-suc i n)) (fair-at w coins L js m (suc i) n (omega arith) (h .1))
+    subst (λ (j : ℕ). FairRound (sheetField w) L (sheetRoot w) (levelOf w j) (coinsOf w coins (suc j))) (suc-add i n ∙ sym (add-suc i n)) (fair-at w coins L js m (suc i) n (omega arith) (h .1))
 
 first-length : (w f : List ℕ) {coins : List ℕ} → Allowed w f coins → length f ≡ levelOf w 0 .degree
 unfolding sheetOf
@@ -48,12 +51,12 @@ first-length w f ok = allowed-degree ok ∙ sym (undivided (getD w 2 0) (getD w 
 
 module _ {w f coins : List ℕ} (ok : Allowed w f coins) where
   abbrev F : Field ℕ
-  F = fieldOf w
+  F = sheetField w
 
   abbrev ω : ℕ
-  ω = ωOf w
+  ω = sheetRoot w
 
-  abbrev L : FieldLaws (fieldOf w)
+  abbrev L : FieldLaws (sheetField w)
   L = sheetReady ok .laws
 
   abbrev long : length w ≡ 12
@@ -111,7 +114,7 @@ module _ {w f coins : List ℕ} (ok : Allowed w f coins) where
     unfolding quotientPoly answerPoly samplesAt pairsOf
     quotient-length = RoundPolynomials.quotient-length F L ω (levelOf w i) g (coinsOf w coins (suc i)) (fair-round i l) (round-length (suc i) (omega arith))
 
-    pub samples-apart : Apart F (points (samplesAt w f coins (suc i)))
+    samples-apart : Apart F (points (samplesAt w f coins (suc i)))
     unfolding samplesAt pairsOf
     samples-apart = RoundPolynomials.samples-apart F L ω (levelOf w i) g (coinsOf w coins (suc i)) (fair-round i l)
 
@@ -141,11 +144,27 @@ module _ {w f coins : List ℕ} (ok : Allowed w f coins) where
         (domain-apart F L ω (signs-differ (sheetOf w .prime) (sheetReady ok .large)) (sheetReady ok .e) (sheetReady ok .root) (levelOf w 0) (sized w long (ok .sheet) 0 (omega arith)))
         enough round-elements
 
-    pub passes-through : All (λ p. evaluate F (answerPoly w f coins (suc i)) (p .point) ≡ p .value) (pairsOf w f coins (suc i))
+    -- A passes through pair j of G's list, and is the only polynomial with e coefficients, all elements, that passes through all pairs
+    pub passes-through : (j : ℕ) → j < length (pairsOf w f coins (suc i)) → evaluate F (answerPoly w f coins (suc i)) (pairAt w f coins (suc i) j .point) ≡ pairAt w f coins (suc i) j .value
     unfolding answerPoly samplesAt pairsOf
-    passes-through = RoundPolynomials.passes-through F L ω (levelOf w i) g (coinsOf w coins (suc i)) (fair-round i l)
+    passes-through = at-place (λ p. evaluate F (answerPoly w f coins (suc i)) (p .point) ≡ p .value) (pairsOf w f coins (suc i)) _ (RoundPolynomials.passes-through F L ω (levelOf w i) g (coinsOf w coins (suc i)) (fair-round i l))
 
-    pub only-answer : (q : List ℕ) → length q ≡ length (samplesAt w f coins (suc i)) → Elements F L q → All (λ p. evaluate F q (p .point) ≡ p .value) (samplesAt w f coins (suc i)) →
-        q ≡ answerPoly w f coins (suc i)
+    pub only-answer : (q : List ℕ) → length q ≡ length (samplesAt w f coins (suc i)) → ((j : ℕ) → j < length q → getD q j 0 < sheetOf w .prime) →
+        ((j : ℕ) → j < length (pairsOf w f coins (suc i)) → evaluate F q (pairAt w f coins (suc i) j .point) ≡ pairAt w f coins (suc i) j .value) → q ≡ answerPoly w f coins (suc i)
     unfolding answerPoly samplesAt pairsOf
-    only-answer = RoundPolynomials.only-answer F L ω (levelOf w i) g (coinsOf w coins (suc i)) (fair-round i l)
+    only-answer q n e h =
+        RoundPolynomials.only-answer F L ω (levelOf w i) g (coinsOf w coins (suc i)) (fair-round i l) q n
+        (all-map q (all-places (λ x. x < sheetOf w .prime) q 0 e) (λ x u. reduced (sheetOf w .prime) L x u))
+        (all-distinct F (λ p. evaluate F q (p .point) ≡ p .value) (pairsOf w f coins (suc i)) (all-places (λ p. evaluate F q (p .point) ≡ p .value) (pairsOf w f coins (suc i)) _ h))
+
+    -- e is the number of different points: the points of G are different, and each point of G's list is one of them
+    pub samples-different : (a b : ℕ) → a < length (samplesAt w f coins (suc i)) → b < length (samplesAt w f coins (suc i)) →
+        getD (points (samplesAt w f coins (suc i))) a 0 ≡ getD (points (samplesAt w f coins (suc i))) b 0 → a ≡ b
+    samples-different a b la lb =
+        let n = Lengths.length-points F (samplesAt w f coins (suc i)) in
+        same-place F L (points (samplesAt w f coins (suc i))) 0 samples-apart a b (omega (arith, n)) (omega (arith, n))
+
+    pub pairs-sampled : (j : ℕ) → j < length (pairsOf w f coins (suc i)) →
+        (a : ℕ) × (a < length (samplesAt w f coins (suc i))) × (getD (points (samplesAt w f coins (suc i))) a 0 ≡ pairAt w f coins (suc i) j .point)
+    unfolding samplesAt
+    pairs-sampled = at-place (λ p. (a : ℕ) × (a < length (distinct F (pairsOf w f coins (suc i)))) × (getD (points (distinct F (pairsOf w f coins (suc i)))) a 0 ≡ p .point)) (pairsOf w f coins (suc i)) _ (kept-places F L 0 (pairsOf w f coins (suc i)))

@@ -2,17 +2,19 @@
 use Prim.Native.Nat.{ℕ, zero, suc, _+_, _-_, _≤_, _<_}
 use native.Mathlib.Nat
 use native.Mathlib.Omega.{arith}
-use mathlib.Core.Path.{_≡_, refl, sym, ap, _∙_}
-use mathlib.Core.List.{List, [], _∷_, _++_, map, append-assoc}
+use mathlib.Core.Path.{_≡_, refl, sym, ap, _∙_, subst}
+use mathlib.Core.List.{List, [], _∷_, _++_, map, append-assoc, append-nil}
 use lib.ListN.{length, getD, take, drop, length-append, length-map, length-take, length-drop}
 use lib.Seq.{take-at, drop-at, drop-append-add, getD-take, getD-drop}
-use Rattle.completeness.specs.Allowed.{Allowed, allowed-count, allowed-long}
+use Rattle.completeness.specs.Allowed.{allowed-count, allowed-long}
 use Rattle.completeness.specs.CoinsByNumber.{coins-read}
+use Rattle.completeness.specs.Completeness.{honest-words}
 use Rattle.completeness.specs.DecidingAccepts.{range-length, table-at}
 use Rattle.completeness.specs.DomainsByNumber.{enough-words}
+use Rattle.completeness.specs.FileTrip.{file-stream, filled}
 use Rattle.completeness.specs.LayoutByNumber.{coins-due, opened}
 use Rattle.completeness.specs.LevelsByNumber.{level-first}
-use Rattle.completeness.specs.Numbered.{Due, Message, coinCount, coinsBefore, coinsOf, combinationCoin, correctedOf, fieldOf, final, finalIndices, foldCoin, lengthOf, levelOf, outCoinsOf, outsOf, replies, roundPoly, roundStart, roundsOf, shiftIndices, startOf, table, wordCount, wordsIn, ωOf}
+use Rattle.completeness.specs.Numbered.{Allowed, Copy, Due, Message, coinCount, coinsBefore, coinsOf, combinationCoin, correctedOf, sheetField, final, finalIndices, foldCoin, lengthOf, levelOf, outCoinsOf, outsOf, read, replies, roundPoly, roundStart, roundsOf, shiftIndices, startOf, streamOn, table, wordCount, wordsIn, written, sheetRoot}
 use Rattle.completeness.specs.Parts.{firsts, firsts-length, joined, split-joined}
 use Rattle.completeness.specs.RunByNumber.{folded-length}
 use Rattle.definition.specs.Domain.{domain, point}
@@ -34,27 +36,27 @@ unfolding coinsBefore
 coins-grow w i zero = let e : i + 0 ≡ i = omega arith in rw e (omega arith)
 coins-grow w i (suc m) = let e : i + suc m ≡ suc (i + m) = omega arith in rw e (omega (arith, coins-grow w i m))
 
-pub table-length : (w : List ℕ) (l : Level) (f : List ℕ) → length (tableOf (fieldOf w) (ωOf w) l f) ≡ l .size
+pub table-length : (w : List ℕ) (l : Level) (f : List ℕ) → length (tableOf (sheetField w) (sheetRoot w) l f) ≡ l .size
 unfolding tableOf domain
 table-length w l f =
-    length-map (map (point (fieldOf w) (ωOf w) l) (range 0 (l .size))) (evaluate (fieldOf w) f) ∙ length-map (range 0 (l .size)) (point (fieldOf w) (ωOf w) l) ∙ range-length 0 (l .size)
+    length-map (map (point (sheetField w) (sheetRoot w) l) (range 0 (l .size))) (evaluate (sheetField w) f) ∙ length-map (range 0 (l .size)) (point (sheetField w) (sheetRoot w) l) ∙ range-length 0 (l .size)
 
 module _ (w f coins : List ℕ) where
   -- what follows table i in its round
   afterTable : ℕ → List ℕ
   afterTable zero = foldCoin w coins 0 ∷ []
   afterTable (suc i) =
-      outCoinsOf w coins (suc i) ++ (map (evaluate (fieldOf w) (roundPoly w f coins (suc i))) (outCoinsOf w coins (suc i))
+      outCoinsOf w coins (suc i) ++ (map (evaluate (sheetField w) (roundPoly w f coins (suc i))) (outCoinsOf w coins (suc i))
       ++ (combinationCoin w coins (suc i) ∷ foldCoin w coins (suc i) ∷ shiftIndices w coins (suc i)))
 
   roundPart : ℕ → List ℕ
-  roundPart i = tableOf (fieldOf w) (ωOf w) (levelOf w i) (roundPoly w f coins i) ++ afterTable i
+  roundPart i = tableOf (sheetField w) (sheetRoot w) (levelOf w i) (roundPoly w f coins i) ++ afterTable i
 
   lastPart : List ℕ
   lastPart = roundPoly w f coins (suc (roundsOf w)) ++ finalIndices w coins
 
   rest-parts : (m i : ℕ) → i + m ≡ roundsOf w →
-      restWords (honestRest (fieldOf w) (ωOf w) (levelOf w i) (correctedOf w f coins i) (foldCoin w coins i) (map (coinsOf w coins) (range (suc i) m)) (finalIndices w coins))
+      restWords (honestRest (sheetField w) (sheetRoot w) (levelOf w i) (correctedOf w f coins i) (foldCoin w coins i) (map (coinsOf w coins) (range (suc i) m)) (finalIndices w coins))
       ≡ joined roundPart lastPart (suc i) m
   unfolding restWords honestRest honestRound roundWords range joined roundPart afterTable lastPart roundPoly correctedOf
   rest-parts zero i e = let q : i ≡ roundsOf w = omega arith in ap (λ (n : ℕ). roundPoly w f coins (suc n) ++ finalIndices w coins) q
@@ -63,16 +65,16 @@ module _ (w f coins : List ℕ) where
   stream-parts : 7 + roundsOf w ≤ length w → honestStream w f coins ≡ w ++ joined roundPart lastPart 0 (suc (roundsOf w))
   unfolding honestStream transcriptWords honest joined roundPart afterTable roundPoly correctedOf
   stream-parts l =
-      let F = fieldOf w in
-      let ω = ωOf w in
+      let F = sheetField w in
+      let ω = sheetRoot w in
       (λ x. w ++ transcriptWords (honest F ω (level-first w x) f (coins-read w coins l x)))
       ∙ ap (λ (t : List ℕ). w ++ (tableOf F ω (levelOf w 0) f ++ (foldCoin w coins 0 ∷ t))) (rest-parts (roundsOf w) 0 (omega arith))
       ∙ ap (λ (t : List ℕ). w ++ t) (sym (append-assoc (tableOf F ω (levelOf w 0) f) (foldCoin w coins 0 ∷ []) _))
 
 -- the words of a message, as the prover works them out
 unfoldable pub messageOf : List ℕ → List ℕ → List ℕ → Message → List ℕ
-messageOf w f coins (table i) = tableOf (fieldOf w) (ωOf w) (levelOf w i) (roundPoly w f coins i)
-messageOf w f coins (replies i) = map (evaluate (fieldOf w) (roundPoly w f coins i)) (outCoinsOf w coins i)
+messageOf w f coins (table i) = tableOf (sheetField w) (sheetRoot w) (levelOf w i) (roundPoly w f coins i)
+messageOf w f coins (replies i) = map (evaluate (sheetField w) (roundPoly w f coins i)) (outCoinsOf w coins i)
 messageOf w f coins final = roundPoly w f coins (suc (roundsOf w))
 
 module _ {w f coins : List ℕ} (ok : Allowed w f coins) where
@@ -106,12 +108,12 @@ module _ {w f coins : List ℕ} (ok : Allowed w f coins) where
 
   part-length : (i : ℕ) → i ≤ M → length (roundPart w f coins i) ≡ wordCount w i
   unfolding roundPart afterTable wordCount laterCount
-  part-length zero l = length-append (tableOf (fieldOf w) (ωOf w) (levelOf w 0) (roundPoly w f coins 0)) _ ∙ ap (λ (n : ℕ). n + 1) (table-length w (levelOf w 0) (roundPoly w f coins 0))
+  part-length zero l = length-append (tableOf (sheetField w) (sheetRoot w) (levelOf w 0) (roundPoly w f coins 0)) _ ∙ ap (λ (n : ℕ). n + 1) (table-length w (levelOf w 0) (roundPoly w f coins 0))
   part-length (suc i) l =
       let g = roundPoly w f coins (suc i) in
-      let t = tableOf (fieldOf w) (ωOf w) (levelOf w (suc i)) g in
+      let t = tableOf (sheetField w) (sheetRoot w) (levelOf w (suc i)) g in
       let o = outCoinsOf w coins (suc i) in
-      let p = map (evaluate (fieldOf w) g) o in
+      let p = map (evaluate (sheetField w) g) o in
       let q = combinationCoin w coins (suc i) ∷ foldCoin w coins (suc i) ∷ shiftIndices w coins (suc i) in
       omega (
         arith,
@@ -119,7 +121,7 @@ module _ {w f coins : List ℕ} (ok : Allowed w f coins) where
         length-append o (p ++ q),
         length-append p q,
         table-length w (levelOf w (suc i)) g,
-        length-map o (evaluate (fieldOf w) g),
+        length-map o (evaluate (sheetField w) g),
         outs-length i (omega arith),
         shifts-length i (omega arith),
       )
@@ -142,22 +144,22 @@ module _ {w f coins : List ℕ} (ok : Allowed w f coins) where
     pub message-words : (m : Message) → Due w m → wordsIn (honestStream w f coins ++ z) w m ≡ messageOf w f coins m
     unfolding wordsIn startOf lengthOf messageOf joined roundPart afterTable lastPart
     message-words (table i) l =
-        let t = tableOf (fieldOf w) (ωOf w) (levelOf w i) (roundPoly w f coins i) in
+        let t = tableOf (sheetField w) (sheetRoot w) (levelOf w i) (roundPoly w f coins i) in
         ap (take (levelOf w i .size)) (ap (λ (n : ℕ). drop n (honestStream w f coins ++ z)) (sym (Nat.add-zero (roundStart w i))) ∙ stream-after i (suc (M - i)) 0 (omega arith)
         ∙ ap (λ (x : List ℕ). x ++ z) (append-assoc t _ _) ∙ append-assoc t _ z)
         ∙ take-at t _ (levelOf w i .size) (table-length w (levelOf w i) (roundPoly w f coins i))
     message-words (replies zero) l = absurd (omega (arith, l .0))
     message-words (replies (suc i)) l =
         let g = roundPoly w f coins (suc i) in
-        let t = tableOf (fieldOf w) (ωOf w) (levelOf w (suc i)) g in
+        let t = tableOf (sheetField w) (sheetRoot w) (levelOf w (suc i)) g in
         let o = outCoinsOf w coins (suc i) in
-        let p = map (evaluate (fieldOf w) g) o in
+        let p = map (evaluate (sheetField w) g) o in
         let n = levelOf w (suc i) .size + s in
         ap (take s) (stream-after (suc i) (suc (M - suc i)) n (omega (arith, l .1))
         ∙ ap (λ (x : List ℕ). drop n (x ++ z)) (opened t o p _ _) ∙ ap (drop n) (append-assoc (t ++ o) _ z)
         ∙ drop-at (t ++ o) _ n (length-append t o ∙ (λ x. table-length w (levelOf w (suc i)) g x + outs-length i (omega (arith, l .1)) x))
         ∙ append-assoc p _ z)
-        ∙ take-at p _ s (length-map o (evaluate (fieldOf w) g) ∙ outs-length i (omega (arith, l .1)))
+        ∙ take-at p _ s (length-map o (evaluate (sheetField w) g) ∙ outs-length i (omega (arith, l .1)))
     message-words final l =
         let g = roundPoly w f coins (suc M) in
         ap (take (finalCount (levelOf w M))) (ap (λ (n : ℕ). drop n (honestStream w f coins ++ z)) (sym (Nat.add-zero (roundStart w (suc M)))) ∙ stream-after (suc M) 0 0 (omega arith) ∙ append-assoc g _ z)
@@ -172,17 +174,23 @@ module _ {w f coins : List ℕ} (ok : Allowed w f coins) where
 
     -- Tables are values.
     pub table-entry : (i j : ℕ) → i ≤ M → j < levelOf w i .size →
-        getD (honestStream w f coins ++ z) (startOf w (table i) + j) 0 ≡ evaluate (fieldOf w) (roundPoly w f coins i) (point (fieldOf w) (ωOf w) (levelOf w i) j)
+        getD (honestStream w f coins ++ z) (startOf w (table i) + j) 0 ≡ evaluate (sheetField w) (roundPoly w f coins i) (point (sheetField w) (sheetRoot w) (levelOf w i) j)
     unfolding messageOf lengthOf primeField
-    table-entry i j d l = entry (table i) j d l ∙ table-at (fieldOf w) (ωOf w) (levelOf w i) (roundPoly w f coins i) j l
+    table-entry i j d l = entry (table i) j d l ∙ table-at (sheetField w) (sheetRoot w) (levelOf w i) (roundPoly w f coins i) j l
 
     pub reply-entry : (i j : ℕ) → 1 ≤ i → i ≤ M → j < s →
-        getD (honestStream w f coins ++ z) (startOf w (replies i) + j) 0 ≡ evaluate (fieldOf w) (roundPoly w f coins i) (getD (outCoinsOf w coins i) j 0)
+        getD (honestStream w f coins ++ z) (startOf w (replies i) + j) 0 ≡ evaluate (sheetField w) (roundPoly w f coins i) (getD (outCoinsOf w coins i) j 0)
     unfolding messageOf lengthOf
     reply-entry zero j a d l = absurd (omega arith)
     reply-entry (suc i) j a d l =
-        entry (replies (suc i)) j (a, d) l ∙ getD-map (evaluate (fieldOf w) (roundPoly w f coins (suc i))) (outCoinsOf w coins (suc i)) j (omega (arith, outs-length i d))
+        entry (replies (suc i)) j (a, d) l ∙ getD-map (evaluate (sheetField w) (roundPoly w f coins (suc i))) (outCoinsOf w coins (suc i)) j (omega (arith, outs-length i d))
 
     pub final-entry : (j : ℕ) → j < lengthOf w final → getD (honestStream w f coins ++ z) (startOf w final + j) 0 ≡ getD (roundPoly w f coins (suc M)) j 0
     unfolding messageOf
     final-entry j l = entry final j tt l
+
+-- what holds whatever follows the stream holds of both its copies
+pub of-both : {w f coins : List ℕ} → Allowed w f coins → (P : List ℕ → Type 0) → ((z : List ℕ) → P (honestStream w f coins ++ z)) → (copy : Copy) → P (streamOn copy w f coins)
+unfolding streamOn filled
+of-both {w} {f} {coins} ok P h written = subst P (append-nil (honestStream w f coins)) (h [])
+of-both {w} {f} {coins} ok P h read = subst P (sym (file-stream (honestStream w f coins) (honest-words ok))) (h _)
