@@ -9,10 +9,10 @@ use lib.Dec.{eqb}
 use lib.ListN.{length, getD, drop, replicate, length-append, length-replicate}
 use lib.Seq.{drop-at}
 use borrow.Author.Tests.{eqb-true, not-false}
-use Rattle.completeness.specs.CoinFacts.{Each, coins-append, coins-messages, each-append-at, each-false}
-use Rattle.completeness.specs.EachWord.{Dealt, dealt, each-pair}
 use Rattle.completeness.specs.FairCoins.{Passes}
 use Rattle.completeness.specs.Numbered.{Allowed}
+use Rattle.completeness.specs.EachWord.{Each, each-append-at, each-false, each-pair}
+use Rattle.completeness.specs.LayoutFacts.{Dealt, coins-append, coins-messages, dealt}
 use Rattle.definition.specs.Deciding.{outInDomain}
 use Rattle.definition.specs.Layout.{Kind, coin, coinKinds, layout, message, restLayout}
 use Rattle.definition.specs.Prove.{coefficientsTest, coinDomainTest, coinsTest, inputRangeTest, sheetLengthTest}
@@ -26,7 +26,7 @@ unfolding refuseIf
 if-passes n p true e = let z : _≡_ {A = ℕ} 0 1 = cc in absurd (omega arith)
 if-passes n p false e = refl
 
-at-passes : (n : ℕ) (o : Option ℕ) → refuseAt n o ≡ accepted → o ≡ none
+pub at-passes : (n : ℕ) (o : Option ℕ) → refuseAt n o ≡ accepted → o ≡ none
 unfolding refuseAt
 at-passes n none e = refl
 at-passes n (some p) e = let z : _≡_ {A = ℕ} 0 1 = cc in absurd (omega arith)

@@ -13,10 +13,8 @@ use borrow.Author.Tests.{eq-eqb, ne-eqb}
 use Rattle.completeness.specs.DecidingAccepts
 use Rattle.algebra.specs.ListFacts.{All, all-append}
 use Rattle.completeness.specs.Allowed.{allowed-degree, allowed-first, allowed-long, allowed-rounds}
-use Rattle.completeness.specs.CoinFacts.{Each}
 use Rattle.completeness.specs.DecidingAccepts.{Fair}
 use Rattle.completeness.specs.Domains.{foldable}
-use Rattle.completeness.specs.EachWord.{each-length, each-map, each-none}
 use Rattle.completeness.specs.FairCoins.{Passes, chain-head, fair, in-range}
 use Rattle.completeness.specs.FileTrip.{Word, file-checks, file-length, file-stream, fillCount, filled}
 use Rattle.completeness.specs.HonestStream.{first-degree, words-each, words-read}
@@ -25,6 +23,7 @@ use Rattle.completeness.specs.Reads.{all-reads, sheet-reads}
 use Rattle.completeness.specs.Ready.{Ready, layout-fits, ready}
 use Rattle.completeness.specs.SheetLevels.{rules-front, sheet-front}
 use Rattle.completeness.specs.SheetPassed.{sheet-words}
+use Rattle.completeness.specs.EachWord.{Each, each-length, each-map, each-none}
 use Rattle.definition.specs.Block.{blockCount, fileOf, streamOf}
 use Rattle.definition.specs.Deciding.{decide, deciding, outInDomain, outTest, ownPlace, readsOf}
 use Rattle.definition.specs.Field.{Field, primeField}

@@ -1,16 +1,21 @@
--- Two lists place by place, the kinds of a layout and the words: how such facts are joined, split and counted.
-use Prim.Native.Nat.{ℕ, zero, suc}
+-- Two lists place by place, the kinds of a layout and the words: how such facts are joined, split and counted, and how a test that finds nothing gives them.
+use Prim.Native.Nat.{ℕ, zero, suc, _+_}
 use native.Mathlib.Omega.{arith}
 use mathlib.Core.Path.{_≡_, refl, ap, subst}
-use mathlib.Core.Bool.{Bool, false}
+use mathlib.Core.Bool.{Bool, true, false}
 use mathlib.Core.List.{List, [], _∷_, _++_, zipWith}
-use mathlib.Core.Option.{none}
-use lib.ListN.{length, take, drop, replicate, length-replicate}
+use mathlib.Core.Option.{Option, none, some}
+use lib.ListN.{length, take, drop, replicate}
 use Rattle.algebra.specs.ListFacts.{All}
-use Rattle.completeness.specs.CoinFacts.{Each, coins-final, coins-round, each-append-at}
-use Rattle.definition.specs.Layout.{Kind, coin, coinKinds, index, laterCount, out, restLayout}
+use Rattle.definition.specs.Layout.{Kind, coin, index}
 use Rattle.definition.specs.Lists.{firstTrue}
-use Rattle.definition.specs.Sheet.{Level, shiftCount}
+
+-- two lists of one length, related place by place
+abbrev pub Each : (Kind → ℕ → Type 0) → List Kind → List ℕ → Type 0
+Each R [] [] = Unit {0}
+Each R [] (x ∷ w) = ⊥
+Each R (k ∷ ks) [] = ⊥
+Each R (k ∷ ks) (x ∷ w) = R k x × Each R ks w
 
 pub each-pair : (P Q : Kind → ℕ → Type 0) (ks : List Kind) (w : List ℕ) → Each P ks w → Each Q ks w → Each (λ k x. P k x × Q k x) ks w
 each-pair P Q [] [] h g = tt
@@ -36,18 +41,48 @@ each-length R [] (x ∷ w) h = absurd h
 each-length R (k ∷ ks) [] h = absurd h
 each-length R (k ∷ ks) (x ∷ w) h = ap suc (each-length R ks w (h .1))
 
--- words of one kind
 pub each-same : (R : Kind → ℕ → Type 0) (n : ℕ) (k : Kind) (w : List ℕ) → length w ≡ n → All (R k) w → Each R (replicate n k) w
 each-same R zero k [] l h = tt
 each-same R zero k (x ∷ w) l h = absurd (omega arith)
 each-same R (suc n) k [] l h = absurd (omega arith)
 each-same R (suc n) k (x ∷ w) l h = (h .0, each-same R n k w (omega arith) (h .1))
 
-pub each-all : (R : Kind → ℕ → Type 0) (P : ℕ → Type 0) (ks : List Kind) (w : List ℕ) → Each R ks w → ((k : Kind) (x : ℕ) → R k x → P x) → All P w
-each-all R P [] [] h g = tt
-each-all R P [] (x ∷ w) h g = absurd h
-each-all R P (k ∷ ks) [] h g = absurd h
-each-all R P (k ∷ ks) (x ∷ w) h g = (g k x (h .0), each-all R P ks w (h .1) g)
+-- both parts of a joined list, cut at the length of the first
+each-append : (R : Kind → ℕ → Type 0) (ks ks′ : List Kind) (w : List ℕ) → Each R (ks ++ ks′) w → Each R ks (take (length ks) w) × Each R ks′ (drop (length ks) w)
+each-append R [] ks′ w h = (tt, h)
+each-append R (k ∷ ks) ks′ [] h = absurd h
+each-append R (k ∷ ks) ks′ (x ∷ w) h = let r = each-append R ks ks′ w (h .1) in ((h .0, r .0), r .1)
+
+pub each-append-at : (R : Kind → ℕ → Type 0) (n : ℕ) (ks ks′ : List Kind) (w : List ℕ) → length ks ≡ n → Each R (ks ++ ks′) w → Each R ks (take n w) × Each R ks′ (drop n w)
+each-append-at R n ks ks′ w e h = subst (λ (m : ℕ). Each R ks (take m w) × Each R ks′ (drop m w)) e (each-append R ks ks′ w h)
+
+-- words of one kind, and the later coins of a round
+pub each-replicate : (R : Kind → ℕ → Type 0) (n : ℕ) (k : Kind) (w : List ℕ) → Each R (replicate n k) w → (length w ≡ n) × All (R k) w
+each-replicate R zero k [] h = (refl, tt)
+each-replicate R zero k (x ∷ w) h = absurd h
+each-replicate R (suc n) k [] h = absurd h
+each-replicate R (suc n) k (x ∷ w) h = let r = each-replicate R n k w (h .1) in (ap suc (r .0), (h .0, r .1))
+
+pub each-later : (R : Kind → ℕ → Type 0) (n m : ℕ) (v : List ℕ) → Each R (coin ∷ coin ∷ replicate n (index m)) v → (length v ≡ 2 + n) × All (R (index m)) (drop 2 v)
+each-later R n m [] h = absurd h
+each-later R n m (a ∷ []) h = absurd (h .1)
+each-later R n m (a ∷ b ∷ v) h = let r = each-replicate R n (index m) v (h .1 .1) in (omega (arith, r .0), r .1)
+
+some≢none : (n : ℕ) → _≡_ {A = Option ℕ} (some n) none → ⊥
+some≢none n e = let z : _≡_ {A = ℕ} 0 1 = cc in omega arith
+
+-- no test is true
+pub each-false : (t : Kind → ℕ → Bool) (from : ℕ) (ks : List Kind) (w : List ℕ) → length w ≡ length ks → firstTrue from (zipWith t ks w) ≡ none → Each (λ k x. t k x ≡ false) ks w
+unfolding zipWith firstTrue
+each-false t from [] [] l e = tt
+each-false t from [] (x ∷ w) l e = omega arith
+each-false t from (k ∷ ks) [] l e = omega arith
+each-false t from (k ∷ ks) (x ∷ w) l e = go (t k x) refl e (each-false t (suc from) ks w (omega arith))
+  where
+    go : (b : Bool) → t k x ≡ b → firstTrue from (b ∷ zipWith t ks w) ≡ none → (firstTrue (suc from) (zipWith t ks w) ≡ none → Each (λ k′ x′. t k′ x′ ≡ false) ks w) →
+        (t k x ≡ false) × Each (λ k′ x′. t k′ x′ ≡ false) ks w
+    go true h f r = absurd (some≢none from f)
+    go false h f r = (h, r f)
 
 -- no test finds a fault, whatever follows the words
 pub each-none : (t : Kind → ℕ → Bool) (from : ℕ) (ks : List Kind) (w z : List ℕ) → Each (λ k x. t k x ≡ false) ks w → firstTrue from (zipWith t ks (w ++ z)) ≡ none
@@ -56,21 +91,3 @@ each-none t from [] [] z h = refl
 each-none t from [] (x ∷ w) z h = absurd h
 each-none t from (k ∷ ks) [] z h = absurd h
 each-none t from (k ∷ ks) (x ∷ w) z h = rw (h .0) (each-none t (suc from) ks w z (h .1))
-
--- the coins of the rounds after level b, each run with its kinds
-abbrev pub Dealt : (Kind → ℕ → Type 0) → ℕ → Level → List Level → List ℕ → Type 0
-Dealt R s b [] w = Each R (replicate (b .repetitions) (index (shiftCount b))) w
-Dealt R s b (l ∷ ls) w =
-    Each R (replicate s (out l)) (take s w)
-    × Each R (coin ∷ coin ∷ replicate (b .repetitions) (index (shiftCount b))) (take (laterCount b) (drop s w))
-    × Dealt R s l ls (drop (laterCount b) (drop s w))
-
-pub dealt : (R : Kind → ℕ → Type 0) (s : ℕ) (b : Level) (ls : List Level) (w : List ℕ) → Each R (coinKinds (restLayout s b ls)) w → Dealt R s b ls w
-unfolding laterCount
-dealt R s b [] w h = subst (λ (ks : List Kind). Each R ks w) (coins-final s b) h
-dealt R s b (l ∷ ls) w h =
-    let outs = replicate s (out l) in
-    let later = coin ∷ coin ∷ replicate (b .repetitions) (index (shiftCount b)) in
-    let r = each-append-at R s outs (later ++ coinKinds (restLayout s l ls)) w (length-replicate s (out l)) (subst (λ (ks : List Kind). Each R ks w) (coins-round s b l ls) h) in
-    let q = each-append-at R (laterCount b) later (coinKinds (restLayout s l ls)) (drop s w) (omega (arith, length-replicate (b .repetitions) (index (shiftCount b)))) (r .1) in
-    (r .0, q .0, dealt R s l ls (drop (laterCount b) (drop s w)) (q .1))

@@ -15,13 +15,13 @@ use Rattle.algebra.specs.Different.{Differ}
 use Rattle.algebra.specs.Laws.{FieldLaws}
 use Rattle.algebra.specs.ListFacts.{All, all-append, all-in-map, all-map, all-of-map}
 use Rattle.algebra.specs.RootsOfUnity.{minusOne}
-use Rattle.completeness.specs.CoinFacts.{Each, each-later, each-replicate}
 use Rattle.completeness.specs.DecidingAccepts.{Fair, FairRound}
 use Rattle.completeness.specs.Domains.{foldable, never-meet}
-use Rattle.completeness.specs.EachWord.{Dealt}
 use Rattle.completeness.specs.SheetFacts.{Chain, Sized}
 use Rattle.completeness.specs.SheetLevels.{Step, Steps}
 use Rattle.completeness.specs.SheetPassed.{all-at}
+use Rattle.completeness.specs.EachWord.{Each, each-later, each-replicate}
+use Rattle.completeness.specs.LayoutFacts.{Dealt}
 use Rattle.definition.specs.Deciding.{outInDomain}
 use Rattle.definition.specs.Domain.{domain, inDomain, inList, point, shiftPoint}
 use Rattle.definition.specs.Field.{Field, power, primeField}

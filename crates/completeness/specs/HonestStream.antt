@@ -12,11 +12,11 @@ use Rattle.completeness.specs.DecidingAccepts
 use Rattle.completeness.specs.RoundTrip
 use Rattle.algebra.specs.Laws.{FieldLaws}
 use Rattle.algebra.specs.ListFacts.{All}
-use Rattle.completeness.specs.CoinFacts.{Each, each-later, each-replicate}
 use Rattle.completeness.specs.DecidingAccepts.{Fair}
-use Rattle.completeness.specs.EachWord.{Dealt, each-join, each-same}
 use Rattle.completeness.specs.FairCoins.{Passes}
 use Rattle.completeness.specs.RoundTrip.{Shaped}
+use Rattle.completeness.specs.EachWord.{Each, each-join, each-later, each-replicate, each-same}
+use Rattle.completeness.specs.LayoutFacts.{Dealt}
 use Rattle.definition.specs.Deciding.{outInDomain}
 use Rattle.definition.specs.Domain.{domain, point}
 use Rattle.definition.specs.Field.{Field, primeField}

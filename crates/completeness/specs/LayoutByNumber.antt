@@ -6,10 +6,10 @@ use mathlib.Core.Path.{_≡_, refl, sym, ap, _∙_}
 use mathlib.Core.List.{List, [], _∷_, _++_, map, append-assoc}
 use lib.ListN.{length, getD, take, drop, replicate, length-append, length-replicate, length-take, length-drop}
 use lib.Seq.{take-at, drop-at, drop-drop, take-append-add, drop-append-add}
-use Rattle.completeness.specs.CoinFacts.{coins-append, coins-final, coins-messages, coins-outs, round-coins, round-length}
 use Rattle.completeness.specs.LevelsByNumber.{level-first, levels-later}
 use Rattle.completeness.specs.Numbered.{Due, Message, coinCount, coinsBefore, final, lengthOf, levelOf, outsOf, replies, roundStart, roundsOf, sentBefore, startOf, table, total, wordCount}
 use Rattle.completeness.specs.Parts.{firsts, firsts-length, joined, split-joined}
+use Rattle.completeness.specs.LayoutFacts.{coins-append, coins-final, coins-messages, coins-outs, round-coins, round-length}
 use Rattle.definition.specs.Layout.{Kind, coin, coinKinds, index, laterCount, layout, message, out, restLayout, roundLayout}
 use Rattle.definition.specs.Lists.{range}
 use Rattle.definition.specs.Sheet.{Level, finalCount, firstLevel, sheetOf, shiftCount}

@@ -8,7 +8,7 @@ pub mod Ready
 pub mod Domains
 pub mod BlockTrip
 pub mod FileTrip
-pub mod CoinFacts
+pub mod LayoutFacts
 pub mod EachWord
 pub mod RoundTrip
 pub mod FairCoins

@@ -194,3 +194,13 @@ functionOf w coins stream (suc i) =
     nextFunction (sheetField w) (sheetRoot w)
     (distinct (sheetField w) (answers (sheetField w) (sheetRoot w) (levelOf w i) (functionOf w coins stream i) (foldCoin w coins i) (roundOf w coins stream (suc i))))
     (roundOf w coins stream (suc i)) .value
+
+-- The transcript by hand (01): its sheet, coefficients and coins.
+abbrev pub sheetByHand : List ℕ
+sheetByHand = 0 ∷ 16 ∷ 8 ∷ 2 ∷ 1 ∷ 1 ∷ 1 ∷ 1 ∷ 0 ∷ 0 ∷ 0 ∷ 0 ∷ []
+
+abbrev pub coefficientsByHand : List ℕ
+coefficientsByHand = 1 ∷ 2 ∷ 3 ∷ 4 ∷ 5 ∷ 0 ∷ 0 ∷ 0 ∷ []
+
+abbrev pub coinsByHand : List ℕ
+coinsByHand = 2 ∷ 0 ∷ 3 ∷ 4 ∷ 0 ∷ 1 ∷ []
