@@ -43,6 +43,10 @@ pub roots-length : (b : Level) (j : ℕ) → length (rootNumbers b j) ≡ b .fol
 unfolding rootNumbers
 roots-length b j = length-map (range 0 (b .fold)) _ ∙ range-length 0 (b .fold)
 
+pub root-number : (b : Level) (j m : ℕ) → m < b .fold → getD (rootNumbers b j) m 0 ≡ j + m * shiftCount b
+unfolding rootNumbers
+root-number b j m h = getD-map-range (λ n. j + n * shiftCount b) 0 0 (b .fold) m h ∙ ap (λ (n : ℕ). j + n * shiftCount b) (zero-add m)
+
 none-true : (from : ℕ) (js : List ℕ) → firstTrue from (map (λ (j : ℕ). false) js) ≡ none
 unfolding firstTrue
 none-true from [] = refl

@@ -60,25 +60,32 @@ module _ (w : List ℕ) (long : length w ≡ 12) (passed : sheetTest w ≡ accep
   pub step : (i : ℕ) → i < roundsOf w → Step (sheetOf w .outCoins) (levelOf w i) (levelOf w (suc i))
   step i l = subst (λ (j : ℕ). Step (sheetOf w .outCoins) (levelOf w j) (levelOf w (suc j))) (zero-add i) (steps-at w (sheetOf w .outCoins) (roundsOf w) 0 i l (by-number (Steps (sheetOf w .outCoins)) (r .steps)))
 
-  -- Domains, by level number.
+-- Domains, by level number, from the two tests of a sheet.
+module _ (w : List ℕ) (words : sheetLengthTest w ≡ accepted) (passed : sheetTest w ≡ accepted) where
+  pub enough : 7 + roundsOf w ≤ length w
+  enough = enough-words w (sheet-long w words) passed
+
+  abbrev q : Ready (sheetOf w)
+  q = ready w (sheet-long w words) passed
+
   abbrev F : Field ℕ
   F = sheetField w
 
   abbrev signs : minusOne (sheetField w) ≡ sheetField w .𝟙 → ⊥
-  signs = signs-differ (sheetOf w .prime) (r .large)
+  signs = signs-differ (sheetOf w .prime) (q .large)
 
   pub points-different : (i a b : ℕ) → i ≤ roundsOf w → a < levelOf w i .size → b < levelOf w i .size →
       point F (sheetRoot w) (levelOf w i) a ≡ point F (sheetRoot w) (levelOf w i) b → a ≡ b
-  points-different i a b l = Domains.same-point F (r .laws) (sheetRoot w) signs (r .e) (r .root) (levelOf w i) (sized i l) a b
+  points-different i a b l = Domains.same-point F (q .laws) (sheetRoot w) signs (q .e) (q .root) (levelOf w i) (sized w (sheet-long w words) passed i l) a b
 
   pub roots-of-shift : (i j : ℕ) → i ≤ roundsOf w → j < shiftCount (levelOf w i) → Roots F (sheetRoot w) (levelOf w i) j
-  roots-of-shift i j l = Domains.roots F (r .laws) (sheetRoot w) signs (r .e) (r .root) (levelOf w i) j (sized i l)
+  roots-of-shift i j l = Domains.roots F (q .laws) (sheetRoot w) signs (q .e) (q .root) (levelOf w i) j (sized w (sheet-long w words) passed i l)
 
   pub shifts-different : (i a b : ℕ) → i ≤ roundsOf w → a < shiftCount (levelOf w i) → b < shiftCount (levelOf w i) →
       shiftPoint F (sheetRoot w) (levelOf w i) a ≡ shiftPoint F (sheetRoot w) (levelOf w i) b → a ≡ b
-  shifts-different i a b l = Domains.same-shift F (r .laws) (sheetRoot w) signs (r .e) (r .root) (levelOf w i) (sized i l) a b
+  shifts-different i a b l = Domains.same-shift F (q .laws) (sheetRoot w) signs (q .e) (q .root) (levelOf w i) (sized w (sheet-long w words) passed i l) a b
 
   pub shifts-off-domain : (i m j : ℕ) → i < roundsOf w → point F (sheetRoot w) (levelOf w (suc i)) m ≡ shiftPoint F (sheetRoot w) (levelOf w i) j → ⊥
   shifts-off-domain i m j l e =
-      Domains.never-meet F (r .laws) (sheetRoot w) signs (r .e) (r .root) (sheetOf w .outCoins) (levelOf w i) (levelOf w (suc i)) m j (step i l)
-      (ap (λ (x : ℕ). F ._⊖_ x (shiftPoint F (sheetRoot w) (levelOf w i) j)) e ∙ sub-self F (r .laws) (shiftPoint F (sheetRoot w) (levelOf w i) j))
+      Domains.never-meet F (q .laws) (sheetRoot w) signs (q .e) (q .root) (sheetOf w .outCoins) (levelOf w i) (levelOf w (suc i)) m j (step w (sheet-long w words) passed i l)
+      (ap (λ (x : ℕ). F ._⊖_ x (shiftPoint F (sheetRoot w) (levelOf w i) j)) e ∙ sub-self F (q .laws) (shiftPoint F (sheetRoot w) (levelOf w i) j))

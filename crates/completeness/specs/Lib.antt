@@ -31,3 +31,4 @@ pub mod RunByNumber
 pub mod StreamByNumber
 pub mod NonAnticipation
 pub mod FunctionsByNumber
+pub mod Statements

@@ -6,8 +6,8 @@ use mathlib.Core.List.{List, map}
 use lib.ListN.{getD, take, drop}
 use lib.Seq.{take-take, getD-take}
 use Rattle.completeness.specs.CoinsByNumber.{drop-take}
-use Rattle.completeness.specs.Numbered.{Due, Message, coinCount, coinsBefore, coinsOf, combinationCoin, correctedOf, sheetField, final, foldCoin, levelOf, outCoinsOf, outsOf, replies, roundPoly, roundsOf, sentBefore, shiftIndices, table, sheetRoot}
-use Rattle.completeness.specs.StreamByNumber.{messageOf}
+use Rattle.completeness.specs.Numbered.{Allowed, Copy, Due, Message, coinCount, coinsBefore, coinsOf, combinationCoin, correctedOf, sheetField, final, foldCoin, levelOf, outCoinsOf, outsOf, replies, roundPoly, roundsOf, sentBefore, sheetRoot, shiftIndices, streamOn, table, wordsIn}
+use Rattle.completeness.specs.StreamByNumber.{message-words, messageOf, copy-is}
 use Rattle.definition.specs.Layout.{laterCount}
 use Rattle.definition.specs.Polynomial.{evaluate, foldPoly}
 use Rattle.definition.specs.Prover.{nextPoly, tableOf}
@@ -65,3 +65,9 @@ module _ (w f c d : List ℕ) where
       let b = coinsBefore w i in
       λ x. map (evaluate (sheetField w) (same-round i (fewer b (b + outsOf w) c d (omega arith) e) x)) (same-run b (outsOf w) (b + outsOf w) c d (omega arith) e x)
   same-message final e = same-round (suc (roundsOf w)) e
+
+-- In the streams of two allowed lists, as they are written and as they are read out of the file.
+pub non-anticipation : (w f c d : List ℕ) → Allowed w f c → Allowed w f d → (copy : Copy) (m : Message) → Due w m →
+    take (sentBefore w m) c ≡ take (sentBefore w m) d → wordsIn (streamOn copy w f c) w m ≡ wordsIn (streamOn copy w f d) w m
+non-anticipation w f c d okc okd copy m due e =
+    rw (copy-is okc copy, copy-is okd copy) (message-words okc _ m due ∙ same-message w f c d m e ∙ sym (message-words okd _ m due))

@@ -75,6 +75,9 @@ module _ (w f coins output : List ℕ) where
         output = fileOf (honestStream w f coins) ++ drop ((file-length (honestStream w f coins) ∙ ap (λ (m : ℕ). 512 * blockCount m) (honest-length ok)) i) output;
       })
 
+  pub output-done : Allowed w f coins → Room w output → prove w f coins output .output ≡ fileOf (honestStream w f coins) ++ drop (512 * blockCount (wordsDue (sheetOf w))) output
+  output-done ok room = ap (λ (x : Result). x .output) (allowed-done ok room)
+
   -- done exactly when the tests pass
   pub done-exactly : (prove w f coins output .answer ≡ done (blockCount (wordsDue (sheetOf w)))) ↔ (Allowed w f coins × Room w output)
   done-exactly = (
@@ -95,14 +98,3 @@ module _ (w f coins output : List ℕ) where
       let size : length (fileOf (honestStream w f coins)) ≡ 512 * n = file-length (honestStream w f coins) ∙ ap (λ (m : ℕ). 512 * blockCount m) (honest-length (r .0)) ∙ ap (λ (m : ℕ). 512 * m) (sym (r .2)) in
       ap verify (ap (λ (x : Result). take (512 * n) (x .output)) (allowed-done (r .0) (r .1)) ∙ take-at (fileOf (honestStream w f coins)) _ (512 * n) size)
       ∙ completeness w f coins (r .0)
-
-  -- the output keeps its length
-  pub prove-length : (n : ℕ) → prove w f coins output .answer ≡ done n → length (prove w f coins output .output) ≡ length output
-  unfolding outputTest
-  prove-length n e =
-      let r = done-allowed n e in
-      let b = blockCount (wordsDue (sheetOf w)) in
-      let size : length (fileOf (honestStream w f coins)) ≡ 512 * b = file-length (honestStream w f coins) ∙ ap (λ (m : ℕ). 512 * blockCount m) (honest-length (r .0)) in
-      let enough : 512 * b ≤ length output = ltb-false (length output) (512 * b) (if-passes 11 b (ltb (length output) (512 * b)) (r .1)) in
-      ap (λ (x : Result). length (x .output)) (allowed-done (r .0) (r .1)) ∙ length-append (fileOf (honestStream w f coins)) _
-      ∙ omega (arith, size, length-drop (512 * b) output)

@@ -24,14 +24,14 @@ use Rattle.completeness.specs.Domains.{domain-apart, foldable}
 use Rattle.completeness.specs.DomainsByNumber.{enough-words, sized}
 use Rattle.completeness.specs.FairCoins.{reduced}
 use Rattle.completeness.specs.LevelsByNumber.{level-first, undivided}
-use Rattle.completeness.specs.Numbered.{Allowed, answerPoly, coinCount, coinsBefore, coinsOf, correctedOf, sheetField, finalIndices, foldCoin, levelOf, pairAt, pairsOf, quotientPoly, roundPoly, roundsOf, samplesAt, vanishingPoly, sheetRoot}
+use Rattle.completeness.specs.Numbered.{Allowed, answerPoly, coinCount, coinsBefore, coinsOf, combinationCoin, correctedOf, sheetField, finalIndices, foldCoin, levelOf, pairAt, pairsOf, quotientPoly, roundPoly, roundsOf, samplesAt, vanishingPoly, sheetRoot}
 use Rattle.completeness.specs.RoundPolynomials
 use Rattle.completeness.specs.SheetPassed.{exponents}
 use Rattle.definition.specs.Domain.{domain, point}
 use Rattle.definition.specs.Field.{Field}
 use Rattle.definition.specs.Layout.{readCoins}
 use Rattle.definition.specs.Lists.{range}
-use Rattle.definition.specs.Polynomial.{addPoly, distinct, evaluate, foldPoly, mulPoly, points}
+use Rattle.definition.specs.Polynomial.{addPoly, correctedPoly, distinct, evaluate, foldPoly, geometric, mulPoly, points}
 use Rattle.definition.specs.Prover.{nextPoly}
 use Rattle.definition.specs.Sheet.{Level, finalCount, firstLevel, sheetOf}
 use Rattle.definition.specs.Transcript.{Coins}
@@ -48,6 +48,11 @@ fair-at w coins L js (suc m) i (suc n) l h =
 first-length : (w f : List ℕ) {coins : List ℕ} → Allowed w f coins → length f ≡ levelOf w 0 .degree
 unfolding sheetOf
 first-length w f ok = allowed-degree ok ∙ sym (undivided (getD w 2 0) (getD w 3 0))
+
+pub corrected-is : (w f coins : List ℕ) (i : ℕ) → correctedOf w f coins (suc i)
+    ≡ mulPoly (sheetField w) (quotientPoly w f coins (suc i)) (geometric (sheetField w) (combinationCoin w coins (suc i)) (length (samplesAt w f coins (suc i))))
+unfolding correctedOf nextPoly correctedPoly quotientPoly answerPoly samplesAt pairsOf roundPoly
+corrected-is w f coins i = refl
 
 module _ {w f coins : List ℕ} (ok : Allowed w f coins) where
   abbrev F : Field ℕ

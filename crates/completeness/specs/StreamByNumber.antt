@@ -2,16 +2,16 @@
 use Prim.Native.Nat.{ℕ, zero, suc, _+_, _-_, _≤_, _<_}
 use native.Mathlib.Nat
 use native.Mathlib.Omega.{arith}
-use mathlib.Core.Path.{_≡_, refl, sym, ap, _∙_, subst}
+use mathlib.Core.Path.{_≡_, refl, sym, ap, _∙_}
 use mathlib.Core.List.{List, [], _∷_, _++_, map, append-assoc, append-nil}
-use lib.ListN.{length, getD, take, drop, length-append, length-map, length-take, length-drop}
+use lib.ListN.{length, getD, take, drop, replicate, length-append, length-map, length-take, length-drop}
 use lib.Seq.{take-at, drop-at, drop-append-add, getD-take, getD-drop}
 use Rattle.completeness.specs.Allowed.{allowed-count, allowed-long}
 use Rattle.completeness.specs.CoinsByNumber.{coins-read}
 use Rattle.completeness.specs.Completeness.{honest-words}
 use Rattle.completeness.specs.DecidingAccepts.{range-length, table-at}
 use Rattle.completeness.specs.DomainsByNumber.{enough-words}
-use Rattle.completeness.specs.FileTrip.{file-stream, filled}
+use Rattle.completeness.specs.FileTrip.{file-stream, fillCount, filled}
 use Rattle.completeness.specs.LayoutByNumber.{coins-due, opened}
 use Rattle.completeness.specs.LevelsByNumber.{level-first}
 use Rattle.completeness.specs.Numbered.{Allowed, Copy, Due, Message, coinCount, coinsBefore, coinsOf, combinationCoin, correctedOf, sheetField, final, finalIndices, foldCoin, lengthOf, levelOf, outCoinsOf, outsOf, read, replies, roundPoly, roundStart, roundsOf, shiftIndices, startOf, streamOn, table, wordCount, wordsIn, written, sheetRoot}
@@ -189,8 +189,12 @@ module _ {w f coins : List ℕ} (ok : Allowed w f coins) where
     unfolding messageOf
     final-entry j l = entry final j tt l
 
--- what holds whatever follows the stream holds of both its copies
-pub of-both : {w f coins : List ℕ} → Allowed w f coins → (P : List ℕ → Type 0) → ((z : List ℕ) → P (honestStream w f coins ++ z)) → (copy : Copy) → P (streamOn copy w f coins)
-unfolding streamOn filled
-of-both {w} {f} {coins} ok P h written = subst P (append-nil (honestStream w f coins)) (h [])
-of-both {w} {f} {coins} ok P h read = subst P (sym (file-stream (honestStream w f coins) (honest-words ok))) (h _)
+-- what follows the stream in each of its copies
+unfoldable pub fillOn : Copy → List ℕ → List ℕ
+fillOn written stream = []
+fillOn read stream = replicate (fillCount stream) 0
+
+pub copy-is : {w f coins : List ℕ} → Allowed w f coins → (copy : Copy) → streamOn copy w f coins ≡ honestStream w f coins ++ fillOn copy (honestStream w f coins)
+unfolding streamOn fillOn filled
+copy-is {w} {f} {coins} ok written = sym (append-nil (honestStream w f coins))
+copy-is {w} {f} {coins} ok read = file-stream (honestStream w f coins) (honest-words ok)
