@@ -8,6 +8,7 @@ use mathlib.Core.Bool.{Bool, true, false, cond, not}
 use lib.Dec.{leb, T, leb→le, nleb→lt}
 use lib.ListN.{length, getD, take, drop, length-take, length-drop}
 use lib.Seq.{take-append-le, drop-append-le, take-all}
+use Rattle.completeness.specs.ListLaws.{regroup}
 use Rattle.definition.specs.Field.{Field}
 use Rattle.definition.specs.Layout.{laterCount, readFinals, readRounds, roundCoins}
 use Rattle.definition.specs.Polynomial.{evaluate, foldPoly}
@@ -81,9 +82,6 @@ module _ (F : Field ℕ) (ω s : ℕ) where
   pub two : (b : Level) (w : List ℕ) (ls : List Level) (l : Level) → length (drop s w) ≡ laterCount b + coinsDue l ls → 2 ≤ length (take (laterCount b) (drop s w))
   unfolding laterCount
   two b w ls l h = rw length-take (omega arith)
-
-  pub regroup : (a b c d e : List ℕ) → (a ++ (b ++ (c ++ d))) ++ e ≡ a ++ (b ++ (c ++ (d ++ e)))
-  regroup a b c d e = simp append-assoc
 
   pub round-words : (g : List ℕ) (l : Level) (o v rest : List ℕ) → 2 ≤ length v →
       roundWords (honestRound F ω g (roundCoins l o v)) ++ rest ≡ tableOf F ω l g ++ (o ++ (map (evaluate F g) o ++ (v ++ rest)))

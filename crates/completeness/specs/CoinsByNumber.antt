@@ -1,22 +1,18 @@
 -- The coins of round i by their places in the coin list are those that the walk over the rounds reads there, and they are settled by the coins up to them.
-use Prim.Native.Nat.{ℕ, zero, suc, _+_, _≤_, _<_}
+use Prim.Native.Nat.{ℕ, zero, suc, _+_, _≤_}
 use native.Mathlib.Nat
 use native.Mathlib.Nat.{suc-add, zero-add}
 use native.Mathlib.Omega.{arith}
 use mathlib.Core.Path.{_≡_, refl, sym, ap, _∙_}
 use mathlib.Core.List.{List, [], _∷_, map}
 use lib.ListN.{length, getD, take, drop}
-use lib.Seq.{take-nil, take-take, drop-drop, getD-take, getD-drop}
+use lib.Seq.{take-nil, drop-drop, getD-take, getD-drop}
 use Rattle.completeness.specs.LevelsByNumber.{level-first, levels-later}
+use Rattle.completeness.specs.ListLaws.{drop-take}
 use Rattle.completeness.specs.Numbered.{coinCount, coinsBefore, coinsOf, combinationCoin, finalIndices, foldCoin, levelOf, outCoinsOf, outsOf, roundsOf, shiftIndices}
 use Rattle.definition.specs.Layout.{laterCount, readCoins, readFinals, readRounds, roundCoins}
 use Rattle.definition.specs.Lists.{range}
 use Rattle.definition.specs.Sheet.{Level, firstLevel, laterLevels, sheetOf}
-
-pub drop-take : {A : Type 0} (n m : ℕ) (l : List A) → drop n (take (n + m) l) ≡ take m (drop n l)
-drop-take zero m l = ap (λ (k : ℕ). take k l) (zero-add m)
-drop-take (suc n) m [] = ap (drop (suc n)) (take-nil (suc n + m)) ∙ sym (take-nil m)
-drop-take (suc n) m (x ∷ l) = ap (λ (k : ℕ). drop (suc n) (take k (x ∷ l))) (suc-add n m) ∙ drop-take n m l
 
 module _ (w coins : List ℕ) where
   -- one round, of the coins from its first on

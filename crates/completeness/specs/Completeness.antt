@@ -15,6 +15,7 @@ use Rattle.algebra.specs.ListFacts.{All, all-append}
 use Rattle.completeness.specs.Allowed.{allowed-degree, allowed-first, allowed-long, allowed-rounds}
 use Rattle.completeness.specs.DecidingAccepts.{Fair}
 use Rattle.completeness.specs.Domains.{foldable}
+use Rattle.completeness.specs.EachWord.{Each, each-length, each-map, each-none}
 use Rattle.completeness.specs.FairCoins.{Passes, chain-head, fair, in-range}
 use Rattle.completeness.specs.FileTrip.{Word, file-checks, file-length, file-stream, fillCount, filled}
 use Rattle.completeness.specs.HonestStream.{first-degree, words-each, words-read}
@@ -23,7 +24,7 @@ use Rattle.completeness.specs.Reads.{all-reads, sheet-reads}
 use Rattle.completeness.specs.Ready.{Ready, layout-fits, ready}
 use Rattle.completeness.specs.SheetLevels.{rules-front, sheet-front}
 use Rattle.completeness.specs.SheetPassed.{sheet-words}
-use Rattle.completeness.specs.EachWord.{Each, each-length, each-map, each-none}
+use Rattle.completeness.specs.Tests.{at-none, if-false, none-true}
 use Rattle.definition.specs.Block.{blockCount, fileOf, streamOf}
 use Rattle.definition.specs.Deciding.{decide, deciding, outInDomain, outTest, ownPlace, readsOf}
 use Rattle.definition.specs.Field.{Field, primeField}
@@ -35,20 +36,6 @@ use Rattle.definition.specs.Sheet.{Sheet, firstLevel, laterLevels, rootOfUnity,
 use Rattle.definition.specs.Transcript.{Transcript, transcriptWords}
 use Rattle.definition.specs.Verdict.{_then_, accepted, refuseAt, refuseIf, thenVerdict}
 use Rattle.definition.specs.Verify.{verify}
-
--- tests that pass
-pub if-false : (n p : ℕ) (b : Bool) → b ≡ false → refuseIf n p b ≡ accepted
-unfolding refuseIf
-if-false n p b e = rw e
-
-none-true : (from : ℕ) (bs : List Bool) → All (λ (b : Bool). b ≡ false) bs → firstTrue from bs ≡ none
-unfolding firstTrue
-none-true from [] h = refl
-none-true from (b ∷ bs) h = rw (h .0) (none-true (suc from) bs (h .1))
-
-pub at-none : (n : ℕ) (o : Option ℕ) → o ≡ none → refuseAt n o ≡ accepted
-unfolding refuseAt
-at-none n o e = rw e
 
 no-fill : (from n : ℕ) → firstTrue from (map (λ (x : ℕ). not (eqb x 0)) (replicate n 0)) ≡ none
 unfolding firstTrue

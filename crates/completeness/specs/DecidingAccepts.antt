@@ -17,6 +17,8 @@ use Rattle.algebra.specs.Different.{Apart, Differ}
 use Rattle.algebra.specs.Laws.{FieldLaws}
 use Rattle.algebra.specs.ListFacts.{All, all-append, all-in-map, all-map, all-map₂, all-of-map, map-all, map-append, map-map, zip-map}
 use Rattle.completeness.specs.DistinctPoints.{all-distinct, distinct-apart, distinct-length}
+use Rattle.completeness.specs.ListLaws.{getD-map-range, range-length}
+use Rattle.completeness.specs.Tests.{none-true}
 use Rattle.definition.specs.Deciding.{Function, Place, answers, decide, decideFinal, decideRest, differences, nextFunction, ownPlace, placesOf, readsOf, tableFunction, treated}
 use Rattle.definition.specs.Domain.{domain, foldAt, point, rootNumbers, shiftPoint}
 use Rattle.definition.specs.Field.{Field, power}
@@ -27,17 +29,6 @@ use Rattle.definition.specs.Sheet.{Level, shiftCount}
 use Rattle.definition.specs.Transcript.{Coins, RoundCoins}
 use Rattle.definition.specs.Verdict.{accepted, refuseAt}
 
-getD-map-range : {A : Type 0} (f : ℕ → A) (d : A) (from n j : ℕ) → j < n → getD (map f (range from n)) j d ≡ f (from + j)
-unfolding range
-getD-map-range f d from zero j h = absurd (not-suc-le-zero h)
-getD-map-range f d from (suc n) zero h = ap f (sym (add-zero from))
-getD-map-range f d from (suc n) (suc j) h = getD-map-range f d (suc from) n j (le-of-suc-le-suc h) ∙ ap f (suc-add from j ∙ sym (add-suc from j))
-
-pub range-length : (from n : ℕ) → length (range from n) ≡ n
-unfolding range
-range-length from zero = refl
-range-length from (suc n) = ap suc (range-length (suc from) n)
-
 -- a shift point has k roots
 pub roots-length : (b : Level) (j : ℕ) → length (rootNumbers b j) ≡ b .fold
 unfolding rootNumbers
@@ -46,11 +37,6 @@ roots-length b j = length-map (range 0 (b .fold)) _ ∙ range-length 0 (b .fold)
 pub root-number : (b : Level) (j m : ℕ) → m < b .fold → getD (rootNumbers b j) m 0 ≡ j + m * shiftCount b
 unfolding rootNumbers
 root-number b j m h = getD-map-range (λ n. j + n * shiftCount b) 0 0 (b .fold) m h ∙ ap (λ (n : ℕ). j + n * shiftCount b) (zero-add m)
-
-none-true : (from : ℕ) (js : List ℕ) → firstTrue from (map (λ (j : ℕ). false) js) ≡ none
-unfolding firstTrue
-none-true from [] = refl
-none-true from (j ∷ js) = none-true (suc from) js
 
 -- the table places that all coins lead to
 abbrev pub allPlaces : {A : Type 0} → Level → (ℕ → List Place) → List (RoundCoins A) → List ℕ → List Place
@@ -64,6 +50,10 @@ module _ {A : Type 0} (F : Field A) (ω : A) where
   -- the function o of point numbers is the polynomial f on the domain of level l
   abbrev pub Agrees : Level → (ℕ → A) → List A → Type 0
   Agrees l o f = (m : ℕ) → m < l .size → o m ≡ evaluate F f (point F ω l m)
+
+  pub table-length : (l : Level) (f : List A) → length (tableOf F ω l f) ≡ l .size
+  unfolding tableOf domain
+  table-length l f = length-map (map (point F ω l) (range 0 (l .size))) (evaluate F f) ∙ length-map (range 0 (l .size)) (point F ω l) ∙ range-length 0 (l .size)
 
   -- entry m of a table is the value at point m of the domain
   pub table-at : (l : Level) (f : List A) (m : ℕ) → m < l .size → getD (tableOf F ω l f) m 𝟘 ≡ evaluate F f (point F ω l m)
@@ -130,11 +120,10 @@ module _ {A : Type 0} (F : Field A) (L : FieldLaws F) (ω : A) where
 
   -- refusal 9 is not given, where the folds are the values of the final polynomial
   no-difference : (b : Level) (o : ℕ → A) (r : A) (g : List A) (js : List ℕ) →
-      All (λ j. foldAt F ω b o r j ≡ evaluate F g (shiftPoint F ω b j)) js → differences F ω b o r g js ≡ map (λ (j : ℕ). false) js
+      All (λ j. foldAt F ω b o r j ≡ evaluate F g (shiftPoint F ω b j)) js → All (λ (d : Bool). d ≡ false) (differences F ω b o r g js)
   unfolding differences
   no-difference b o r g js h =
-      map-all (λ j. foldAt F ω b o r j ≡ evaluate F g (shiftPoint F ω b j)) _ _ js h
-      (λ j e. ap (λ (v : A). not (equal (evaluate F g (shiftPoint F ω b j)) v)) e ∙ ap not (equal-refl _))
+      all-of-map (λ (d : Bool). d ≡ false) _ js (all-map js h (λ j e. ap (λ (v : A). not (equal (evaluate F g (shiftPoint F ω b j)) v)) e ∙ ap not (equal-refl _)))
 
   -- The verifier's fold is the prover's, for every fold coin r: both are the one polynomial of degree below k through the k roots.
   pub fold-agrees : (b : Level) (f : List A) (o : ℕ → A) (r : A) (j : ℕ) → length f ≡ b .degree → Foldable F ω b → Agrees F ω b o f → j < shiftCount b →
@@ -234,7 +223,8 @@ module _ {A : Type 0} (F : Field A) (L : FieldLaws F) (ω : A) where
       decideRest F ω b o r used (honestRest F ω b f r cs js) ≡ record { outcome = accepted; reads = readsOf (used ++ allPlaces b (o .places) cs js) }
   unfolding decideRest honestRest decideFinal refuseAt treated honestRound nextFunction
   rest-accepted b o f r used [] js len ok agrees fair =
-      rw (no-difference b (o .value) r (foldPoly F (b .fold) r f) js (all-map js fair (λ j. fold-agrees b f (o .value) r j len ok agrees)), none-true)
+      rw (none-true 0 (differences F ω b (o .value) r (foldPoly F (b .fold) r f) js)
+      (no-difference b (o .value) r (foldPoly F (b .fold) r f) js (all-map js fair (λ j. fold-agrees b f (o .value) r j len ok agrees))))
   rest-accepted b o f r used (c ∷ cs) js len ok agrees fair =
       let g = foldPoly F (b .fold) r f in
       rw (answers-honest F ω b (o .value) r g c (all-map (c .shifts) (fair .0 .indices) (λ j. fold-agrees b f (o .value) r j len ok agrees)), no-clash-honest, ← append-assoc)

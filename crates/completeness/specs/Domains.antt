@@ -1,12 +1,11 @@
 -- Domains (01, Domains), in any field with the laws and for any ω with ω^(n0/2) = -1: the points of a domain are different; the k roots of a shift point are k
 -- different points of the domain, whose k-th power it is; different shift indices are different points; no shift point is a point of the next domain (000, Remark 5.3).
-use Prim.Native.Nat.{ℕ, zero, suc, _+_, _-_, _*_, _/_, _^_, _≤_, _<_}
+use Prim.Native.Nat.{ℕ, zero, suc, _+_, _-_, _*_, _/_, _^_, _<_}
 use native.Mathlib.Nat
 use native.Mathlib.Nat.{pow-suc, mul-pos, mul-le-mul-left, mul-lt-mul-of-pos-left, mul-lt-mul-of-pos-right}
 use native.Mathlib.Decide.{decLt}
 use native.Mathlib.Omega.{arith}
 use mathlib.Core.Path.{_≡_, refl, sym, ap, _∙_, subst}
-use mathlib.Core.List.{List}
 use lib.Pow.{pow-pos}
 use Rattle.algebra.specs.RingLaws
 use Rattle.algebra.specs.RootsOfUnity

@@ -1,24 +1,24 @@
 -- The levels of a sheet without a fault, by number: level i has its sizes, round i + 1 leaves more degree than there are points, and the facts on domain i follow.
-use Prim.Native.Nat.{ℕ, zero, suc, _+_, _*_, _≤_, _<_}
+use Prim.Native.Nat.{ℕ, zero, suc, _+_, _≤_, _<_}
 use native.Mathlib.Nat.{add-suc, suc-add, add-zero, zero-add}
 use native.Mathlib.Omega.{arith}
-use mathlib.Core.Path.{_≡_, refl, sym, ap, _∙_, subst}
-use mathlib.Core.List.{List, [], _∷_, map}
-use lib.ListN.{length, getD}
+use mathlib.Core.Path.{_≡_, sym, ap, _∙_, subst}
+use mathlib.Core.List.{List, map}
+use lib.ListN.{length}
 use Rattle.algebra.specs.PrimeField.{signs-differ}
 use Rattle.algebra.specs.RingLaws.{sub-self}
 use Rattle.algebra.specs.RootsOfUnity.{minusOne}
-use Rattle.completeness.specs.Allowed.{equal-passes}
-use Rattle.completeness.specs.Domains
 use Rattle.completeness.specs.Domains.{Roots}
 use Rattle.completeness.specs.LevelsByNumber.{level-first, levels-later}
-use Rattle.completeness.specs.Numbered.{sheetField, levelOf, outsOf, roundsOf, sheetRoot}
+use Rattle.completeness.specs.Numbered.{levelOf, roundsOf, sheetField, sheetRoot}
 use Rattle.completeness.specs.Ready.{Ready, ready}
 use Rattle.completeness.specs.SheetFacts.{Chain, Sized}
 use Rattle.completeness.specs.SheetLevels.{Step, Steps}
 use Rattle.completeness.specs.SheetPassed.{exponents}
+use Rattle.completeness.specs.Tests.{equal-passes}
+use Rattle.completeness.specs.Domains
 use Rattle.definition.specs.Domain.{point, shiftPoint}
-use Rattle.definition.specs.Field.{Field, power}
+use Rattle.definition.specs.Field.{Field}
 use Rattle.definition.specs.Lists.{range}
 use Rattle.definition.specs.Prove.{sheetLengthTest}
 use Rattle.definition.specs.Reading.{sheetTest}

@@ -17,11 +17,11 @@ use Rattle.algebra.specs.ListFacts.{All, all-append, all-in-map, all-map, all-o
 use Rattle.algebra.specs.RootsOfUnity.{minusOne}
 use Rattle.completeness.specs.DecidingAccepts.{Fair, FairRound}
 use Rattle.completeness.specs.Domains.{foldable, never-meet}
-use Rattle.completeness.specs.SheetFacts.{Chain, Sized}
-use Rattle.completeness.specs.SheetLevels.{Step, Steps}
-use Rattle.completeness.specs.SheetPassed.{all-at}
 use Rattle.completeness.specs.EachWord.{Each, each-later, each-replicate}
 use Rattle.completeness.specs.LayoutFacts.{Dealt}
+use Rattle.completeness.specs.ListLaws.{all-at}
+use Rattle.completeness.specs.SheetFacts.{Chain, Sized}
+use Rattle.completeness.specs.SheetLevels.{Step, Steps}
 use Rattle.definition.specs.Deciding.{outInDomain}
 use Rattle.definition.specs.Domain.{domain, inDomain, inList, point, shiftPoint}
 use Rattle.definition.specs.Field.{Field, power, primeField}

@@ -10,11 +10,9 @@ use lib.ListN.{length, getD, take, drop, replicate, length-append, length-replic
 use lib.Seq.{getD-drop}
 use borrow.Author.Tests.{eqb-true, not-false}
 use Rattle.algebra.specs.ListFacts.{All}
-use Rattle.completeness.specs.Allowed.{equal-passes, if-passes}
-use Rattle.completeness.specs.ProveAccepted.{then-passes}
-use Rattle.completeness.specs.SheetFacts.{and-true}
-use Rattle.completeness.specs.SheetPassed.{between-true, exponents, rules-hold, small-repetitions}
 use Rattle.completeness.specs.LayoutFacts.{round-length}
+use Rattle.completeness.specs.SheetPassed.{between-true, exponents, rules-hold, small-repetitions}
+use Rattle.completeness.specs.Tests.{and-true, equal-passes, if-passes, then-passes}
 use Rattle.definition.specs.Block.{blockCount, streamOf}
 use Rattle.definition.specs.Layout.{coin, index, laterCount, layout, message, restLayout, roundLayout, wordsDue}
 use Rattle.definition.specs.Reading.{blocksTest, bodyTests, checkTest, lengthTest, reading, sheetTest, streamTests}

@@ -1,15 +1,16 @@
 -- The messages by number stand where the layout has messages, with as many coins before them as they say, and none is missing; so a full coin list reaches every coin.
-use Prim.Native.Nat.{ℕ, zero, suc, _+_, _-_, _≤_, _<_}
+use Prim.Native.Nat.{ℕ, zero, suc, _+_, _-_, _≤_}
 use native.Mathlib.Nat
 use native.Mathlib.Omega.{arith}
 use mathlib.Core.Path.{_≡_, refl, sym, ap, _∙_}
 use mathlib.Core.List.{List, [], _∷_, _++_, map, append-assoc}
-use lib.ListN.{length, getD, take, drop, replicate, length-append, length-replicate, length-take, length-drop}
-use lib.Seq.{take-at, drop-at, drop-drop, take-append-add, drop-append-add}
+use lib.ListN.{length, getD, take, drop, replicate, length-append, length-replicate}
+use lib.Seq.{take-at, drop-at, take-append-add, drop-append-add}
+use Rattle.completeness.specs.LayoutFacts.{coins-append, coins-final, coins-messages, coins-outs, round-coins, round-length}
 use Rattle.completeness.specs.LevelsByNumber.{level-first, levels-later}
 use Rattle.completeness.specs.Numbered.{Due, Message, coinCount, coinsBefore, final, lengthOf, levelOf, outsOf, replies, roundStart, roundsOf, sentBefore, startOf, table, total, wordCount}
 use Rattle.completeness.specs.Parts.{firsts, firsts-length, joined, split-joined}
-use Rattle.completeness.specs.LayoutFacts.{coins-append, coins-final, coins-messages, coins-outs, round-coins, round-length}
+use Rattle.completeness.specs.ListLaws.{opened}
 use Rattle.definition.specs.Layout.{Kind, coin, coinKinds, index, laterCount, layout, message, out, restLayout, roundLayout}
 use Rattle.definition.specs.Lists.{range}
 use Rattle.definition.specs.Sheet.{Level, finalCount, firstLevel, sheetOf, shiftCount}
@@ -19,9 +20,6 @@ coins-length p q = ap length (coins-append p q) ∙ length-append (coinKinds p) 
 
 no-coins : (n : ℕ) → length (coinKinds (replicate n message)) ≡ 0
 no-coins n = ap length (coins-messages n)
-
-pub opened : {A : Type 0} (t o p q x : List A) → (t ++ (o ++ (p ++ q))) ++ x ≡ (t ++ o) ++ (p ++ (q ++ x))
-opened t o p q x = simp append-assoc
 
 module _ (w : List ℕ) where
   -- what follows table i in its round

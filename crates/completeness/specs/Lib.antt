@@ -1,3 +1,5 @@
+pub mod Tests
+pub mod ListLaws
 pub mod ByPlace
 pub mod DistinctPoints
 pub mod DecidingAccepts

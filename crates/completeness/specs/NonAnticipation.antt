@@ -5,9 +5,9 @@ use mathlib.Core.Path.{_≡_, refl, sym, ap, _∙_}
 use mathlib.Core.List.{List, map}
 use lib.ListN.{getD, take, drop}
 use lib.Seq.{take-take, getD-take}
-use Rattle.completeness.specs.CoinsByNumber.{drop-take}
-use Rattle.completeness.specs.Numbered.{Allowed, Copy, Due, Message, coinCount, coinsBefore, coinsOf, combinationCoin, correctedOf, sheetField, final, foldCoin, levelOf, outCoinsOf, outsOf, replies, roundPoly, roundsOf, sentBefore, sheetRoot, shiftIndices, streamOn, table, wordsIn}
-use Rattle.completeness.specs.StreamByNumber.{message-words, messageOf, copy-is}
+use Rattle.completeness.specs.ListLaws.{drop-take}
+use Rattle.completeness.specs.Numbered.{Allowed, Copy, Due, Message, coinCount, coinsBefore, coinsOf, combinationCoin, correctedOf, final, foldCoin, levelOf, outCoinsOf, outsOf, replies, roundPoly, roundsOf, sentBefore, sheetField, sheetRoot, shiftIndices, streamOn, table, wordsIn}
+use Rattle.completeness.specs.StreamByNumber.{copy-is, message-words, messageOf}
 use Rattle.definition.specs.Layout.{laterCount}
 use Rattle.definition.specs.Polynomial.{evaluate, foldPoly}
 use Rattle.definition.specs.Prover.{nextPoly, tableOf}

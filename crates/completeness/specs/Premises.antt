@@ -11,15 +11,14 @@ use borrow.Author.Tests.{eq-eqb, ne-eqb, lt-leb}
 use Rattle.algebra.specs.RingLaws
 use Rattle.algebra.specs.RootsOfUnity
 use Rattle.algebra.specs.Laws.{FieldLaws}
-use Rattle.algebra.specs.ListFacts.{All, all-append, all-map}
+use Rattle.algebra.specs.ListFacts.{All, all-map}
 use Rattle.algebra.specs.RootsOfUnity.{minusOne}
-use Rattle.completeness.specs.Allowed.{at-passes, equal-passes}
-use Rattle.completeness.specs.Completeness.{at-none, if-false}
-use Rattle.completeness.specs.Ready.{Ready, ready}
-use Rattle.completeness.specs.SheetFacts.{Chain, Sized}
-use Rattle.completeness.specs.Numbered.{Allowed, coefficientsByHand, coinsByHand, sheetByHand}
 use Rattle.completeness.specs.EachWord.{Each, each-false, each-join, each-none}
 use Rattle.completeness.specs.LayoutFacts.{layout-all}
+use Rattle.completeness.specs.Numbered.{Allowed, coefficientsByHand, coinsByHand, sheetByHand}
+use Rattle.completeness.specs.Ready.{Ready, ready}
+use Rattle.completeness.specs.SheetFacts.{Sized}
+use Rattle.completeness.specs.Tests.{at-none, at-passes, equal-passes, if-false}
 use Rattle.definition.specs.Deciding.{outInDomain}
 use Rattle.definition.specs.Domain.{domain, inDomain, inList, point}
 use Rattle.definition.specs.Field.{Field, generatorOf, knownField, power, primeField, primeOf}

@@ -1,31 +1,23 @@
 -- What prove writes is accepted: prove answers done exactly when its tests pass, and then the blocks at the front of its output are a file that verify accepts.
-use Prim.Native.Nat.{ℕ, _*_, _≤_}
+use Prim.Native.Nat.{ℕ, _*_}
 use native.Mathlib.Omega.{arith}
 use mathlib.Core.Path.{_≡_, refl, sym, ap, _∙_}
 use mathlib.Core.Logic.{_↔_}
 use mathlib.Core.List.{List, _++_}
-use lib.Dec.{ltb}
-use lib.ListN.{length, take, drop, length-append, length-drop}
+use lib.ListN.{length, take, drop}
 use lib.Seq.{take-at}
-use borrow.Author.Tests.{ltb-false}
-use Rattle.completeness.specs.Allowed.{if-passes}
 use Rattle.completeness.specs.Completeness.{completeness, honest-length}
 use Rattle.completeness.specs.FileTrip.{file-length}
 use Rattle.completeness.specs.Numbered.{Allowed, Room, readsDue}
+use Rattle.completeness.specs.Tests.{then-passes}
 use Rattle.definition.specs.Block.{blockCount, fileOf}
 use Rattle.definition.specs.Layout.{coinKinds, layout, wordsDue}
-use Rattle.definition.specs.Prove.{Result, coefficientsTest, coinDomainTest, coinsTest, done, finish, inputRangeTest, outputTest, prove, proveTests, refusal, sheetLengthTest}
+use Rattle.definition.specs.Prove.{Result, coefficientsTest, coinDomainTest, coinsTest, done, finish, inputRangeTest, prove, proveTests, refusal, sheetLengthTest}
 use Rattle.definition.specs.Prover.{honestStream}
 use Rattle.definition.specs.Reading.{sheetTest}
 use Rattle.definition.specs.Sheet.{sheetOf}
 use Rattle.definition.specs.Verdict.{Outcome, _then_, accepted, refused}
 use Rattle.definition.specs.Verify.{verify}
-
--- two tests that both pass
-pub then-passes : (a b : Outcome) → (a then b) ≡ accepted → (a ≡ accepted) × (b ≡ accepted)
-unfolding _then_
-then-passes accepted b e = (refl, e)
-then-passes (refused n p) b e = let z : _≡_ {A = ℕ} 0 1 = cc in absurd (omega arith)
 
 finish-done : (o : Outcome) (count n : ℕ) (written output : List ℕ) → finish o count written output .answer ≡ done n → (o ≡ accepted) × (count ≡ n)
 unfolding finish

@@ -9,11 +9,11 @@ use lib.ListN.{length, getD, take, drop, replicate, length-append, length-drop, 
 use lib.Seq.{drop-cons}
 use Rattle.completeness.specs.DecidingAccepts
 use Rattle.algebra.specs.Laws.{FieldLaws}
+use Rattle.completeness.specs.EachWord.{each-later, each-replicate}
+use Rattle.completeness.specs.LayoutFacts.{Dealt}
 use Rattle.completeness.specs.Numbered.{readsDue, total}
 use Rattle.completeness.specs.SheetLevels.{about-levels}
 use Rattle.completeness.specs.SheetPassed.{exponents}
-use Rattle.completeness.specs.EachWord.{each-later, each-replicate}
-use Rattle.completeness.specs.LayoutFacts.{Dealt}
 use Rattle.definition.specs.Deciding.{ownPlace, placesOf}
 use Rattle.definition.specs.Domain.{rootNumbers}
 use Rattle.definition.specs.Field.{Field}

@@ -1,7 +1,7 @@
 -- One round of the honest prover, in any field with the laws: the division by V leaves no remainder, A passes through every pair, and it is the only such polynomial.
-use Prim.Native.Nat.{ℕ, _-_, _≤_}
+use Prim.Native.Nat.{_-_, _≤_}
 use native.Mathlib.Omega.{arith}
-use mathlib.Core.Path.{_≡_, refl, sym, ap, _∙_, subst}
+use mathlib.Core.Path.{_≡_, sym, ap, _∙_}
 use mathlib.Core.List.{List, [], _∷_}
 use lib.ListN.{length}
 use Rattle.algebra.specs.Coefficients

@@ -1,10 +1,11 @@
--- Reading the words of a transcript of the right shape gives the transcript back.
+-- Reading the words of a transcript of the right shape gives the transcript back, whatever words follow.
 use Prim.Native.Nat.{ℕ}
 use native.Mathlib.Omega.{arith}
 use mathlib.Core.Path.{_≡_, ap, _∙_}
 use mathlib.Core.List.{List, [], _∷_, _++_, append-assoc}
 use lib.ListN.{length, take}
 use lib.Seq.{take-at, drop-at, take-all}
+use Rattle.completeness.specs.ListLaws.{regroup}
 use Rattle.definition.specs.Layout.{laterCount, readRest, roundCoins}
 use Rattle.definition.specs.Sheet.{Level, finalCount}
 use Rattle.definition.specs.Transcript.{Rest, Round, final, restWords, round, roundWords}
@@ -23,23 +24,22 @@ Shaped s b [] (round ρ rest) = ⊥
 Shaped s b (l ∷ ls) (final cs js) = ⊥
 Shaped s b (l ∷ ls) (round ρ rest) = RoundShape s b l ρ × Shaped s l ls rest
 
-module _ (s : ℕ) where
-  pub five : (a b c d e : List ℕ) → (a ++ (b ++ (c ++ d))) ++ e ≡ a ++ (b ++ (c ++ (d ++ e)))
-  five a b c d e = simp append-assoc
+later-length : (b : Level) (ρ : Round ℕ) → length (ρ .coins .shifts) ≡ b .repetitions → length (ρ .coins .combination ∷ ρ .coins .fold ∷ ρ .coins .shifts) ≡ laterCount b
+unfolding laterCount
+later-length b ρ h = omega arith
 
-  pub round-words : (ρ : Round ℕ) (e : List ℕ) →
-      roundWords ρ ++ e ≡ ρ .table ++ (ρ .coins .outs ++ (ρ .replies ++ ((ρ .coins .combination ∷ ρ .coins .fold ∷ ρ .coins .shifts) ++ e)))
-  unfolding roundWords
-  round-words ρ e = five (ρ .table) (ρ .coins .outs) (ρ .replies) (ρ .coins .combination ∷ ρ .coins .fold ∷ ρ .coins .shifts) e
+round-words : (ρ : Round ℕ) (e : List ℕ) →
+    roundWords ρ ++ e ≡ ρ .table ++ (ρ .coins .outs ++ (ρ .replies ++ ((ρ .coins .combination ∷ ρ .coins .fold ∷ ρ .coins .shifts) ++ e)))
+unfolding roundWords
+round-words ρ e = regroup (ρ .table) (ρ .coins .outs) (ρ .replies) (ρ .coins .combination ∷ ρ .coins .fold ∷ ρ .coins .shifts) e
 
-  pub later-length : (b : Level) (ρ : Round ℕ) → length (ρ .coins .shifts) ≡ b .repetitions → length (ρ .coins .combination ∷ ρ .coins .fold ∷ ρ .coins .shifts) ≡ laterCount b
-  unfolding laterCount
-  later-length b ρ h = omega arith
-
-  pub round-trip : (b : Level) (ls : List Level) (τ : Rest ℕ) → Shaped s b ls τ → readRest s b ls (restWords τ) ≡ τ
+module _ (s : ℕ) (z : List ℕ) where
+  pub round-trip : (b : Level) (ls : List Level) (τ : Rest ℕ) → Shaped s b ls τ → readRest s b ls (restWords τ ++ z) ≡ τ
   unfolding readRest restWords roundCoins
   round-trip b [] (final cs js) h =
-      λ i. final (take-at cs js (finalCount b) (h .0) i) ((ap (take (b .repetitions)) (drop-at cs js (finalCount b) (h .0)) ∙ take-all (b .repetitions) js (omega arith)) i)
+      ap (readRest s b []) (append-assoc cs js z)
+      ∙ (λ i. final (take-at cs (js ++ z) (finalCount b) (h .0) i)
+      ((ap (take (b .repetitions)) (drop-at cs (js ++ z) (finalCount b) (h .0)) ∙ take-at js z (b .repetitions) (h .1)) i))
   round-trip b [] (round ρ rest) h = absurd h
   round-trip b (l ∷ ls) (final cs js) h = absurd h
   round-trip b (l ∷ ls) (round ρ rest) h =
@@ -49,7 +49,8 @@ module _ (s : ℕ) where
       let h₃ : length (ρ .replies) ≡ s = h .0 .replies in
       let h₄ : length later ≡ laterCount b = later-length b ρ (h .0 .shifts) in
       rw (
-        round-words ρ (restWords rest),
+        append-assoc (roundWords ρ) (restWords rest) z,
+        round-words ρ (restWords rest ++ z),
         drop-at (ρ .table) _ (l .size),
         take-at (ρ .table) _ (l .size),
         drop-at (ρ .coins .outs) _ s,

@@ -3,8 +3,8 @@ use Prim.Native.Nat.{ℕ, zero, suc, _+_, _-_, _/_, _^_, _≤_, _<_}
 use native.Mathlib.Nat.{add-suc, suc-add, add-zero, zero-add, div-le-self}
 use native.Mathlib.Omega.{arith}
 use mathlib.Core.Path.{_≡_, refl, sym, ap, _∙_, subst}
-use mathlib.Core.List.{List, [], _∷_, map}
-use lib.ListN.{length, getD, drop, length-map}
+use mathlib.Core.List.{List, map}
+use lib.ListN.{length, getD, length-map}
 use lib.Pow.{pow-mono}
 use Rattle.algebra.specs.Coefficients
 use Rattle.algebra.specs.Lengths
@@ -17,21 +17,22 @@ use Rattle.completeness.specs.Allowed.{allowed-degree, allowed-long}
 use Rattle.completeness.specs.ByPlace.{all-places, at-place, same-place}
 use Rattle.completeness.specs.CoinsByNumber.{coins-read}
 use Rattle.completeness.specs.Completeness.{fair-coins, sheetReady}
-use Rattle.completeness.specs.DecidingAccepts
 use Rattle.completeness.specs.DecidingAccepts.{Fair, FairRound, Foldable}
 use Rattle.completeness.specs.DistinctPoints.{all-distinct, kept-places}
 use Rattle.completeness.specs.Domains.{domain-apart, foldable}
 use Rattle.completeness.specs.DomainsByNumber.{enough-words, sized}
 use Rattle.completeness.specs.FairCoins.{reduced}
 use Rattle.completeness.specs.LevelsByNumber.{level-first, undivided}
-use Rattle.completeness.specs.Numbered.{Allowed, answerPoly, coinCount, coinsBefore, coinsOf, combinationCoin, correctedOf, sheetField, finalIndices, foldCoin, levelOf, pairAt, pairsOf, quotientPoly, roundPoly, roundsOf, samplesAt, vanishingPoly, sheetRoot}
-use Rattle.completeness.specs.RoundPolynomials
+use Rattle.completeness.specs.ListLaws.{range-length}
+use Rattle.completeness.specs.Numbered.{Allowed, answerPoly, coinsOf, combinationCoin, correctedOf, finalIndices, foldCoin, levelOf, pairAt, pairsOf, quotientPoly, roundPoly, roundsOf, samplesAt, sheetField, sheetRoot, vanishingPoly}
 use Rattle.completeness.specs.SheetPassed.{exponents}
+use Rattle.completeness.specs.DecidingAccepts
+use Rattle.completeness.specs.RoundPolynomials
 use Rattle.definition.specs.Domain.{domain, point}
 use Rattle.definition.specs.Field.{Field}
 use Rattle.definition.specs.Layout.{readCoins}
 use Rattle.definition.specs.Lists.{range}
-use Rattle.definition.specs.Polynomial.{addPoly, correctedPoly, distinct, evaluate, foldPoly, geometric, mulPoly, points}
+use Rattle.definition.specs.Polynomial.{addPoly, correctedPoly, distinct, evaluate, geometric, mulPoly, points}
 use Rattle.definition.specs.Prover.{nextPoly}
 use Rattle.definition.specs.Sheet.{Level, finalCount, firstLevel, sheetOf}
 use Rattle.definition.specs.Transcript.{Coins}
@@ -111,10 +112,6 @@ module _ {w f coins : List ℕ} (ok : Allowed w f coins) where
     unfolding answerPoly
     answer-length = Lengths.length-interpolate F (samplesAt w f coins (suc i))
 
-    pub vanishing-length : length (vanishingPoly w f coins (suc i)) ≡ suc (length (samplesAt w f coins (suc i)))
-    unfolding vanishingPoly
-    vanishing-length = Lengths.length-vanishing F (points (samplesAt w f coins (suc i))) ∙ ap suc (Lengths.length-points F (samplesAt w f coins (suc i)))
-
     pub quotient-length : length (quotientPoly w f coins (suc i)) ≡ levelOf w (suc i) .degree - length (samplesAt w f coins (suc i))
     unfolding quotientPoly answerPoly samplesAt pairsOf
     quotient-length = RoundPolynomials.quotient-length F L ω (levelOf w i) g (coinsOf w coins (suc i)) (fair-round i l) (round-length (suc i) (omega arith))
@@ -139,7 +136,7 @@ module _ {w f coins : List ℕ} (ok : Allowed w f coins) where
         let x = exponents w (ok .sheet) in
         let e : x .b ≤ suc (x .a) = omega (arith, x .below) in
         let n : length (map (point F ω (levelOf w 0)) (range 0 (levelOf w 0 .size))) ≡ getD w 1 0 =
-        length-map (range 0 (levelOf w 0 .size)) (point F ω (levelOf w 0)) ∙ DecidingAccepts.range-length 0 (levelOf w 0 .size) ∙ undivided (getD w 1 0) 2 in
+        length-map (range 0 (levelOf w 0 .size)) (point F ω (levelOf w 0)) ∙ range-length 0 (levelOf w 0 .size) ∙ undivided (getD w 1 0) 2 in
         omega (arith, round-length (suc i) (omega arith), div-le-self (getD w 2 0) (getD w 3 0 ^ suc i), n, x .degree, x .size, pow-mono e)
 
     pub coefficients-divide : g ≡ addPoly F (answerPoly w f coins (suc i)) (mulPoly F (vanishingPoly w f coins (suc i)) (quotientPoly w f coins (suc i)))

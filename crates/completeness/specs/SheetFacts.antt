@@ -14,35 +14,6 @@ use Rattle.definition.specs.Lists.{firstTrue, member, range}
 use Rattle.definition.specs.Sheet.{Level, levelsFrom, powerOfTwo}
 use Rattle.definition.specs.Verdict.{accepted, refuseAt}
 
-pub as-T : (b : Bool) → b ≡ true → T b
-as-T b e = subst (λ (c : Bool). T c) (sym e) tt
-
-pub and-true : (a b : Bool) → (a && b) ≡ true → (a ≡ true) × (b ≡ true)
-and-true true b e = (refl, e)
-and-true false b e = absurd (true≢false (sym e))
-
--- no refusal: no test of the list is true
-pub all-false : (n from : ℕ) (bs : List Bool) → refuseAt n (firstTrue from bs) ≡ accepted → All (λ (b : Bool). b ≡ false) bs
-unfolding firstTrue refuseAt
-all-false n from [] e = tt
-all-false n from (true ∷ bs) e = let z : _≡_ {A = ℕ} 0 1 = cc in absurd (omega arith)
-all-false n from (false ∷ bs) e = (refl, all-false n (suc from) bs e)
-
-pub member-range : (f : ℕ → ℕ) (from n x : ℕ) → member x (map f (range from n)) ≡ true → (a : ℕ) × (from ≤ a) × (a < from + n) × (x ≡ f a)
-unfolding member range
-member-range f from zero x e = absurd (true≢false (sym e))
-member-range f from (suc n) x e = go (eqb x (f from)) refl e (member-range f (suc from) n x)
-  where
-    go : (b : Bool) → eqb x (f from) ≡ b → (b || member x (map f (range (suc from) n))) ≡ true →
-        (member x (map f (range (suc from) n)) ≡ true → (a : ℕ) × (suc from ≤ a) × (a < suc from + n) × (x ≡ f a)) →
-        (a : ℕ) × (from ≤ a) × (a < from + suc n) × (x ≡ f a)
-    go true h k r = (from, omega arith, omega arith, eqb→eq x (f from) (as-T (eqb x (f from)) h))
-    go false h k r = let q = r k in (q .0, omega (arith, q .1), omega (arith, q .2), q .3)
-
-pub power-of-two : (x : ℕ) → powerOfTwo x ≡ true → (a : ℕ) × (a < 13) × (x ≡ 2 ^ a)
-unfolding powerOfTwo
-power-of-two x e = let q = member-range (λ a. 2 ^ a) 0 13 x e in (q .0, omega (arith, q .2), q .3)
-
 -- 2^(v+c) / 2^c
 pub quotient : (v c : ℕ) → 2 ^ (v + c) / 2 ^ c ≡ 2 ^ v
 quotient v c = ap (λ (n : ℕ). n / 2 ^ c) (pow-add 2 v c) ∙ mul-div-cancel (2 ^ v) (pow-pos c)

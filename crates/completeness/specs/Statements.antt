@@ -4,7 +4,7 @@
 -- field with the laws and any fitting root: DecidingAccepts.deciding-accepts (any list of levels), RoundPolynomials, Domains, and Causal (any party that sends and asks).
 use Prim.Native.Nat.{ℕ, suc, _+_, _-_, _*_, _/_, _^_, _≤_, _<_}
 use native.Mathlib.Omega.{arith}
-use mathlib.Core.Path.{_≡_, refl}
+use mathlib.Core.Path.{_≡_}
 use mathlib.Core.Logic.{_↔_}
 use mathlib.Core.List.{List, [], _++_, map}
 use lib.ListN.{length, getD, take, drop, replicate}
@@ -19,9 +19,9 @@ use Rattle.definition.specs.Verdict.{accepted}
 use Rattle.definition.specs.Reading.{sheetTest}
 use Rattle.definition.specs.Deciding.{answers}
 use Rattle.definition.specs.Verify.{verify}
-use Rattle.definition.specs.Prover.{honestStream, nextPoly}
+use Rattle.definition.specs.Prover.{honestStream}
 use Rattle.definition.specs.Prove.{coefficientsTest, done, inputRangeTest, prove, refusal, sheetLengthTest}
-use Rattle.completeness.specs.Numbered.{Allowed, Copy, Due, Message, Room, answerPoly, coefficientsByHand, coinsByHand, coinsOf, combinationCoin, correctedOf, final, foldCoin, functionOf, lengthOf, levelOf, outCoinsOf, outsOf, pairAt, pairsOf, quotientPoly, readsDue, replies, roundOf, roundPoly, roundsOf, samplesAt, sentBefore, sheetByHand, sheetField, sheetRoot, startOf, streamOn, table, total, vanishingPoly, wordsIn}
+use Rattle.completeness.specs.Numbered.{Allowed, Copy, Due, Message, Room, answerPoly, coefficientsByHand, coinsByHand, combinationCoin, correctedOf, final, foldCoin, functionOf, lengthOf, levelOf, outCoinsOf, outsOf, pairAt, pairsOf, quotientPoly, readsDue, replies, roundOf, roundPoly, roundsOf, samplesAt, sentBefore, sheetByHand, sheetField, sheetRoot, startOf, streamOn, table, total, vanishingPoly, wordsIn}
 use Rattle.completeness.specs.Completeness
 use Rattle.completeness.specs.DecidingAccepts
 use Rattle.completeness.specs.ProveAccepted

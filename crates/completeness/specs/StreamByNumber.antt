@@ -9,12 +9,13 @@ use lib.Seq.{take-at, drop-at, drop-append-add, getD-take, getD-drop}
 use Rattle.completeness.specs.Allowed.{allowed-count, allowed-long}
 use Rattle.completeness.specs.CoinsByNumber.{coins-read}
 use Rattle.completeness.specs.Completeness.{honest-words}
-use Rattle.completeness.specs.DecidingAccepts.{range-length, table-at}
+use Rattle.completeness.specs.DecidingAccepts.{table-at, table-length}
 use Rattle.completeness.specs.DomainsByNumber.{enough-words}
 use Rattle.completeness.specs.FileTrip.{file-stream, fillCount, filled}
-use Rattle.completeness.specs.LayoutByNumber.{coins-due, opened}
+use Rattle.completeness.specs.LayoutByNumber.{coins-due}
 use Rattle.completeness.specs.LevelsByNumber.{level-first}
-use Rattle.completeness.specs.Numbered.{Allowed, Copy, Due, Message, coinCount, coinsBefore, coinsOf, combinationCoin, correctedOf, sheetField, final, finalIndices, foldCoin, lengthOf, levelOf, outCoinsOf, outsOf, read, replies, roundPoly, roundStart, roundsOf, shiftIndices, startOf, streamOn, table, wordCount, wordsIn, written, sheetRoot}
+use Rattle.completeness.specs.ListLaws.{getD-map, opened}
+use Rattle.completeness.specs.Numbered.{Allowed, Copy, Due, Message, coinCount, coinsBefore, coinsOf, combinationCoin, correctedOf, final, finalIndices, foldCoin, lengthOf, levelOf, outCoinsOf, outsOf, read, replies, roundPoly, roundStart, roundsOf, sheetField, sheetRoot, shiftIndices, startOf, streamOn, table, wordCount, wordsIn, written}
 use Rattle.completeness.specs.Parts.{firsts, firsts-length, joined, split-joined}
 use Rattle.completeness.specs.RunByNumber.{folded-length}
 use Rattle.definition.specs.Domain.{domain, point}
@@ -23,23 +24,13 @@ use Rattle.definition.specs.Layout.{laterCount}
 use Rattle.definition.specs.Lists.{range}
 use Rattle.definition.specs.Polynomial.{evaluate}
 use Rattle.definition.specs.Prover.{honest, honestRest, honestRound, honestStream, tableOf}
-use Rattle.definition.specs.Sheet.{Level, finalCount, firstLevel, sheetOf}
-use Rattle.definition.specs.Transcript.{Coins, restWords, roundWords, transcriptWords}
-
-getD-map : (f : ℕ → ℕ) (xs : List ℕ) (j : ℕ) → j < length xs → getD (map f xs) j 0 ≡ f (getD xs j 0)
-getD-map f [] j h = absurd (omega arith)
-getD-map f (x ∷ xs) zero h = refl
-getD-map f (x ∷ xs) (suc j) h = getD-map f xs j (omega arith)
+use Rattle.definition.specs.Sheet.{Level, finalCount}
+use Rattle.definition.specs.Transcript.{restWords, roundWords, transcriptWords}
 
 coins-grow : (w : List ℕ) (i m : ℕ) → coinsBefore w i ≤ coinsBefore w (i + m)
 unfolding coinsBefore
 coins-grow w i zero = let e : i + 0 ≡ i = omega arith in rw e (omega arith)
 coins-grow w i (suc m) = let e : i + suc m ≡ suc (i + m) = omega arith in rw e (omega (arith, coins-grow w i m))
-
-pub table-length : (w : List ℕ) (l : Level) (f : List ℕ) → length (tableOf (sheetField w) (sheetRoot w) l f) ≡ l .size
-unfolding tableOf domain
-table-length w l f =
-    length-map (map (point (sheetField w) (sheetRoot w) l) (range 0 (l .size))) (evaluate (sheetField w) f) ∙ length-map (range 0 (l .size)) (point (sheetField w) (sheetRoot w) l) ∙ range-length 0 (l .size)
 
 module _ (w f coins : List ℕ) where
   -- what follows table i in its round
@@ -108,7 +99,7 @@ module _ {w f coins : List ℕ} (ok : Allowed w f coins) where
 
   part-length : (i : ℕ) → i ≤ M → length (roundPart w f coins i) ≡ wordCount w i
   unfolding roundPart afterTable wordCount laterCount
-  part-length zero l = length-append (tableOf (sheetField w) (sheetRoot w) (levelOf w 0) (roundPoly w f coins 0)) _ ∙ ap (λ (n : ℕ). n + 1) (table-length w (levelOf w 0) (roundPoly w f coins 0))
+  part-length zero l = length-append (tableOf (sheetField w) (sheetRoot w) (levelOf w 0) (roundPoly w f coins 0)) _ ∙ ap (λ (n : ℕ). n + 1) (table-length (sheetField w) (sheetRoot w) (levelOf w 0) (roundPoly w f coins 0))
   part-length (suc i) l =
       let g = roundPoly w f coins (suc i) in
       let t = tableOf (sheetField w) (sheetRoot w) (levelOf w (suc i)) g in
@@ -120,7 +111,7 @@ module _ {w f coins : List ℕ} (ok : Allowed w f coins) where
         length-append t (o ++ (p ++ q)),
         length-append o (p ++ q),
         length-append p q,
-        table-length w (levelOf w (suc i)) g,
+        table-length (sheetField w) (sheetRoot w) (levelOf w (suc i)) g,
         length-map o (evaluate (sheetField w) g),
         outs-length i (omega arith),
         shifts-length i (omega arith),
@@ -147,7 +138,7 @@ module _ {w f coins : List ℕ} (ok : Allowed w f coins) where
         let t = tableOf (sheetField w) (sheetRoot w) (levelOf w i) (roundPoly w f coins i) in
         ap (take (levelOf w i .size)) (ap (λ (n : ℕ). drop n (honestStream w f coins ++ z)) (sym (Nat.add-zero (roundStart w i))) ∙ stream-after i (suc (M - i)) 0 (omega arith)
         ∙ ap (λ (x : List ℕ). x ++ z) (append-assoc t _ _) ∙ append-assoc t _ z)
-        ∙ take-at t _ (levelOf w i .size) (table-length w (levelOf w i) (roundPoly w f coins i))
+        ∙ take-at t _ (levelOf w i .size) (table-length (sheetField w) (sheetRoot w) (levelOf w i) (roundPoly w f coins i))
     message-words (replies zero) l = absurd (omega (arith, l .0))
     message-words (replies (suc i)) l =
         let g = roundPoly w f coins (suc i) in
@@ -157,7 +148,7 @@ module _ {w f coins : List ℕ} (ok : Allowed w f coins) where
         let n = levelOf w (suc i) .size + s in
         ap (take s) (stream-after (suc i) (suc (M - suc i)) n (omega (arith, l .1))
         ∙ ap (λ (x : List ℕ). drop n (x ++ z)) (opened t o p _ _) ∙ ap (drop n) (append-assoc (t ++ o) _ z)
-        ∙ drop-at (t ++ o) _ n (length-append t o ∙ (λ x. table-length w (levelOf w (suc i)) g x + outs-length i (omega (arith, l .1)) x))
+        ∙ drop-at (t ++ o) _ n (length-append t o ∙ (λ x. table-length (sheetField w) (sheetRoot w) (levelOf w (suc i)) g x + outs-length i (omega (arith, l .1)) x))
         ∙ append-assoc p _ z)
         ∙ take-at p _ s (length-map o (evaluate (sheetField w) g) ∙ outs-length i (omega (arith, l .1)))
     message-words final l =
