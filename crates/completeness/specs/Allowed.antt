@@ -1,14 +1,10 @@
 -- What the premises say, word by word: a sheet of 12 words, d0 coefficients, and coins each of which passes refusals 5 and 7.
 use Prim.Native.Nat.{ℕ, _+_}
-use native.Mathlib.Omega.{arith}
-use mathlib.Core.Path.{_≡_, refl, sym, ap, _∙_, subst}
-use mathlib.Core.Bool.{Bool, true, false, not}
+use mathlib.Core.Path.{_≡_, sym, ap, _∙_, subst}
+use mathlib.Core.Bool.{false}
 use mathlib.Core.List.{List, [], _∷_, _++_}
-use mathlib.Core.Option.{Option, none, some}
-use lib.Dec.{eqb}
 use lib.ListN.{length, getD, drop, replicate, length-append, length-replicate}
 use lib.Seq.{drop-at}
-use borrow.Author.Tests.{eqb-true, not-false}
 use Rattle.completeness.specs.EachWord.{Each, each-append-at, each-false, each-pair}
 use Rattle.completeness.specs.FairCoins.{Passes}
 use Rattle.completeness.specs.LayoutFacts.{Dealt, coins-append, coins-messages, dealt}
@@ -19,14 +15,13 @@ use Rattle.definition.specs.Layout.{Kind, coin, coinKinds, layout, message, res
 use Rattle.definition.specs.Prove.{coefficientsTest, coinDomainTest, coinsTest, inputRangeTest, sheetLengthTest}
 use Rattle.definition.specs.Reading.{outOfRange}
 use Rattle.definition.specs.Sheet.{Sheet, firstLevel, laterLevels, sheetOf}
-use Rattle.definition.specs.Verdict.{accepted, refuseAt, refuseIf}
 
 head-each : (R : Kind → ℕ → Type 0) (k : Kind) (ks : List Kind) (w : List ℕ) → Each R (k ∷ ks) w → R k (getD w 0 0) × Each R ks (drop 1 w)
 head-each R k ks [] h = absurd h
 head-each R k ks (x ∷ w) h = h
 
 -- fold coin 0 comes first
-pub layout-coins : (h : Sheet) → coinKinds (layout h) ≡ coin ∷ coinKinds (restLayout (h .outCoins) (firstLevel h) (laterLevels h))
+layout-coins : (h : Sheet) → coinKinds (layout h) ≡ coin ∷ coinKinds (restLayout (h .outCoins) (firstLevel h) (laterLevels h))
 unfolding layout coinKinds
 layout-coins h = coins-append (replicate (h .size) message) (coin ∷ restLayout (h .outCoins) (firstLevel h) (laterLevels h)) ∙ rw coins-messages
 
@@ -44,7 +39,7 @@ module _ {w f coins : List ℕ} (ok : Allowed w f coins) where
   allowed-count = equal-passes 10 2 (length coins) (length (coinKinds (layout (sheetOf w)))) (ok .full)
 
   -- each coin passes refusals 5 and 7
-  pub allowed-coins : Each (Passes (sheetOf w)) (coinKinds (layout (sheetOf w))) coins
+  allowed-coins : Each (Passes (sheetOf w)) (coinKinds (layout (sheetOf w))) coins
   unfolding inputRangeTest coinDomainTest
   allowed-coins =
       let h = sheetOf w in

@@ -11,7 +11,7 @@ use Rattle.algebra.specs.ListFacts.{All}
 use Rattle.definition.specs.Block.{bytesOf, checkWord, lowBytes, wordOf, wrongChecks}
 use Rattle.definition.specs.Lists.{chunks}
 
-pub word-of-bytes : (w : ℕ) → w < 4294967296 → wordOf (bytesOf w) ≡ w
+word-of-bytes : (w : ℕ) → w < 4294967296 → wordOf (bytesOf w) ≡ w
 unfolding wordOf bytesOf lowBytes
 word-of-bytes w h = omega arith
 
@@ -33,7 +33,7 @@ unfoldable pub sealed : ℕ → List (List ℕ) → List (List ℕ)
 sealed b [] = []
 sealed b (x ∷ xs) = (x ++ (checkWord b x ∷ [])) ∷ sealed (suc b) xs
 
-pub eqb-same : (n : ℕ) → eqb n n ≡ true
+eqb-same : (n : ℕ) → eqb n n ≡ true
 eqb-same n = go (eqb n n) (eqb-refl n)
   where
     go : (b : Bool) → T b → b ≡ true

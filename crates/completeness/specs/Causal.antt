@@ -36,7 +36,7 @@ before (ask n k) u =
     let next = take n u ++ before (k (take n u)) (drop n u) in
     cond (leb n (length u)) next u
 
-pub take-past : (u v : List ℕ) (n : ℕ) → length u ≤ n → take n (u ++ v) ≡ u ++ take (n - length u) v
+take-past : (u v : List ℕ) (n : ℕ) → length u ≤ n → take n (u ++ v) ≡ u ++ take (n - length u) v
 take-past [] v n h = ap (λ (m : ℕ). take m v) (sym (sub-zero n))
 take-past (x ∷ u) v zero h = absurd (not-suc-le-zero h)
 take-past (x ∷ u) v (suc n) h =
@@ -74,23 +74,23 @@ module _ (F : Field ℕ) (ω s : ℕ) where
   coinsDue b [] = b .repetitions
   coinsDue b (l ∷ ls) = s + (laterCount b + coinsDue l ls)
 
-  pub later-words : (v : List ℕ) → 2 ≤ length v → getD v 0 0 ∷ getD v 1 0 ∷ drop 2 v ≡ v
+  later-words : (v : List ℕ) → 2 ≤ length v → getD v 0 0 ∷ getD v 1 0 ∷ drop 2 v ≡ v
   later-words [] h = absurd (not-suc-le-zero h)
   later-words (a ∷ []) h = absurd (not-suc-le-zero (le-of-suc-le-suc h))
   later-words (a ∷ b ∷ v) h = refl
 
-  pub two : (b : Level) (w : List ℕ) (ls : List Level) (l : Level) → length (drop s w) ≡ laterCount b + coinsDue l ls → 2 ≤ length (take (laterCount b) (drop s w))
+  two : (b : Level) (w : List ℕ) (ls : List Level) (l : Level) → length (drop s w) ≡ laterCount b + coinsDue l ls → 2 ≤ length (take (laterCount b) (drop s w))
   unfolding laterCount
   two b w ls l h = rw length-take (omega arith)
 
-  pub round-words : (g : List ℕ) (l : Level) (o v rest : List ℕ) → 2 ≤ length v →
+  round-words : (g : List ℕ) (l : Level) (o v rest : List ℕ) → 2 ≤ length v →
       roundWords (honestRound F ω g (roundCoins l o v)) ++ rest ≡ tableOf F ω l g ++ (o ++ (map (evaluate F g) o ++ (v ++ rest)))
   unfolding roundWords honestRound roundCoins
   round-words g l o v rest h =
       ap (λ (t : List ℕ). (tableOf F ω l g ++ (o ++ (map (evaluate F g) o ++ t))) ++ rest) (later-words v h)
       ∙ regroup (tableOf F ω l g) o (map (evaluate F g) o) v rest
 
-  pub prover-words : (b : Level) (f : List ℕ) (r : ℕ) (ls : List Level) (w : List ℕ) → length w ≡ coinsDue b ls →
+  prover-words : (b : Level) (f : List ℕ) (r : ℕ) (ls : List Level) (w : List ℕ) → length w ≡ coinsDue b ls →
       restWords (honestRest F ω b f r (readRounds s b ls w) (readFinals s b ls w)) ≡ run (prover b f r ls) w
   unfolding restWords honestRest readRounds readFinals run prover coinsDue roundCoins
   prover-words b f r [] w h = ap (λ (t : List ℕ). foldPoly F (b .fold) r f ++ t) (sym (append-nil _ ∙ take-all (b .repetitions) w (omega arith)))

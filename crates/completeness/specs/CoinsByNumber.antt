@@ -4,9 +4,9 @@ use native.Mathlib.Nat
 use native.Mathlib.Nat.{suc-add, zero-add}
 use native.Mathlib.Omega.{arith}
 use mathlib.Core.Path.{_≡_, refl, sym, ap, _∙_}
-use mathlib.Core.List.{List, [], _∷_, map}
+use mathlib.Core.List.{List, _∷_, map}
 use lib.ListN.{length, getD, take, drop}
-use lib.Seq.{take-nil, drop-drop, getD-take, getD-drop}
+use lib.Seq.{drop-drop, getD-take, getD-drop}
 use Rattle.completeness.specs.LevelsByNumber.{level-first, levels-later}
 use Rattle.completeness.specs.ListLaws.{drop-take}
 use Rattle.completeness.specs.Numbered.{coinCount, coinsBefore, coinsOf, combinationCoin, finalIndices, foldCoin, levelOf, outCoinsOf, outsOf, roundsOf, shiftIndices}

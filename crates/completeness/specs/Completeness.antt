@@ -3,9 +3,9 @@ use Rattle.algebra.specs.PrimeField.{signs-differ}
 use Prim.Native.Nat.{ℕ, zero, suc, _+_, _*_, _/_, _%_, _≤_, _<_}
 use native.Mathlib.Omega.{arith}
 use mathlib.Core.Path.{_≡_, refl, sym, ap, _∙_}
-use mathlib.Core.Bool.{Bool, true, false, not, _||_}
+use mathlib.Core.Bool.{true, false, not, _||_}
 use mathlib.Core.List.{List, [], _∷_, _++_, map, zipWith, append-assoc}
-use mathlib.Core.Option.{Option, none}
+use mathlib.Core.Option.{none}
 use lib.Dec.{eqb}
 use lib.ListN.{length, drop, replicate, length-append}
 use lib.Seq.{drop-at}
@@ -23,7 +23,7 @@ use Rattle.completeness.specs.Numbered.{Allowed, readsDue}
 use Rattle.completeness.specs.Reads.{all-reads, sheet-reads}
 use Rattle.completeness.specs.Ready.{Ready, layout-fits, ready}
 use Rattle.completeness.specs.SheetLevels.{rules-front, sheet-front}
-use Rattle.completeness.specs.SheetPassed.{sheet-words}
+use Rattle.completeness.specs.SheetRules.{sheet-words}
 use Rattle.completeness.specs.Tests.{at-none, if-false, none-true}
 use Rattle.definition.specs.Block.{blockCount, fileOf, streamOf}
 use Rattle.definition.specs.Deciding.{decide, deciding, outInDomain, outTest, ownPlace, readsOf}
@@ -34,7 +34,7 @@ use Rattle.definition.specs.Prover.{honest, honestStream}
 use Rattle.definition.specs.Reading.{blocksTest, bodyTests, checkTest, fillTest, lengthTest, outOfRange, rangeTest, reading, streamTests}
 use Rattle.definition.specs.Sheet.{Sheet, firstLevel, laterLevels, rootOfUnity, sheetOf}
 use Rattle.definition.specs.Transcript.{Transcript, transcriptWords}
-use Rattle.definition.specs.Verdict.{_then_, accepted, refuseAt, refuseIf, thenVerdict}
+use Rattle.definition.specs.Verdict.{_then_, accepted, thenVerdict}
 use Rattle.definition.specs.Verify.{verify}
 
 no-fill : (from n : ℕ) → firstTrue from (map (λ (x : ℕ). not (eqb x 0)) (replicate n 0)) ≡ none
@@ -77,7 +77,7 @@ module _ {w f coins : List ℕ} (ok : Allowed w f coins) where
   positive = omega (arith, sheetReady .large)
 
   -- the words after the sheet
-  pub honest-each : Each (Passes h) (layout h) (transcriptWords τ)
+  honest-each : Each (Passes h) (layout h) (transcriptWords τ)
   unfolding readCoins
   honest-each = words-each h (sheetReady .laws) positive f coins (allowed-degree ok) (allowed-first ok) (allowed-rounds ok) fair-coins
 
@@ -89,6 +89,10 @@ module _ {w f coins : List ℕ} (ok : Allowed w f coins) where
   unfolding honestStream wordsDue
   honest-length = length-append w (transcriptWords τ) ∙ (λ i. long i + each-length (Passes h) (layout h) (transcriptWords τ) honest-each i)
 
+  -- the file has the blocks that the sheet needs
+  pub file-size : length (fileOf (honestStream w f coins)) ≡ 512 * blockCount (wordsDue h)
+  file-size = file-length (honestStream w f coins) ∙ ap (λ (n : ℕ). 512 * blockCount n) honest-length
+
   abbrev fill : List ℕ
   fill = replicate (fillCount (honestStream w f coins)) 0
 
@@ -98,20 +102,17 @@ module _ {w f coins : List ℕ} (ok : Allowed w f coins) where
   stream = file-stream (honestStream w f coins) honest-words ∙ append-assoc w (transcriptWords τ) fill
 
   -- refusals 1 to 6 are not given
-  pub length-passes : lengthTest (fileOf (honestStream w f coins)) ≡ accepted
+  length-passes : lengthTest (fileOf (honestStream w f coins)) ≡ accepted
   unfolding lengthTest blockCount wordsDue
   length-passes = if-false 1 0 _ (λ i. positive-length i || not (whole i))
     where
-      size : length (fileOf (honestStream w f coins)) ≡ 512 * blockCount (wordsDue h)
-      size = file-length (honestStream w f coins) ∙ ap (λ (n : ℕ). 512 * blockCount n) honest-length
-
       positive-length : eqb (length (fileOf (honestStream w f coins))) 0 ≡ false
-      positive-length = ne-eqb (length (fileOf (honestStream w f coins))) 0 (omega (arith, size))
+      positive-length = ne-eqb (length (fileOf (honestStream w f coins))) 0 (omega (arith, file-size))
 
       whole : eqb (length (fileOf (honestStream w f coins)) % 512) 0 ≡ true
-      whole = eq-eqb (length (fileOf (honestStream w f coins)) % 512) 0 (omega (arith, size))
+      whole = eq-eqb (length (fileOf (honestStream w f coins)) % 512) 0 (omega (arith, file-size))
 
-  pub checks-pass : checkTest (fileOf (honestStream w f coins)) ≡ accepted
+  checks-pass : checkTest (fileOf (honestStream w f coins)) ≡ accepted
   unfolding checkTest
   checks-pass = at-none 2 _ (none-true 0 _ (file-checks (honestStream w f coins) honest-words))
 
@@ -127,7 +128,7 @@ module _ {w f coins : List ℕ} (ok : Allowed w f coins) where
   blocks-pass = if-false 4 _ _ (ap not (eq-eqb _ _ count))
     where
       count : length (fileOf (honestStream w f coins)) / 512 ≡ blockCount (wordsDue h)
-      count = omega (arith, file-length (honestStream w f coins) ∙ ap (λ (n : ℕ). 512 * blockCount n) honest-length)
+      count = omega (arith, file-size)
 
   range-passes : rangeTest h (w ++ (transcriptWords τ ++ fill)) ≡ accepted
   unfolding rangeTest
@@ -155,7 +156,7 @@ module _ {w f coins : List ℕ} (ok : Allowed w f coins) where
   stream-passes = rw (rules-front w long (ok .sheet) (transcriptWords τ ++ fill), sheet-front w long (ok .sheet) (transcriptWords τ ++ fill)) body-passes
 
   -- reading: refusals 1 to 6
-  pub reading-passes : reading (fileOf (honestStream w f coins)) ≡ accepted
+  reading-passes : reading (fileOf (honestStream w f coins)) ≡ accepted
   unfolding reading _then_
   reading-passes = rw (length-passes, checks-pass, stream) stream-passes
 

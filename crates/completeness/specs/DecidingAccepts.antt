@@ -1,11 +1,10 @@
 -- Deciding accepts every honest transcript, in any field with the laws, over any list of levels and any fair coins. No word of a stream is in it.
-use Prim.Native.Nat.{ℕ, zero, suc, _+_, _*_, _/_, _≤_, _<_}
-use native.Mathlib.Nat.{le-of-suc-le-suc, not-suc-le-zero, add-suc, suc-add, zero-add, add-zero}
+use Prim.Native.Nat.{ℕ, _+_, _*_, _/_, _≤_, _<_}
+use native.Mathlib.Nat.{zero-add}
 use native.Mathlib.Omega.{arith}
 use mathlib.Core.Path.{_≡_, refl, sym, ap, _∙_}
 use mathlib.Core.Bool.{Bool, true, false, not, _&&_, _||_}
 use mathlib.Core.List.{List, [], _∷_, _++_, map, append-assoc}
-use mathlib.Core.Option.{none}
 use lib.ListN.{length, getD, length-map, length-append}
 use Rattle.algebra.specs.Correction
 use Rattle.algebra.specs.Evaluation
@@ -22,7 +21,7 @@ use Rattle.completeness.specs.Tests.{none-true}
 use Rattle.definition.specs.Deciding.{Function, Place, answers, decide, decideFinal, decideRest, differences, nextFunction, ownPlace, placesOf, readsOf, tableFunction, treated}
 use Rattle.definition.specs.Domain.{domain, foldAt, point, rootNumbers, shiftPoint}
 use Rattle.definition.specs.Field.{Field, power}
-use Rattle.definition.specs.Lists.{chunks, firstTrue, range}
+use Rattle.definition.specs.Lists.{chunks, range}
 use Rattle.definition.specs.Polynomial.{Sample, clash, contradicts, correctedValue, distinct, evaluate, foldPoly, interpolate, pair, points}
 use Rattle.definition.specs.Prover.{honest, honestAnswers, honestRest, honestRound, nextPoly, samplesOf, tableOf}
 use Rattle.definition.specs.Sheet.{Level, shiftCount}
@@ -83,7 +82,7 @@ module _ {A : Type 0} (F : Field A) (ω : A) where
       go [] = tt
       go (x ∷ xs) = (refl, go xs)
 
-  pub answers-length : (b : Level) (g : List A) (c : RoundCoins A) → length (honestAnswers F ω b g c) ≡ length (c .outs) + length (c .shifts)
+  answers-length : (b : Level) (g : List A) (c : RoundCoins A) → length (honestAnswers F ω b g c) ≡ length (c .outs) + length (c .shifts)
   unfolding honestAnswers samplesOf
   answers-length b g c =
       length-map (c .outs ++ map (shiftPoint F ω b) (c .shifts)) _ ∙ length-append (c .outs) _ ∙ rw (length-map (c .shifts) (shiftPoint F ω b))
@@ -195,13 +194,13 @@ module _ {A : Type 0} (F : Field A) (L : FieldLaws F) (ω : A) where
       (all-distinct F (λ p. Differ F (point F ω (c .level) m) (p .point)) (honestAnswers F ω b g c) (off-points b g c fair m h)))
 
   -- the fold of a polynomial of degree below d_i has degree below d_(i+1), and so has its correction
-  pub fold-length : (b : Level) (f : List A) (r : A) (c : RoundCoins A) → length f ≡ b .degree → FairRound b c → length (foldPoly F (b .fold) r f) ≡ c .level .degree
+  fold-length : (b : Level) (f : List A) (r : A) (c : RoundCoins A) → length f ≡ b .degree → FairRound b c → length (foldPoly F (b .fold) r f) ≡ c .level .degree
   fold-length b f r c len fair = Lengths.length-fold F (b .fold) r f ∙ rw (len, fair .degree)
 
   pub fewer-samples : (b : Level) (g : List A) (c : RoundCoins A) → FairRound b c → length (distinct F (honestAnswers F ω b g c)) < c .level .degree
   fewer-samples b g c fair = omega (arith, distinct-length F (honestAnswers F ω b g c), answers-length F ω b g c, fair .few)
 
-  pub next-length : (b : Level) (g : List A) (c : RoundCoins A) → length g ≡ c .level .degree → FairRound b c → length (nextPoly F ω b g c) ≡ c .level .degree
+  next-length : (b : Level) (g : List A) (c : RoundCoins A) → length g ≡ c .level .degree → FairRound b c → length (nextPoly F ω b g c) ≡ c .level .degree
   unfolding nextPoly
   next-length b g c size fair =
       Lengths.length-corrected F (distinct F (honestAnswers F ω b g c)) (c .combination) g (omega (arith, fewer-samples b g c fair)) ∙ size

@@ -14,7 +14,7 @@ use Rattle.algebra.specs.Laws.{FieldLaws}
 use Rattle.algebra.specs.ListFacts.{all-of-map, all-range, map-map}
 use Rattle.algebra.specs.RootsOfUnity.{minusOne}
 use Rattle.completeness.specs.DecidingAccepts.{Foldable}
-use Rattle.completeness.specs.SheetFacts.{Sized}
+use Rattle.completeness.specs.LevelSizes.{Sized}
 use Rattle.completeness.specs.SheetLevels.{Step}
 use Rattle.definition.specs.Domain.{domain, point, rootNumbers, shiftPoint}
 use Rattle.definition.specs.Field.{Field, power}

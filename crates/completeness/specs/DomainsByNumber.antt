@@ -12,9 +12,9 @@ use Rattle.completeness.specs.Domains.{Roots}
 use Rattle.completeness.specs.LevelsByNumber.{level-first, levels-later}
 use Rattle.completeness.specs.Numbered.{levelOf, roundsOf, sheetField, sheetRoot}
 use Rattle.completeness.specs.Ready.{Ready, ready}
-use Rattle.completeness.specs.SheetFacts.{Chain, Sized}
+use Rattle.completeness.specs.LevelSizes.{Chain, Sized}
 use Rattle.completeness.specs.SheetLevels.{Step, Steps}
-use Rattle.completeness.specs.SheetPassed.{exponents}
+use Rattle.completeness.specs.SheetRules.{exponents}
 use Rattle.completeness.specs.Tests.{equal-passes}
 use Rattle.completeness.specs.Domains
 use Rattle.definition.specs.Domain.{point, shiftPoint}
@@ -51,7 +51,7 @@ module _ (w : List ℕ) (long : length w ≡ 12) (passed : sheetTest w ≡ accep
   enough-words = omega (arith, long, exponents w passed .most)
 
   -- a fact on the levels as the sheet lists them, and as they are numbered
-  pub by-number : (P : Level → List Level → Type 0) → P (firstLevel (sheetOf w)) (laterLevels (sheetOf w)) → P (levelOf w 0) (map (levelOf w) (range 1 (roundsOf w)))
+  by-number : (P : Level → List Level → Type 0) → P (firstLevel (sheetOf w)) (laterLevels (sheetOf w)) → P (levelOf w 0) (map (levelOf w) (range 1 (roundsOf w)))
   by-number P p = subst (λ (ls : List Level). P (levelOf w 0) ls) (levels-later w enough-words) (subst (λ (b : Level). P b (laterLevels (sheetOf w))) (level-first w) p)
 
   pub sized : (i : ℕ) → i ≤ roundsOf w → Sized (suc (r .e)) (levelOf w i)

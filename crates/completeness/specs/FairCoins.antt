@@ -20,7 +20,7 @@ use Rattle.completeness.specs.Domains.{foldable, never-meet}
 use Rattle.completeness.specs.EachWord.{Each, each-later, each-replicate}
 use Rattle.completeness.specs.LayoutFacts.{Dealt}
 use Rattle.completeness.specs.ListLaws.{all-at}
-use Rattle.completeness.specs.SheetFacts.{Chain, Sized}
+use Rattle.completeness.specs.LevelSizes.{Chain, Sized}
 use Rattle.completeness.specs.SheetLevels.{Step, Steps}
 use Rattle.definition.specs.Deciding.{outInDomain}
 use Rattle.definition.specs.Domain.{domain, inDomain, inList, point, shiftPoint}

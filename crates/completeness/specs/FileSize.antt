@@ -11,7 +11,7 @@ use lib.Seq.{getD-drop}
 use borrow.Author.Tests.{eqb-true, not-false}
 use Rattle.algebra.specs.ListFacts.{All}
 use Rattle.completeness.specs.LayoutFacts.{round-length}
-use Rattle.completeness.specs.SheetPassed.{between-true, exponents, rules-hold, small-repetitions}
+use Rattle.completeness.specs.SheetRules.{between-true, exponents, rules-hold, small-repetitions}
 use Rattle.completeness.specs.Tests.{and-true, equal-passes, if-passes, then-passes}
 use Rattle.definition.specs.Block.{blockCount, streamOf}
 use Rattle.definition.specs.Layout.{coin, index, laterCount, layout, message, restLayout, roundLayout, wordsDue}
@@ -59,7 +59,7 @@ tail-small : (l : List ℕ) → All (λ x. x ≤ 64) l → All (λ x. x ≤ 64) 
 tail-small [] h = tt
 tail-small (x ∷ l) h = h .1
 
-pub sheet-size : (w : List ℕ) → sheetTest w ≡ accepted → length (layout (sheetOf w)) ≤ 10656
+sheet-size : (w : List ℕ) → sheetTest w ≡ accepted → length (layout (sheetOf w)) ≤ 10656
 unfolding layout sheetOf firstLevel laterLevels sheetRules outCoinsRule degreeRule
 sheet-size w e =
     let x = exponents w e in
@@ -81,7 +81,7 @@ sheet-size w e =
     )
 
 -- the file of a sheet that passes
-pub file-size : (w : List ℕ) → sheetTest w ≡ accepted → 512 * blockCount (wordsDue (sheetOf w)) < 65536
+file-size : (w : List ℕ) → sheetTest w ≡ accepted → 512 * blockCount (wordsDue (sheetOf w)) < 65536
 unfolding blockCount wordsDue
 file-size w e = omega (arith, sheet-size w e)
 

@@ -9,7 +9,6 @@ use lib.Seq.{take-at, drop-at}
 use borrow.Author.Tests.{lt-leb}
 use Rattle.algebra.specs.Lengths
 use Rattle.completeness.specs.DecidingAccepts
-use Rattle.completeness.specs.RoundTrip
 use Rattle.algebra.specs.Laws.{FieldLaws}
 use Rattle.algebra.specs.ListFacts.{All}
 use Rattle.completeness.specs.DecidingAccepts.{Fair, table-length}
@@ -18,15 +17,15 @@ use Rattle.completeness.specs.FairCoins.{Passes}
 use Rattle.completeness.specs.LayoutFacts.{Dealt}
 use Rattle.completeness.specs.RoundTrip.{Shaped, round-trip}
 use Rattle.definition.specs.Deciding.{outInDomain}
-use Rattle.definition.specs.Domain.{domain, point}
+use Rattle.definition.specs.Domain.{domain}
 use Rattle.definition.specs.Field.{Field, primeField}
 use Rattle.definition.specs.Layout.{Kind, coin, index, laterCount, layout, limit, message, out, readCoins, readFinals, readRest, readRounds, readTranscript, restLayout, roundCoins, roundLayout}
-use Rattle.definition.specs.Lists.{chunks, range}
+use Rattle.definition.specs.Lists.{chunks}
 use Rattle.definition.specs.Polynomial.{evaluate, foldPoly}
 use Rattle.definition.specs.Prover.{honest, honestRest, honestRound, nextPoly, tableOf}
 use Rattle.definition.specs.Reading.{outOfRange}
 use Rattle.definition.specs.Sheet.{Level, Sheet, finalCount, firstLevel, laterLevels, rootOfUnity, shiftCount}
-use Rattle.definition.specs.Transcript.{Rest, final, restWords, round, roundWords, transcriptWords}
+use Rattle.definition.specs.Transcript.{restWords, roundWords, transcriptWords}
 
 -- level 0's degree bound is d0
 pub first-degree : (h : Sheet) (f : List ℕ) → length f ≡ h .degree → length f ≡ firstLevel h .degree
@@ -48,7 +47,7 @@ module _ (h : Sheet) (L : FieldLaws (primeField (h .prime))) (positive : 0 < h .
   ω = rootOfUnity h
 
   -- a value of a polynomial is an element
-  pub evaluate-below : (f : List ℕ) (x : ℕ) → evaluate F f x < h .prime
+  evaluate-below : (f : List ℕ) (x : ℕ) → evaluate F f x < h .prime
   unfolding evaluate primeField
   evaluate-below [] x = positive
   evaluate-below (c ∷ cs) x = mod-lt _ positive
@@ -69,7 +68,7 @@ module _ (h : Sheet) (L : FieldLaws (primeField (h .prime))) (positive : 0 < h .
   unfolding foldPoly
   fold-values k r f = values-pass (λ c. c) (λ c. r) (chunks (length f / k) k f)
 
-  pub table-each : (l : Level) (f : List ℕ) → Each (Passes h) (replicate (l .size) message) (tableOf F ω l f)
+  table-each : (l : Level) (f : List ℕ) → Each (Passes h) (replicate (l .size) message) (tableOf F ω l f)
   table-each l f = each-same (Passes h) (l .size) message (tableOf F ω l f) (table-length F ω l f) (table-values l f)
 
   final-each : (b : Level) (f : List ℕ) (r : ℕ) → length f ≡ b .degree → Each (Passes h) (replicate (finalCount b) message) (foldPoly F (b .fold) r f)
@@ -90,7 +89,7 @@ module _ (h : Sheet) (L : FieldLaws (primeField (h .prime))) (positive : 0 < h .
       (later-each (Passes h) (b .repetitions) (shiftCount b) v hv)))
 
   -- each word after fold coin 0 is of its kind and in range
-  pub rest-each : (s : ℕ) (b : Level) (ls : List Level) (f : List ℕ) (r : ℕ) (w : List ℕ) → length f ≡ b .degree → Dealt (Passes h) s b ls w →
+  rest-each : (s : ℕ) (b : Level) (ls : List Level) (f : List ℕ) (r : ℕ) (w : List ℕ) → length f ≡ b .degree → Dealt (Passes h) s b ls w →
       Fair F L ω b (readRounds s b ls w) (readFinals s b ls w) →
       Each (Passes h) (restLayout s b ls) (restWords (honestRest F ω b f r (readRounds s b ls w) (readFinals s b ls w)))
   unfolding restLayout restWords honestRest readRounds readFinals roundCoins
@@ -103,7 +102,7 @@ module _ (h : Sheet) (L : FieldLaws (primeField (h .prime))) (positive : 0 < h .
       (rest-each s l ls (nextPoly F ω b g c) (getD v 1 0) (drop (laterCount b) (drop s w)) (DecidingAccepts.next-fits F L ω b f r c len (fair .0)) (d .2) (fair .1))
 
   -- the honest messages have the lengths due
-  pub rest-shaped : (s : ℕ) (b : Level) (ls : List Level) (f : List ℕ) (r : ℕ) (w : List ℕ) → length f ≡ b .degree → Dealt (Passes h) s b ls w →
+  rest-shaped : (s : ℕ) (b : Level) (ls : List Level) (f : List ℕ) (r : ℕ) (w : List ℕ) → length f ≡ b .degree → Dealt (Passes h) s b ls w →
       Fair F L ω b (readRounds s b ls w) (readFinals s b ls w) →
       Shaped s b ls (honestRest F ω b f r (readRounds s b ls w) (readFinals s b ls w))
   unfolding honestRest readRounds readFinals roundCoins finalCount honestRound

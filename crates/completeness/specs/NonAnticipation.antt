@@ -58,7 +58,7 @@ module _ (w f c d : List ℕ) where
   same-round (suc i) e = λ x. foldPoly (sheetField w) (levelOf w i .fold) (same-fold i e x) (same-corrected i e x)
 
   -- Each message is settled by the coins before it.
-  pub same-message : (m : Message) → take (sentBefore w m) c ≡ take (sentBefore w m) d → messageOf w f c m ≡ messageOf w f d m
+  same-message : (m : Message) → take (sentBefore w m) c ≡ take (sentBefore w m) d → messageOf w f c m ≡ messageOf w f d m
   unfolding sentBefore messageOf outCoinsOf
   same-message (table i) e = ap (tableOf (sheetField w) (sheetRoot w) (levelOf w i)) (same-round i e)
   same-message (replies i) e =

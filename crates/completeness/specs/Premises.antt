@@ -17,7 +17,7 @@ use Rattle.completeness.specs.EachWord.{Each, each-false, each-join, eac
 use Rattle.completeness.specs.LayoutFacts.{layout-all}
 use Rattle.completeness.specs.Numbered.{Allowed, coefficientsByHand, coinsByHand, sheetByHand}
 use Rattle.completeness.specs.Ready.{Ready, ready}
-use Rattle.completeness.specs.SheetFacts.{Sized}
+use Rattle.completeness.specs.LevelSizes.{Sized}
 use Rattle.completeness.specs.Tests.{at-none, at-passes, equal-passes, if-false}
 use Rattle.definition.specs.Deciding.{outInDomain}
 use Rattle.definition.specs.Domain.{domain, inDomain, inList, point}
@@ -55,7 +55,7 @@ module _ {A : Type 0} (F : Field A) (L : FieldLaws F) where
           single : power F (minusOne F) 1 ≡ minusOne F
           single = RootsOfUnity.power-suc F L (minusOne F) 0 ∙ ap (λ (y : A). minusOne F ⊗ y) (RootsOfUnity.power-zero F L (minusOne F)) ∙ mul-one (minusOne F) ∙ RootsOfUnity.minus-reduced F L
 
-  pub power-nonzero : (ω : A) (e n : ℕ) → power F ω (2 ^ e) ≡ minusOne F → power F ω n ≡ 𝟘 → ⊥
+  power-nonzero : (ω : A) (e n : ℕ) → power F ω (2 ^ e) ≡ minusOne F → power F ω n ≡ 𝟘 → ⊥
   power-nonzero ω e n root z =
       let k = 2 ^ e in
       let a : power F (power F ω n) k ≡ 𝟘 = ap (λ (y : A). power F y k) z ∙ nought-power k (pow-pos e) in

@@ -13,7 +13,7 @@ use Rattle.completeness.specs.EachWord.{each-later, each-replicate}
 use Rattle.completeness.specs.LayoutFacts.{Dealt}
 use Rattle.completeness.specs.Numbered.{readsDue, total}
 use Rattle.completeness.specs.SheetLevels.{about-levels}
-use Rattle.completeness.specs.SheetPassed.{exponents}
+use Rattle.completeness.specs.SheetRules.{exponents}
 use Rattle.definition.specs.Deciding.{ownPlace, placesOf}
 use Rattle.definition.specs.Domain.{rootNumbers}
 use Rattle.definition.specs.Field.{Field}

@@ -12,9 +12,9 @@ use Rattle.algebra.specs.ListFacts.{All}
 use Rattle.algebra.specs.PrimeField.{Suited, suited}
 use Rattle.algebra.specs.RootsOfUnity.{minusOne}
 use Rattle.completeness.specs.LayoutFacts.{layout-all}
-use Rattle.completeness.specs.SheetFacts.{Chain, Sized}
+use Rattle.completeness.specs.LevelSizes.{Chain, Sized}
 use Rattle.completeness.specs.SheetLevels.{Steps, sheet-chain, sheet-steps}
-use Rattle.completeness.specs.SheetPassed.{exponents}
+use Rattle.completeness.specs.SheetRules.{exponents}
 use Rattle.definition.specs.Field.{power, primeField}
 use Rattle.definition.specs.Layout.{layout, limit}
 use Rattle.definition.specs.Reading.{sheetTest}

@@ -4,7 +4,7 @@ use native.Mathlib.Omega.{arith}
 use mathlib.Core.Path.{_≡_, ap, _∙_}
 use mathlib.Core.List.{List, [], _∷_, _++_, append-assoc}
 use lib.ListN.{length, take}
-use lib.Seq.{take-at, drop-at, take-all}
+use lib.Seq.{take-at, drop-at}
 use Rattle.completeness.specs.ListLaws.{regroup}
 use Rattle.definition.specs.Layout.{laterCount, readRest, roundCoins}
 use Rattle.definition.specs.Sheet.{Level, finalCount}

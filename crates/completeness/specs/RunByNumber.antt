@@ -25,7 +25,7 @@ use Rattle.completeness.specs.FairCoins.{reduced}
 use Rattle.completeness.specs.LevelsByNumber.{level-first, undivided}
 use Rattle.completeness.specs.ListLaws.{range-length}
 use Rattle.completeness.specs.Numbered.{Allowed, answerPoly, coinsOf, combinationCoin, correctedOf, finalIndices, foldCoin, levelOf, pairAt, pairsOf, quotientPoly, roundPoly, roundsOf, samplesAt, sheetField, sheetRoot, vanishingPoly}
-use Rattle.completeness.specs.SheetPassed.{exponents}
+use Rattle.completeness.specs.SheetRules.{exponents}
 use Rattle.completeness.specs.DecidingAccepts
 use Rattle.completeness.specs.RoundPolynomials
 use Rattle.definition.specs.Domain.{domain, point}
@@ -89,6 +89,10 @@ module _ {w f coins : List ℕ} (ok : Allowed w f coins) where
   corrected-length zero l = first-length w f ok
   corrected-length (suc i) l =
       DecidingAccepts.next-fits F L ω (levelOf w i) (correctedOf w f coins i) (foldCoin w coins i) (coinsOf w coins (suc i)) (corrected-length i (omega arith)) (fair-round i (omega arith))
+
+  pub first-degree : length (roundPoly w f coins 0) ≡ getD w 2 0
+  unfolding roundPoly sheetOf
+  first-degree = allowed-degree ok
 
   pub folded-length : (i : ℕ) → i ≤ roundsOf w → length (roundPoly w f coins (suc i)) ≡ finalCount (levelOf w i)
   unfolding roundPoly finalCount

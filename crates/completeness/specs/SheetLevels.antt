@@ -7,10 +7,10 @@ use mathlib.Core.Path.{_≡_, refl, sym, ap, _∙_, subst}
 use mathlib.Core.List.{List, [], _∷_, _++_, tail}
 use lib.ListN.{length, getD, take, drop, replicate, length-drop, List·getD-append}
 use lib.Seq.{drop-cons, take-append-le, drop-append-le}
-use Rattle.completeness.specs.SheetFacts
+use Rattle.completeness.specs.LevelSizes
 use Rattle.algebra.specs.ModularArithmetic.{pow-pow}
-use Rattle.completeness.specs.SheetFacts.{Chain, chain}
-use Rattle.completeness.specs.SheetPassed.{Exponents, exponents, few-points, twelve}
+use Rattle.completeness.specs.LevelSizes.{Chain, chain}
+use Rattle.completeness.specs.SheetRules.{Exponents, exponents, few-points, twelve}
 use Rattle.definition.specs.Field.{generatorOf, primeOf}
 use Rattle.definition.specs.Lists.{range}
 use Rattle.definition.specs.Reading.{sheetTest}
@@ -35,8 +35,8 @@ degree-next b c i v e h =
     let r = v - suc c in
     let eb : b ≡ r + suc c * suc i = omega (arith, Nat.mul-suc (suc c) i) in
     let ev : v ≡ r + suc c = omega arith in
-    ap (λ (x : ℕ). 2 ^ b / x) (pow-pow 2 (suc c) (suc i)) ∙ ap (λ (x : ℕ). 2 ^ x / 2 ^ (suc c * suc i)) eb ∙ SheetFacts.quotient r (suc c * suc i)
-    ∙ sym (ap (λ (x : ℕ). 2 ^ x / 2 ^ suc c) ev ∙ SheetFacts.quotient r (suc c))
+    ap (λ (x : ℕ). 2 ^ b / x) (pow-pow 2 (suc c) (suc i)) ∙ ap (λ (x : ℕ). 2 ^ x / 2 ^ (suc c * suc i)) eb ∙ LevelSizes.quotient r (suc c * suc i)
+    ∙ sym (ap (λ (x : ℕ). 2 ^ x / 2 ^ suc c) ev ∙ LevelSizes.quotient r (suc c))
 
 module _ (w : List ℕ) (long : length w ≡ 12) (passed : sheetTest w ≡ accepted) where
   open Exponents (exponents w passed) using (a, b, c, size, degree, fold, below, rounds, most)
@@ -79,7 +79,7 @@ module _ (w : List ℕ) (long : length w ≡ 12) (passed : sheetTest w ≡ accep
       split = omega (arith, h)
 
       next : d / 2 ^ suc c ≡ 2 ^ (v - suc c)
-      next = ap (λ (x : ℕ). x / 2 ^ suc c) (ed ∙ ap (λ (x : ℕ). 2 ^ x) split) ∙ SheetFacts.quotient (v - suc c) (suc c)
+      next = ap (λ (x : ℕ). x / 2 ^ suc c) (ed ∙ ap (λ (x : ℕ). 2 ^ x) split) ∙ LevelSizes.quotient (v - suc c) (suc c)
 
   -- a fact of the levels, from the fact with k written as a power of two and t_0 apart from t_1 to t_M
   pub about-levels : (P : Level → List Level → Type 0) →

@@ -22,6 +22,8 @@ use Rattle.definition.specs.Verify.{verify}
 use Rattle.definition.specs.Prover.{honestStream}
 use Rattle.definition.specs.Prove.{coefficientsTest, done, inputRangeTest, prove, refusal, sheetLengthTest}
 use Rattle.completeness.specs.Numbered.{Allowed, Copy, Due, Message, Room, answerPoly, coefficientsByHand, coinsByHand, combinationCoin, correctedOf, final, foldCoin, functionOf, lengthOf, levelOf, outCoinsOf, outsOf, pairAt, pairsOf, quotientPoly, readsDue, replies, roundOf, roundPoly, roundsOf, samplesAt, sentBefore, sheetByHand, sheetField, sheetRoot, startOf, streamOn, table, total, vanishingPoly, wordsIn}
+use Rattle.completeness.specs.ByPlace.{at-place}
+use Rattle.completeness.specs.FileTrip
 use Rattle.completeness.specs.Completeness
 use Rattle.completeness.specs.DecidingAccepts
 use Rattle.completeness.specs.ProveAccepted
@@ -38,6 +40,13 @@ use Rattle.completeness.specs.FileSize
 -- k·(t_0 + .. + t_M) reads. One claim over a whole coin list, through all its rounds.
 pub completeness : (w f coins : List ℕ) → Allowed w f coins → verify (fileOf (honestStream w f coins)) ≡ record { outcome = accepted; reads = readsDue w }
 completeness = Completeness.completeness
+
+-- That file is a list of bytes, 512 for each block that the sheet needs.
+pub file-length : (w f coins : List ℕ) → Allowed w f coins → length (fileOf (honestStream w f coins)) ≡ 512 * blockCount (wordsDue (sheetOf w))
+file-length w f coins ok = Completeness.file-size ok
+
+pub file-of-bytes : (w f coins : List ℕ) (j : ℕ) → j < length (fileOf (honestStream w f coins)) → getD (fileOf (honestStream w f coins)) j 0 < 256
+file-of-bytes w f coins = at-place (λ b. b < 256) (fileOf (honestStream w f coins)) 0 (FileTrip.file-of-bytes (honestStream w f coins))
 
 -- 2. COMPLETENESS OF PROVE. Where prove answers done with n blocks, the first n blocks of its output are a file that verify accepts.
 pub prove-accepted : (w f coins output : List ℕ) (n : ℕ) → prove w f coins output .answer ≡ done n →
@@ -83,7 +92,10 @@ module _ (w f coins : List ℕ) (ok : Allowed w f coins) where
       getD (streamOn copy w f coins) (startOf w final + j) 0 ≡ getD (roundPoly w f coins (suc (roundsOf w))) j 0
   final-is-fold copy j h = rw (StreamByNumber.copy-is ok copy) (StreamByNumber.final-entry ok _ j h)
 
-  -- 4. DEGREES. Round i's polynomial has d_i = d0 / k^i coefficients, the first d0; the final message has d_M/k;
+  -- 4. DEGREES. The first polynomial has d0 coefficients, and round i's has d_i = d0 / k^i; the final message has d_M/k;
+  pub first-degree : length (roundPoly w f coins 0) ≡ getD w 2 0
+  first-degree = RunByNumber.first-degree ok
+
   pub round-degree : (i : ℕ) → i ≤ roundsOf w → length (roundPoly w f coins i) ≡ getD w 2 0 / getD w 3 0 ^ i
   round-degree = RunByNumber.round-length ok
 

@@ -18,13 +18,13 @@ use Rattle.completeness.specs.ListLaws.{getD-map, opened}
 use Rattle.completeness.specs.Numbered.{Allowed, Copy, Due, Message, coinCount, coinsBefore, coinsOf, combinationCoin, correctedOf, final, finalIndices, foldCoin, lengthOf, levelOf, outCoinsOf, outsOf, read, replies, roundPoly, roundStart, roundsOf, sheetField, sheetRoot, shiftIndices, startOf, streamOn, table, wordCount, wordsIn, written}
 use Rattle.completeness.specs.Parts.{firsts, firsts-length, joined, split-joined}
 use Rattle.completeness.specs.RunByNumber.{folded-length}
-use Rattle.definition.specs.Domain.{domain, point}
+use Rattle.definition.specs.Domain.{point}
 use Rattle.definition.specs.Field.{primeField}
 use Rattle.definition.specs.Layout.{laterCount}
 use Rattle.definition.specs.Lists.{range}
 use Rattle.definition.specs.Polynomial.{evaluate}
 use Rattle.definition.specs.Prover.{honest, honestRest, honestRound, honestStream, tableOf}
-use Rattle.definition.specs.Sheet.{Level, finalCount}
+use Rattle.definition.specs.Sheet.{finalCount}
 use Rattle.definition.specs.Transcript.{restWords, roundWords, transcriptWords}
 
 coins-grow : (w : List ℕ) (i m : ℕ) → coinsBefore w i ≤ coinsBefore w (i + m)

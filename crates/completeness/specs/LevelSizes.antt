@@ -3,16 +3,11 @@ use Prim.Native.Nat.{ℕ, zero, suc, _+_, _-_, _*_, _/_, _^_, _≤_, _<_}
 use native.Mathlib.Nat
 use native.Mathlib.Nat.{mul-div-cancel}
 use native.Mathlib.Omega.{arith}
-use mathlib.Core.Path.{_≡_, refl, sym, ap, _∙_, subst}
-use mathlib.Core.Bool.{Bool, true, false, _&&_, _||_, true≢false}
-use mathlib.Core.List.{List, [], _∷_, map}
-use lib.Dec.{eqb, T, eqb→eq}
+use mathlib.Core.Path.{_≡_, refl, sym, ap, _∙_}
+use mathlib.Core.List.{List, [], _∷_}
 use lib.Pow.{pow-add, pow-pos}
 use lib.ListN.{replicate}
-use Rattle.algebra.specs.ListFacts.{All}
-use Rattle.definition.specs.Lists.{firstTrue, member, range}
-use Rattle.definition.specs.Sheet.{Level, levelsFrom, powerOfTwo}
-use Rattle.definition.specs.Verdict.{accepted, refuseAt}
+use Rattle.definition.specs.Sheet.{Level, levelsFrom}
 
 -- 2^(v+c) / 2^c
 pub quotient : (v c : ℕ) → 2 ^ (v + c) / 2 ^ c ≡ 2 ^ v
@@ -29,14 +24,14 @@ abbrev pub Chain : ℕ → Level → List Level → Type 0
 Chain a b [] = Sized a b
 Chain a b (l ∷ ls) = Sized a b × (l .degree ≡ b .degree / b .fold) × Chain a l ls
 
-pub right : (i u v c t : ℕ) → Sized (i + (u + c)) (record { number = i; size = 2 ^ (u + c); degree = 2 ^ (v + c); fold = 2 ^ c; repetitions = t })
+right : (i u v c t : ℕ) → Sized (i + (u + c)) (record { number = i; size = 2 ^ (u + c); degree = 2 ^ (v + c); fold = 2 ^ c; repetitions = t })
 right i u v c t = record {
   whole = sym (pow-add 2 i (u + c));
   folds = ap (λ (n : ℕ). n * 2 ^ c) (quotient u c) ∙ sym (pow-add 2 u c);
   degrees = ap (λ (n : ℕ). n * 2 ^ c) (quotient v c) ∙ sym (pow-add 2 v c);
 }
 
-pub right-at : (a i u v c t n d : ℕ) → i + u ≡ a → c ≤ u → c ≤ v → n ≡ 2 ^ u → d ≡ 2 ^ v → Sized a (record { number = i; size = n; degree = d; fold = 2 ^ c; repetitions = t })
+right-at : (a i u v c t n d : ℕ) → i + u ≡ a → c ≤ u → c ≤ v → n ≡ 2 ^ u → d ≡ 2 ^ v → Sized a (record { number = i; size = n; degree = d; fold = 2 ^ c; repetitions = t })
 right-at a i u v c t n d ea hu hv en ed =
     let fu : u ≡ u - c + c = omega arith in
     let fv : v ≡ v - c + c = omega arith in

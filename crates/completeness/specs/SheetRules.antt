@@ -118,7 +118,7 @@ exponents w e =
     }
 
 -- the rule of each repetition word
-pub repetitions-hold : (w : List ℕ) → sheetTest w ≡ accepted → (i : ℕ) → i < 6 → repetitionsRule w i ≡ true
+repetitions-hold : (w : List ℕ) → sheetTest w ≡ accepted → (i : ℕ) → i < 6 → repetitionsRule w i ≡ true
 unfolding sheetRules
 repetitions-hold w e i l =
     let h = rules-hold w e in
