@@ -1,0 +1,18 @@
+-- `field::add` meets its contract. Assumes nothing.
+use borrow.Author.Needs.{needs}
+use Rattle.definition.specs.Field.{primeField, fieldOf}
+use Rattle.field.proofs.add.Statement.{statement}
+use Rattle.field.proofs.add.Tie as tie
+
+add-reduce : tie.Need-add-reduce
+add-reduce c = search needs
+
+reduce-requires : tie.Need-reduce-requires
+reduce-requires c κs = search needs
+
+returns : tie.Need-returns
+unfolding fieldOf primeField
+returns c = c .reduce .ensures
+
+pub add-spec : {M : Type 1} → statement M
+add-spec = tie.close (tie.spec add-reduce reduce-requires returns)

@@ -1,0 +1,129 @@
+// The operations of the three fields, by the field's number, on any words. No function asks anything of its caller.
+// Each remainder is by a constant, which the compiler turns into multiplications; a number above 2 counts as field 2 until the last step of a
+// public operation answers that it names no field.
+ghost use mathlib.Core.Path.{_≡_};
+ghost use Prim.Native.Nat.{_%_};
+ghost use Rattle.definition.specs.Field.{Field, primeOf, fieldOf, power, inField, sum, difference, product, powerOf, inverseOf};
+ghost use Rattle.field.specs.Answer.{answerOf};
+
+// A multiple of all three primes that is above every word: added before a word is taken away, it keeps a difference from going below zero.
+const ABOVE: u64 = 17 * 65537 * 2013265921;
+
+// The field's prime.
+pub fn modulus(field: u32) -> u32
+    ensures { λ r. ⌜ r ≡ primeOf field ⌝ }
+{
+    match field {
+        0 => 17,
+        1 => 65537,
+        _ => 2013265921,
+    }
+}
+
+// The remainder of x modulo the field's prime.
+pub fn reduce(field: u32, x: u64) -> u32
+    ensures { λ r. ⌜ r ≡ x % primeOf field ⌝ }
+{
+    match field {
+        0 => (x % 17) as u32,
+        1 => (x % 65537) as u32,
+        _ => (x % 2013265921) as u32,
+    }
+}
+
+// The sum.
+pub fn add(field: u32, a: u32, b: u32) -> u32
+    ensures { λ r. ⌜ r ≡ fieldOf field ._⊕_ a b ⌝ }
+{
+    reduce(field, a as u64 + b as u64)
+}
+
+// The difference.
+pub fn sub(field: u32, a: u32, b: u32) -> u32
+    ensures { λ r. ⌜ r ≡ fieldOf field ._⊖_ a b ⌝ }
+{
+    reduce(field, a as u64 + ABOVE - b as u64)
+}
+
+// The product.
+pub fn mul(field: u32, a: u32, b: u32) -> u32
+    ensures { λ r. ⌜ r ≡ fieldOf field ._⊗_ a b ⌝ }
+{
+    reduce(field, a as u64 * b as u64)
+}
+
+// The power a^e, by squaring; 0^0 is 1.
+pub fn pow(field: u32, a: u32, e: u32) -> u32
+    ensures { λ r. ⌜ r ≡ power (fieldOf field) a e ⌝ }
+{
+    let mut r: u32 = 1;
+    let mut b = a;
+    let mut n = e;
+    while 0 < n {
+        if n % 2 == 1 {
+            r = mul(field, r, b);
+        }
+        b = mul(field, b, b);
+        n = n / 2;
+    }
+    r
+}
+
+// The inverse, as a power; that of 0 is 0.
+pub fn inv(field: u32, a: u32) -> u32
+    ensures { λ r. ⌜ r ≡ fieldOf field .inverse a ⌝ }
+{
+    pow(field, a, modulus(field) - 2)
+}
+
+// What a public operation answers: an element, or that the number names no field.
+pub enum Element {
+    Value(u32),
+    NoField,
+}
+
+// The element x, if the number names a field.
+fn answer(field: u32, x: u32) -> Element
+    ensures { λ r. ⌜ answerOf r ≡ inField field x ⌝ }
+{
+    if field < 3 {
+        Element::Value(x)
+    } else {
+        Element::NoField
+    }
+}
+
+// The sum of two words, each taken modulo the prime.
+pub fn sum(field: u32, a: u32, b: u32) -> Element
+    ensures { λ r. ⌜ answerOf r ≡ sum field a b ⌝ }
+{
+    answer(field, add(field, a, b))
+}
+
+// The difference of two words, each taken modulo the prime.
+pub fn difference(field: u32, a: u32, b: u32) -> Element
+    ensures { λ r. ⌜ answerOf r ≡ difference field a b ⌝ }
+{
+    answer(field, sub(field, a, b))
+}
+
+// The product of two words, each taken modulo the prime.
+pub fn product(field: u32, a: u32, b: u32) -> Element
+    ensures { λ r. ⌜ answerOf r ≡ product field a b ⌝ }
+{
+    answer(field, mul(field, a, b))
+}
+
+// The power of a word taken modulo the prime; the exponent is any word as it is.
+pub fn power(field: u32, a: u32, exponent: u32) -> Element
+    ensures { λ r. ⌜ answerOf r ≡ powerOf field a exponent ⌝ }
+{
+    answer(field, pow(field, a, exponent))
+}
+
+// The inverse of a word taken modulo the prime; that of 0 is 0.
+pub fn inverse(field: u32, a: u32) -> Element
+    ensures { λ r. ⌜ answerOf r ≡ inverseOf field a ⌝ }
+{
+    answer(field, inv(field, a))
+}

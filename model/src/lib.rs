@@ -1,0 +1,37 @@
+//! An independent model of the STIR transcript verifier and prover.
+//!
+//! Everything here is written straight from document 01 ("STIR transcripts:
+//! their words, their prover and their judge") and by plain means: whole tables
+//! instead of single points, Lagrange sums, long division, extended Euclid. It
+//! is the thing other code is compared with, so it prefers being obvious to
+//! being fast.
+
+pub mod domain;
+pub mod field;
+pub mod generate;
+pub mod layout;
+pub mod polynomial;
+pub mod prove;
+pub mod sheet;
+pub mod stream;
+pub mod verify;
+
+pub use prove::{encode, prove, Answer};
+pub use verify::{line, verify, Outcome, Verdict};
+
+/// A refusal as document 01 gives it: the number of the test that failed and
+/// the first faulty place.
+#[derive(Debug, Clone, Copy, PartialEq, Eq)]
+pub struct Fault {
+    pub number: u32,
+    pub place: u64,
+}
+
+impl Fault {
+    pub fn new(number: u32, place: usize) -> Self {
+        Fault {
+            number,
+            place: place as u64,
+        }
+    }
+}

@@ -1,0 +1,218 @@
+//! The judge (document 01, "Verify, prove, encode").
+
+use crate::domain::Subgroup;
+use crate::layout::{Layout, Part};
+use crate::polynomial::{correction_at, evaluate, interpolate, interpolate_at, Pairs};
+use crate::sheet::{Sheet, SHEET_WORDS};
+use crate::stream::{first_wrong_check, read_word, BLOCK_BYTES, BLOCK_WORDS};
+use crate::Fault;
+
+/// Accepted, or a fault with number and place.
+#[derive(Debug, Clone, Copy, PartialEq, Eq)]
+pub enum Outcome {
+    Accepted,
+    Refused { number: u32, place: u64 },
+}
+
+/// An outcome and the count of table words used.
+#[derive(Debug, Clone, Copy, PartialEq, Eq)]
+pub struct Verdict {
+    pub outcome: Outcome,
+    pub reads: u64,
+}
+
+/// Judges a file of any bytes.
+pub fn verify(file: &[u8]) -> Verdict {
+    let mut reads = 0;
+    let judged = read_transcript(file).and_then(|transcript| transcript.decide(&mut reads));
+    let outcome = match judged {
+        Ok(()) => Outcome::Accepted,
+        Err(Fault { number, place }) => Outcome::Refused { number, place },
+    };
+    Verdict { outcome, reads }
+}
+
+/// The line that the program prints for a verdict.
+pub fn line(v: Verdict) -> String {
+    match v.outcome {
+        Outcome::Accepted => format!("accepted 0 0 {}", v.reads),
+        Outcome::Refused { number, place } => format!("refused {number} {place} {}", v.reads),
+    }
+}
+
+/// A file that passed the tests 1 to 7, which use no table word.
+struct Transcript {
+    sheet: Sheet,
+    subgroup: Subgroup,
+    layout: Layout,
+    stream: Vec<u32>,
+}
+
+/// Tests 1 to 7 in order.
+fn read_transcript(file: &[u8]) -> Result<Transcript, Fault> {
+    if file.is_empty() || !file.len().is_multiple_of(BLOCK_BYTES) {
+        return Err(Fault::new(1, 0));
+    }
+    if let Some(block) = first_wrong_check(file) {
+        return Err(Fault::new(2, block));
+    }
+
+    let words: [u32; SHEET_WORDS] = std::array::from_fn(|word| read_word(file, word));
+    let sheet = Sheet::read(&words).map_err(|place| Fault::new(3, place))?;
+    let layout = Layout::new(&sheet);
+    if file.len() / BLOCK_BYTES != layout.blocks() {
+        return Err(Fault::new(4, layout.blocks()));
+    }
+
+    let due = layout.words();
+    let mut stream: Vec<u32> = (0..layout.blocks() * BLOCK_WORDS)
+        .map(|word| read_word(file, word))
+        .collect();
+    if let Some(word) = first_out_of_range(&layout, &stream) {
+        return Err(Fault::new(5, word));
+    }
+    if let Some(word) = (due..stream.len()).find(|&word| stream[word] != 0) {
+        return Err(Fault::new(6, word));
+    }
+    stream.truncate(due);
+
+    let subgroup = Subgroup::of(&sheet);
+    if let Some(word) = first_out_coin_in_domain(&subgroup, &layout, &stream) {
+        return Err(Fault::new(7, word));
+    }
+    Ok(Transcript {
+        sheet,
+        subgroup,
+        layout,
+        stream,
+    })
+}
+
+/// The first word after the sheet that is not below its section's limit.
+fn first_out_of_range(layout: &Layout, stream: &[u32]) -> Option<usize> {
+    let mut words = layout
+        .sections
+        .iter()
+        .flat_map(|section| section.words.clone().map(|word| (word, section.limit)));
+    words
+        .find(|&(word, limit)| u64::from(stream[word]) >= limit)
+        .map(|(word, _)| word)
+}
+
+/// The word number of the first out coin of a round i that lies in domain i.
+pub(crate) fn first_out_coin_in_domain(
+    subgroup: &Subgroup,
+    layout: &Layout,
+    stream: &[u32],
+) -> Option<usize> {
+    layout.sections.iter().find_map(|section| {
+        let Part::OutCoins(i) = section.part else {
+            return None;
+        };
+        let domain = subgroup.domain(i);
+        section
+            .words
+            .clone()
+            .find(|&word| domain.contains(&u64::from(stream[word])))
+    })
+}
+
+/// Every fold of a table over domain i with coin r: entry j belongs to shift
+/// point j, and is the polynomial through the k roots' values, taken at r.
+pub fn fold_table(subgroup: &Subgroup, i: usize, table: &[u64], k: usize, r: u64) -> Vec<u64> {
+    let fold = |j: usize| {
+        let places = subgroup.root_places(i, k, j);
+        let (roots, values): (Vec<u64>, Vec<u64>) = places
+            .map(|place| (subgroup.point(i, place), table[place]))
+            .unzip();
+        interpolate_at(subgroup.field, &roots, &values, r)
+    };
+    (0..table.len() / k).map(fold).collect()
+}
+
+/// The pairs as a set of points with one value each; none if two values clash.
+fn join(pairs: impl Iterator<Item = (u64, u64)>) -> Option<Pairs> {
+    let mut joined = Pairs::new();
+    for (point, value) in pairs {
+        if *joined.entry(point).or_insert(value) != value {
+            return None;
+        }
+    }
+    Some(joined)
+}
+
+impl Transcript {
+    /// The elements of a part.
+    fn elements(&self, part: Part) -> Vec<u64> {
+        let words = &self.stream[self.layout.range(part)];
+        words.iter().map(|&word| u64::from(word)).collect()
+    }
+
+    /// The indices of a part.
+    fn indices(&self, part: Part) -> Vec<usize> {
+        let words = &self.stream[self.layout.range(part)];
+        words.iter().map(|&word| word as usize).collect()
+    }
+
+    /// The only word of a part that has one.
+    fn coin(&self, part: Part) -> u64 {
+        u64::from(self.stream[self.layout.range(part).start])
+    }
+
+    /// Tests 8 and 9, counting the table words used.
+    fn decide(&self, reads: &mut u64) -> Result<(), Fault> {
+        let k = self.sheet.k;
+        // f_i over the whole of domain i, beginning with table 0.
+        let mut f = self.elements(Part::Table(0));
+        for i in 1..=self.sheet.rounds {
+            let folds = self.folds(i - 1, &f);
+            let shifts = self.indices(Part::ShiftIndices(i));
+            *reads += (k * shifts.len()) as u64;
+
+            let outs = self.elements(Part::OutCoins(i));
+            let replies = self.elements(Part::Replies(i));
+            let shift_pair = |&j: &usize| (self.subgroup.shift_point(i - 1, k, j), folds[j]);
+            let listed = outs.into_iter().zip(replies);
+            let pairs = join(listed.chain(shifts.iter().map(shift_pair)));
+            f = self.corrected(i, &pairs.ok_or(Fault::new(8, i))?);
+        }
+
+        let last = self.sheet.rounds;
+        let folds = self.folds(last, &f);
+        let polynomial = self.elements(Part::FinalCoefficients);
+        for (position, j) in self.indices(Part::FinalIndices).into_iter().enumerate() {
+            *reads += k as u64;
+            let point = self.subgroup.shift_point(last, k, j);
+            if evaluate(self.sheet.field, &polynomial, point) != folds[j] {
+                return Err(Fault::new(9, position));
+            }
+        }
+        Ok(())
+    }
+
+    /// The folds of f_i by fold coin i.
+    fn folds(&self, i: usize, f: &[u64]) -> Vec<u64> {
+        let coin = self.coin(Part::FoldCoin(i));
+        fold_table(&self.subgroup, i, f, self.sheet.k, coin)
+    }
+
+    /// f_i over domain i: quotient of g_i, times the correction.
+    fn corrected(&self, i: usize, pairs: &Pairs) -> Vec<u64> {
+        let field = self.sheet.field;
+        let c = self.coin(Part::Combination(i));
+        let answer = interpolate(field, pairs);
+        let value = |(x, g): (u64, u64)| {
+            let above = field.sub(g, evaluate(field, &answer, x));
+            let below = pairs
+                .keys()
+                .fold(1, |product, &a| field.mul(product, field.sub(x, a)));
+            let quotient = field.mul(above, field.inv(below));
+            field.mul(quotient, correction_at(field, c, x, pairs.len()))
+        };
+        let points = self.subgroup.domain(i).into_iter();
+        points
+            .zip(self.elements(Part::Table(i)))
+            .map(value)
+            .collect()
+    }
+}

@@ -1,0 +1,227 @@
+//! The prover's files are accepted, whatever the coins (document 01, demand 3),
+//! and no bytes make anything panic.
+
+mod common;
+
+use common::*;
+use std::collections::BTreeSet;
+use std::time::{Duration, Instant};
+use tevrolig_model::domain::Subgroup;
+use tevrolig_model::generate::{self, rewrite_checks, Rng};
+use tevrolig_model::layout::Part;
+use tevrolig_model::polynomial::{evaluate, fold, interpolate, interpolate_at, Pairs};
+use tevrolig_model::sheet::Sheet;
+use tevrolig_model::stream::read_word;
+use tevrolig_model::verify::fold_table;
+use tevrolig_model::{encode, line, verify, Answer, Outcome};
+
+/// Makes an honest file, and tests that it is accepted with the reads due.
+fn accept(rng: &mut Rng, sheet: &[u32; 12], hostile: bool) -> Vec<u8> {
+    let file = honest(rng, sheet, hostile);
+    let reads = sheet[3] * sheet[6..].iter().sum::<u32>();
+    let expected = format!("accepted 0 0 {reads}");
+    assert_eq!(line(verify(&file)), expected, "{sheet:?}");
+    file
+}
+
+#[test]
+fn small_honest_files() {
+    let mut rng = Rng::new(100);
+    let mut shapes = BTreeSet::new();
+    for round in 0..6000 {
+        let sheet = generate::sheet_up_to(&mut rng, 256);
+        assert!(Sheet::read(&sheet).is_ok());
+        shapes.extend([(0, sheet[0]), (3, sheet[3]), (4, sheet[4]), (5, sheet[5])]);
+        accept(&mut rng, &sheet, round % 3 != 0);
+    }
+    // All fields, k, M and s.
+    let all = [0, 1, 2].map(|field| (0, field)).into_iter();
+    let all = all.chain([2, 4, 8, 16].map(|k| (3, k)));
+    let all = all.chain([0, 1, 2, 3, 4].map(|rounds| (4, rounds)));
+    let all: BTreeSet<_> = all.chain([(5, 1), (5, 2)]).collect();
+    assert!(all.is_subset(&shapes), "{shapes:?}");
+}
+
+#[test]
+fn honest_files_of_any_size() {
+    let mut rng = Rng::new(101);
+    for round in 0..150 {
+        let sheet = generate::sheet(&mut rng);
+        accept(&mut rng, &sheet, round % 2 == 0);
+    }
+}
+
+#[test]
+fn the_largest_honest_files() {
+    let mut rng = Rng::new(102);
+    // The longest, the heaviest, and five rounds over field 1.
+    let sheets = [
+        [2, 4096, 2048, 2, 5, 2, 64, 64, 64, 64, 61, 64],
+        [2, 4096, 2048, 16, 1, 2, 64, 64, 0, 0, 0, 0],
+        [1, 4096, 2048, 2, 5, 1, 64, 64, 64, 64, 62, 64],
+        [2, 4096, 512, 4, 2, 2, 36, 27, 22, 0, 0, 0],
+    ];
+    for sheet in sheets {
+        for hostile in [false, true] {
+            let file = accept(&mut rng, &sheet, hostile);
+            let start = Instant::now();
+            verify(&file);
+            println!("{:?} for {sheet:?}", start.elapsed());
+        }
+    }
+    assert_eq!(layout(&sheets[0]).blocks(), 68);
+}
+
+#[test]
+fn hostile_coins_are_met() {
+    let mut rng = Rng::new(103);
+    let mut met = [0; 7];
+    for _ in 0..300 {
+        let words = [1, 32, 16, 2, 1, 2, 3, 3, 0, 0, 0, 0];
+        let sheet = Sheet::read(&words).unwrap();
+        let (layout, subgroup) = (layout(&words), Subgroup::of(&sheet));
+        let file = accept(&mut rng, &words, true);
+        let read = |part| -> Vec<u64> {
+            let range = layout.range(part);
+            range.map(|word| read_word(&file, word).into()).collect()
+        };
+        let shifts: Vec<u64> = read(Part::ShiftIndices(1));
+        let shift_points = shifts
+            .iter()
+            .map(|&j| subgroup.shift_point(0, 2, j as usize));
+        let outs = read(Part::OutCoins(1));
+        let c = read(Part::Combination(1))[0];
+        let inverse_of_c = sheet.field.inv(c);
+        let facts = [
+            read(Part::FoldCoin(0))[0] == 0,
+            subgroup.domain(1).contains(&read(Part::FoldCoin(1))[0]),
+            shift_points.into_iter().any(|point| outs.contains(&point)),
+            outs[0] == outs[1],
+            shifts[0] == shifts[1] || shifts[1] == shifts[2],
+            c == 0,
+            subgroup.domain(1).contains(&inverse_of_c),
+        ];
+        for (count, fact) in met.iter_mut().zip(facts) {
+            *count += usize::from(fact);
+        }
+    }
+    assert!(met.iter().all(|&count| count > 20), "{met:?}");
+}
+
+/// Table and polynomial tell the same: evaluation, fold and interpolation.
+#[test]
+fn tables_agree_with_polynomials() {
+    let mut rng = Rng::new(104);
+    for _ in 0..300 {
+        let words = generate::sheet_up_to(&mut rng, 64);
+        let sheet = Sheet::read(&words).unwrap();
+        let (field, k) = (sheet.field, sheet.k);
+        let subgroup = Subgroup::of(&sheet);
+        let coefficients = generate::coefficients(&mut rng, &words);
+        let f: Vec<u64> = coefficients.iter().map(|&c| c.into()).collect();
+
+        let mut table = vec![0; sheet.n0];
+        let done = Answer::Done(sheet.n0 as u64);
+        assert_eq!(encode(&words, &coefficients, &mut table), done);
+        let table: Vec<u64> = table.into_iter().map(u64::from).collect();
+        let points = subgroup.domain(0);
+        for (&x, &value) in points.iter().zip(&table) {
+            assert_eq!(evaluate(field, &f, x), value);
+        }
+
+        let root = points[rng.place(points.len())];
+        for r in [0, root, rng.below(field.p)] {
+            let folded = fold(field, &f, k, r);
+            let folds = fold_table(&subgroup, 0, &table, k, r);
+            for (j, value) in folds.into_iter().enumerate() {
+                let point = subgroup.shift_point(0, k, j);
+                assert_eq!(evaluate(field, &folded, point), value);
+            }
+        }
+
+        let pairs: Pairs = points.iter().copied().zip(table.iter().copied()).collect();
+        let mut answer = interpolate(field, &pairs);
+        for x in [0, 1, root, rng.below(field.p)] {
+            let value = evaluate(field, &answer, x);
+            assert_eq!(interpolate_at(field, &points, &table, x), value);
+        }
+        assert!(answer.drain(sheet.d0..).all(|c| c == 0));
+        assert_eq!(answer, f);
+    }
+}
+
+#[test]
+fn every_changed_word_gets_a_verdict() {
+    let mut rng = Rng::new(105);
+    let sheets = [
+        SHEET,
+        [0, 16, 8, 2, 1, 2, 1, 3, 0, 0, 0, 0],
+        [1, 32, 16, 2, 2, 1, 3, 2, 2, 0, 0, 0],
+        [2, 64, 16, 4, 1, 2, 1, 5, 0, 0, 0, 0],
+    ];
+    for sheet in sheets {
+        let file = accept(&mut rng, &sheet, true);
+        for at in 0..file.len() / 4 {
+            let old = u32::from_le_bytes(file[4 * at..4 * at + 4].try_into().unwrap());
+            let values = [0, 1, 16, 17, 4096, 1 << 31, u32::MAX, rng.word()];
+            for value in values.into_iter().chain([old ^ 1, old.wrapping_add(1)]) {
+                let mut other = file.clone();
+                other[4 * at..4 * at + 4].copy_from_slice(&value.to_le_bytes());
+                let unchecked = verify(&other);
+                // A difference of the modulus itself does not show in the check.
+                if value != old && value.abs_diff(old) != 4294967291 {
+                    let place = (at / 128) as u64;
+                    let refused = Outcome::Refused { number: 2, place };
+                    assert_eq!(unchecked.outcome, refused);
+                }
+                rewrite_checks(&mut other);
+                let verdict = verify(&other);
+                if value == old || at % 128 == 127 {
+                    assert_eq!(verdict.outcome, Outcome::Accepted);
+                }
+            }
+        }
+    }
+}
+
+#[test]
+fn any_bytes_get_a_verdict() {
+    let mut rng = Rng::new(106);
+    for _ in 0..3000 {
+        let length = rng.place(1100);
+        let bytes: Vec<u8> = (0..length).map(|_| rng.bits() as u8).collect();
+        assert_ne!(verify(&bytes).outcome, Outcome::Accepted);
+    }
+    for byte in [0, 0xFF] {
+        assert_ne!(verify(&vec![byte; 1 << 20]).outcome, Outcome::Accepted);
+    }
+    // Random sheets of small words with right checks, the rest zero.
+    for _ in 0..20_000 {
+        let mut file = vec![0; 512 * (1 + rng.place(2))];
+        for word in 0..12 {
+            let near: u32 = rng.pick(&[0, 1, 2, 4, 8, 16, 32, 64, 3]);
+            file[4 * word..4 * word + 4].copy_from_slice(&near.to_le_bytes());
+        }
+        rewrite_checks(&mut file);
+        verify(&file);
+    }
+}
+
+#[test]
+fn small_files_are_judged_quickly() {
+    let mut rng = Rng::new(107);
+    let files: Vec<Vec<u8>> = (0..500)
+        .map(|_| {
+            let sheet = generate::sheet_up_to(&mut rng, 64);
+            honest(&mut rng, &sheet, false)
+        })
+        .collect();
+    let start = Instant::now();
+    for file in &files {
+        verify(file);
+    }
+    let each = start.elapsed() / 500;
+    println!("{each:?} for each small file");
+    // Wide enough for a busy machine.
+    assert!(cfg!(debug_assertions) || each < Duration::from_millis(2));
+}

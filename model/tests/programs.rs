@@ -1,0 +1,86 @@
+//! The two programs, run as their users run them.
+
+mod common;
+
+use common::*;
+use std::collections::BTreeMap;
+use std::io::Write;
+use std::process::{Command, Stdio};
+
+/// What model-check prints for an input.
+fn check(input: &[u8]) -> String {
+    let mut program = Command::new(env!("CARGO_BIN_EXE_model-check"))
+        .stdin(Stdio::piped())
+        .stdout(Stdio::piped())
+        .spawn()
+        .unwrap();
+    // The program may stop reading before the input ends.
+    let _ = program.stdin.take().unwrap().write_all(input);
+    let output = program.wait_with_output().unwrap();
+    String::from_utf8(output.stdout).unwrap()
+}
+
+fn cases(arguments: &[&str]) -> String {
+    let output = Command::new(env!("CARGO_BIN_EXE_definition-cases"))
+        .args(arguments)
+        .output()
+        .unwrap();
+    assert!(output.status.success());
+    String::from_utf8(output.stdout).unwrap()
+}
+
+fn bytes(hexadecimal: &str) -> Vec<u8> {
+    if hexadecimal == "-" {
+        return Vec::new();
+    }
+    (0..hexadecimal.len() / 2)
+        .map(|i| u8::from_str_radix(&hexadecimal[2 * i..2 * i + 2], 16).unwrap())
+        .collect()
+}
+
+#[test]
+fn check_prints_one_line() {
+    assert_eq!(check(&hand_file()), "accepted 0 0 4\n");
+    assert_eq!(check(&[]), "refused 1 0 0\n");
+    let wrong = changed(&hand_file(), &[(FINAL, 15)]);
+    assert_eq!(check(&wrong), "refused 9 0 4\n");
+}
+
+#[test]
+fn check_judges_the_first_65536_bytes() {
+    let mut long = hand_file();
+    long.resize(65_536, 0);
+    let mut long = changed(&long, &[]);
+    assert_eq!(check(&long), "refused 4 1 0\n");
+    long.extend([1, 2, 3]);
+    assert_eq!(judged(&long), "refused 1 0 0");
+    assert_eq!(check(&long), "refused 4 1 0\n");
+}
+
+#[test]
+fn definition_cases_are_small_and_of_every_kind() {
+    let text = cases(&["9", "800"]);
+    assert_eq!(text, cases(&["9", "800"]));
+    assert_ne!(text, cases(&["10", "800"]));
+    let mut kinds: BTreeMap<String, usize> = BTreeMap::new();
+    let mut empty = 0;
+    for case in text.lines() {
+        let (hexadecimal, verdict) = case.split_once(' ').unwrap();
+        let file = bytes(hexadecimal);
+        assert_eq!(judged(&file), verdict);
+        assert!(file.len() <= 1024);
+        empty += usize::from(file.is_empty());
+        let kind = verdict.split(' ').nth(1).unwrap();
+        *kinds.entry(kind.to_string()).or_default() += 1;
+        if kind == "0" {
+            assert_eq!(file[0], 0, "field 0");
+            assert!(file[4] <= 16, "n0");
+        }
+    }
+    assert_eq!(text.lines().count(), 800);
+    assert_eq!(empty, 1);
+    assert_eq!(kinds.len(), 10);
+    assert!(kinds.values().all(|&count| count >= 15), "{kinds:?}");
+    assert!((200..=350).contains(&kinds["0"]), "{kinds:?}");
+    assert_eq!(cases(&["9", "64", "wide"]).lines().count(), 64);
+}
