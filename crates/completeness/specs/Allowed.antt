@@ -14,7 +14,12 @@ use Rattle.definition.specs.Deciding.{outInDomain}
 use Rattle.definition.specs.Layout.{Kind, coin, coinKinds, layout, message, restLayout}
 use Rattle.definition.specs.Prove.{coefficientsTest, coinDomainTest, coinsTest, inputRangeTest, sheetLengthTest}
 use Rattle.definition.specs.Reading.{outOfRange}
+use Rattle.definition.specs.Verdict.{accepted}
 use Rattle.definition.specs.Sheet.{Sheet, firstLevel, laterLevels, sheetOf}
+
+pub sheet-long : (w : List ℕ) → sheetLengthTest w ≡ accepted → length w ≡ 12
+unfolding sheetLengthTest
+sheet-long w e = equal-passes 10 0 (length w) 12 e
 
 head-each : (R : Kind → ℕ → Type 0) (k : Kind) (ks : List Kind) (w : List ℕ) → Each R (k ∷ ks) w → R k (getD w 0 0) × Each R ks (drop 1 w)
 head-each R k ks [] h = absurd h
@@ -27,8 +32,7 @@ layout-coins h = coins-append (replicate (h .size) message) (coin ∷ restLayout
 
 module _ {w f coins : List ℕ} (ok : Allowed w f coins) where
   pub allowed-long : length w ≡ 12
-  unfolding sheetLengthTest
-  allowed-long = equal-passes 10 0 (length w) 12 (ok .words)
+  allowed-long = sheet-long w (ok .words)
 
   pub allowed-degree : length f ≡ sheetOf w .degree
   unfolding coefficientsTest

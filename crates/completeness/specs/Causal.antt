@@ -1,4 +1,5 @@
--- Non-anticipation: a message of the honest prover depends only on the coins before it.
+-- Non-anticipation in general, over any operations of a field and any list of levels: the honest prover is a party that sends words and asks for coins, and what any
+-- such party has sent, when some coins are used up, depends on these coins alone.
 use Prim.Native.Nat.{ℕ, zero, suc, _+_, _-_, _≤_}
 use native.Mathlib.Nat.{le-of-suc-le-suc, not-suc-le-zero, sub-zero, suc-sub-suc, le-of-lt}
 use native.Mathlib.Omega.{arith}

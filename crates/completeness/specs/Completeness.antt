@@ -174,7 +174,7 @@ module _ {w f coins : List ℕ} (ok : Allowed w f coins) where
       degree = first-degree h f (allowed-degree ok)
 
       counted : length (DecidingAccepts.allPlaces (firstLevel h) (ownPlace (firstLevel h)) (readRounds (h .outCoins) (firstLevel h) (laterLevels h) (drop 1 coins)) (readFinals (h .outCoins) (firstLevel h) (laterLevels h) (drop 1 coins))) ≡ readsDue w
-      counted = all-reads F (sheetReady .laws) ω (Passes h) (h .outCoins) (firstLevel h) (laterLevels h) (drop 1 coins) (allowed-rounds ok) ∙ sheet-reads w long (ok .sheet)
+      counted = all-reads (Passes h) (h .outCoins) (firstLevel h) (laterLevels h) (drop 1 coins) (allowed-rounds ok) ∙ sheet-reads w long (ok .sheet)
 
   deciding-passes : deciding (w ++ (transcriptWords τ ++ fill)) ≡ record { outcome = accepted; reads = readsDue w }
   unfolding deciding thenVerdict

@@ -8,14 +8,14 @@ use lib.ListN.{length}
 use Rattle.algebra.specs.PrimeField.{signs-differ}
 use Rattle.algebra.specs.RingLaws.{sub-self}
 use Rattle.algebra.specs.RootsOfUnity.{minusOne}
+use Rattle.completeness.specs.Allowed.{sheet-long}
 use Rattle.completeness.specs.Domains.{Roots}
+use Rattle.completeness.specs.LevelSizes.{Chain, Sized}
 use Rattle.completeness.specs.LevelsByNumber.{level-first, levels-later}
 use Rattle.completeness.specs.Numbered.{levelOf, roundsOf, sheetField, sheetRoot}
 use Rattle.completeness.specs.Ready.{Ready, ready}
-use Rattle.completeness.specs.LevelSizes.{Chain, Sized}
 use Rattle.completeness.specs.SheetLevels.{Step, Steps}
 use Rattle.completeness.specs.SheetRules.{exponents}
-use Rattle.completeness.specs.Tests.{equal-passes}
 use Rattle.completeness.specs.Domains
 use Rattle.definition.specs.Domain.{point, shiftPoint}
 use Rattle.definition.specs.Field.{Field}
@@ -24,10 +24,6 @@ use Rattle.definition.specs.Prove.{sheetLengthTest}
 use Rattle.definition.specs.Reading.{sheetTest}
 use Rattle.definition.specs.Sheet.{Level, firstLevel, laterLevels, sheetOf, shiftCount}
 use Rattle.definition.specs.Verdict.{accepted}
-
-pub sheet-long : (w : List ℕ) → sheetLengthTest w ≡ accepted → length w ≡ 12
-unfolding sheetLengthTest
-sheet-long w e = equal-passes 10 0 (length w) 12 e
 
 -- n levels past level i
 chain-at : (w : List ℕ) (a m i n : ℕ) → n ≤ m → Chain a (levelOf w i) (map (levelOf w) (range (suc i) m)) → Sized a (levelOf w (i + n))

@@ -19,8 +19,8 @@ use Rattle.completeness.specs.DecidingAccepts.{Fair, FairRound}
 use Rattle.completeness.specs.Domains.{foldable, never-meet}
 use Rattle.completeness.specs.EachWord.{Each, each-later, each-replicate}
 use Rattle.completeness.specs.LayoutFacts.{Dealt}
-use Rattle.completeness.specs.ListLaws.{all-at}
 use Rattle.completeness.specs.LevelSizes.{Chain, Sized}
+use Rattle.completeness.specs.ListLaws.{all-at}
 use Rattle.completeness.specs.SheetLevels.{Step, Steps}
 use Rattle.definition.specs.Deciding.{outInDomain}
 use Rattle.definition.specs.Domain.{domain, inDomain, inList, point, shiftPoint}

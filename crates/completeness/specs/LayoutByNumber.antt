@@ -8,9 +8,9 @@ use lib.ListN.{length, getD, take, drop, replicate, length-append, length-replic
 use lib.Seq.{take-at, drop-at, take-append-add, drop-append-add}
 use Rattle.completeness.specs.LayoutFacts.{coins-append, coins-final, coins-messages, coins-outs, round-coins, round-length}
 use Rattle.completeness.specs.LevelsByNumber.{level-first, levels-later}
+use Rattle.completeness.specs.ListLaws.{opened}
 use Rattle.completeness.specs.Numbered.{Due, Message, coinCount, coinsBefore, final, lengthOf, levelOf, outsOf, replies, roundStart, roundsOf, sentBefore, startOf, table, total, wordCount}
 use Rattle.completeness.specs.Parts.{firsts, firsts-length, joined, split-joined}
-use Rattle.completeness.specs.ListLaws.{opened}
 use Rattle.definition.specs.Layout.{Kind, coin, coinKinds, index, laterCount, layout, message, out, restLayout, roundLayout}
 use Rattle.definition.specs.Lists.{range}
 use Rattle.definition.specs.Sheet.{Level, finalCount, firstLevel, sheetOf, shiftCount}

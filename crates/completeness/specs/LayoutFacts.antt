@@ -6,8 +6,8 @@ use mathlib.Core.List.{List, [], _∷_, _++_, append-assoc}
 use lib.ListN.{length, take, drop, replicate, length-append, length-replicate}
 use Rattle.algebra.specs.ListFacts.{All, all-append}
 use Rattle.completeness.specs.EachWord.{Each, each-append-at}
-use Rattle.completeness.specs.ListLaws.{all-replicate}
 use Rattle.completeness.specs.LevelSizes.{Chain, Sized}
+use Rattle.completeness.specs.ListLaws.{all-replicate}
 use Rattle.definition.specs.Layout.{Kind, coin, coinKinds, index, laterCount, layout, message, out, restLayout, roundLayout}
 use Rattle.definition.specs.Sheet.{Level, Sheet, finalCount, firstLevel, laterLevels, shiftCount}
 

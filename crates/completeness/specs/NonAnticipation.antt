@@ -68,6 +68,6 @@ module _ (w f c d : List ℕ) where
 
 -- In the streams of two allowed lists, as they are written and as they are read out of the file.
 pub non-anticipation : (w f c d : List ℕ) → Allowed w f c → Allowed w f d → (copy : Copy) (m : Message) → Due w m →
-    take (sentBefore w m) c ≡ take (sentBefore w m) d → wordsIn (streamOn copy w f c) w m ≡ wordsIn (streamOn copy w f d) w m
+    take (sentBefore w m) c ≡ take (sentBefore w m) d → wordsIn w (streamOn copy w f c) m ≡ wordsIn w (streamOn copy w f d) m
 non-anticipation w f c d okc okd copy m due e =
     rw (copy-is okc copy, copy-is okd copy) (message-words okc _ m due ∙ same-message w f c d m e ∙ sym (message-words okd _ m due))

@@ -173,7 +173,7 @@ sentBefore w final = coinsBefore w (suc (roundsOf w))
 
 -- its words in a stream
 unfoldable pub wordsIn : List ℕ → List ℕ → Message → List ℕ
-wordsIn stream w m = take (lengthOf w m) (drop (startOf w m) stream)
+wordsIn w stream m = take (lengthOf w m) (drop (startOf w m) stream)
 
 -- The prover's stream has two copies: as it is written, and as verify reads it out of the file, with the fill after it.
 pub data Copy : Type 0 where
@@ -186,21 +186,11 @@ streamOn read w f coins = streamOf (fileOf (honestStream w f coins))
 
 -- THE VERIFIER'S FUNCTIONS, from the words of a stream: round i with the table and replies that stand there, and f_i at each point number of domain i.
 abbrev pub roundOf : List ℕ → List ℕ → List ℕ → ℕ → Round ℕ
-roundOf w coins stream i = record { coins = coinsOf w coins i; table = wordsIn stream w (table i); replies = wordsIn stream w (replies i) }
+roundOf w coins stream i = record { coins = coinsOf w coins i; table = wordsIn w stream (table i); replies = wordsIn w stream (replies i) }
 
 unfoldable pub functionOf : List ℕ → List ℕ → List ℕ → ℕ → (ℕ → ℕ)
-functionOf w coins stream zero = tableFunction (sheetField w) (sheetRoot w) (levelOf w 0) (wordsIn stream w (table 0)) .value
+functionOf w coins stream zero = tableFunction (sheetField w) (sheetRoot w) (levelOf w 0) (wordsIn w stream (table 0)) .value
 functionOf w coins stream (suc i) =
     nextFunction (sheetField w) (sheetRoot w)
     (distinct (sheetField w) (answers (sheetField w) (sheetRoot w) (levelOf w i) (functionOf w coins stream i) (foldCoin w coins i) (roundOf w coins stream (suc i))))
     (roundOf w coins stream (suc i)) .value
-
--- The transcript by hand (01): its sheet, coefficients and coins.
-abbrev pub sheetByHand : List ℕ
-sheetByHand = 0 ∷ 16 ∷ 8 ∷ 2 ∷ 1 ∷ 1 ∷ 1 ∷ 1 ∷ 0 ∷ 0 ∷ 0 ∷ 0 ∷ []
-
-abbrev pub coefficientsByHand : List ℕ
-coefficientsByHand = 1 ∷ 2 ∷ 3 ∷ 4 ∷ 5 ∷ 0 ∷ 0 ∷ 0 ∷ []
-
-abbrev pub coinsByHand : List ℕ
-coinsByHand = 2 ∷ 0 ∷ 3 ∷ 4 ∷ 0 ∷ 1 ∷ []

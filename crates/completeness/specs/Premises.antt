@@ -13,21 +13,23 @@ use Rattle.algebra.specs.RootsOfUnity
 use Rattle.algebra.specs.Laws.{FieldLaws}
 use Rattle.algebra.specs.ListFacts.{All, all-map}
 use Rattle.algebra.specs.RootsOfUnity.{minusOne}
+use Rattle.completeness.specs.Allowed.{sheet-long}
 use Rattle.completeness.specs.EachWord.{Each, each-false, each-join, each-none}
 use Rattle.completeness.specs.LayoutFacts.{layout-all}
-use Rattle.completeness.specs.Numbered.{Allowed, coefficientsByHand, coinsByHand, sheetByHand}
-use Rattle.completeness.specs.Ready.{Ready, ready}
 use Rattle.completeness.specs.LevelSizes.{Sized}
+use Rattle.completeness.specs.Numbered.{Allowed}
+use Rattle.completeness.specs.Ready.{Ready, ready}
 use Rattle.completeness.specs.Tests.{at-none, at-passes, equal-passes, if-false}
 use Rattle.definition.specs.Deciding.{outInDomain}
 use Rattle.definition.specs.Domain.{domain, inDomain, inList, point}
-use Rattle.definition.specs.Field.{Field, generatorOf, knownField, power, primeField, primeOf}
-use Rattle.definition.specs.Layout.{Kind, coin, coinKinds, index, layout, limit, message, out, restLayout, roundLayout}
-use Rattle.definition.specs.Lists.{firstTrue, member, range}
+use Rattle.definition.specs.Field.{Field, power, primeField}
+use Rattle.definition.specs.Layout.{Kind, coin, coinKinds, index, layout, limit, message, out}
+use Rattle.definition.specs.Lists.{firstTrue, range}
 use Rattle.definition.specs.Prove.{coefficientsTest, coinDomainTest, coinsTest, inputRangeTest, sheetLengthTest}
 use Rattle.definition.specs.Reading.{outOfRange, sheetTest}
-use Rattle.definition.specs.Sheet.{Level, Sheet, between, degreeRule, fieldRule, finalCount, firstLevel, foldRule, laterLevels, levelsFrom, outCoinsRule, powerOfTwo, repetitionsRule, rootOfUnity, roundsRule, sheetOf, sheetRules, shiftCount, sizeRule}
-use Rattle.definition.specs.Verdict.{accepted, refuseAt, refuseIf}
+use Rattle.definition.specs.Sheet.{Level, Sheet, rootOfUnity, sheetOf, shiftCount}
+use Rattle.definition.specs.WorkedTranscript.{coefficients, coins, definitions, sheetWords}
+use Rattle.definition.specs.Verdict.{accepted}
 
 -- no power of a root of unity is 0
 module _ {A : Type 0} (F : Field A) (L : FieldLaws F) where
@@ -148,10 +150,6 @@ module _ (h : Sheet) (r : Ready h) where
       (ap (λ (l : List ℕ). firstTrue 0 (zipWith (outInDomain h) ks l)) (sym (append-nil _))
       ∙ each-none (outInDomain h) 0 ks (replicate (length ks) 0) [] (each-zeros (λ k x. outInDomain h k x ≡ false) ks (all-map ks zeros (λ k z. z .1))))
 
-sheet-long : (w : List ℕ) → sheetLengthTest w ≡ accepted → length w ≡ 12
-unfolding sheetLengthTest
-sheet-long w e = equal-passes 10 0 (length w) 12 e
-
 full-length : (h : Sheet) (f : List ℕ) → coefficientsTest h f ≡ accepted → length f ≡ h .degree
 unfolding coefficientsTest
 full-length h f e = equal-passes 10 1 (length f) (h .degree) e
@@ -173,6 +171,6 @@ zeros-allowed w f words passed coefficients elements =
     }
 
 -- The transcript by hand is allowed.
-pub by-hand : Allowed sheetByHand coefficientsByHand coinsByHand
-unfolding sheetLengthTest sheetTest coefficientsTest coinsTest inputRangeTest coinDomainTest refuseIf refuseAt firstTrue zipWith sheetRules fieldRule knownField sizeRule powerOfTwo member range between primeOf degreeRule foldRule roundsRule outCoinsRule repetitionsRule sheetOf generatorOf layout restLayout roundLayout coinKinds firstLevel laterLevels levelsFrom finalCount shiftCount outOfRange limit outInDomain inDomain inList domain point power primeField rootOfUnity
+pub by-hand : Allowed sheetWords coefficients coins
+unfolding definitions
 by-hand = record { words = refl; sheet = refl; coefficients = refl; full = refl; range = refl; outside = refl }

@@ -7,8 +7,7 @@ use mathlib.Core.Path.{_≡_, refl, sym, ap, _∙_}
 use mathlib.Core.List.{List, [], _∷_, flatMap}
 use lib.ListN.{length, getD, take, drop, replicate, length-append, length-drop, length-take}
 use lib.Seq.{drop-cons}
-use Rattle.completeness.specs.DecidingAccepts
-use Rattle.algebra.specs.Laws.{FieldLaws}
+use Rattle.completeness.specs.DecidingAccepts.{allPlaces, roots-length}
 use Rattle.completeness.specs.EachWord.{each-later, each-replicate}
 use Rattle.completeness.specs.LayoutFacts.{Dealt}
 use Rattle.completeness.specs.Numbered.{readsDue, total}
@@ -16,13 +15,12 @@ use Rattle.completeness.specs.SheetLevels.{about-levels}
 use Rattle.completeness.specs.SheetRules.{exponents}
 use Rattle.definition.specs.Deciding.{ownPlace, placesOf}
 use Rattle.definition.specs.Domain.{rootNumbers}
-use Rattle.definition.specs.Field.{Field}
 use Rattle.definition.specs.Layout.{Kind, index, laterCount, readFinals, readRounds, roundCoins}
 use Rattle.definition.specs.Reading.{sheetTest}
 use Rattle.definition.specs.Sheet.{Level, firstLevel, laterLevels, levelsFrom, sheetOf, shiftCount}
 use Rattle.definition.specs.Verdict.{accepted}
 
--- the same level by level
+-- the reads level by level
 abbrev pub levelReads : Level → List Level → ℕ
 levelReads b [] = b .repetitions * b .fold
 levelReads b (l ∷ ls) = b .repetitions * b .fold + levelReads l ls
@@ -32,23 +30,21 @@ unfolding flatMap
 flat-length f n [] h = sym (zero-mul n)
 flat-length f n (x ∷ xs) h = length-append (f x) (flatMap f xs) ∙ omega (arith, h x, flat-length f n xs h, suc-mul (length xs) n)
 
-module _ {A : Type 0} (F : Field A) (L : FieldLaws F) (ω : A) where
-  places-length : (b : Level) (js : List ℕ) → length (placesOf b (ownPlace b) js) ≡ length js * b .fold
-  unfolding placesOf ownPlace
-  places-length b js =
-      flat-length (λ j. flatMap (ownPlace b) (rootNumbers b j)) (b .fold) js
-      (λ j. flat-length (ownPlace b) 1 (rootNumbers b j) (λ m. refl) ∙ omega (arith, DecidingAccepts.roots-length b j))
+places-length : (b : Level) (js : List ℕ) → length (placesOf b (ownPlace b) js) ≡ length js * b .fold
+unfolding placesOf ownPlace
+places-length b js =
+    flat-length (λ j. flatMap (ownPlace b) (rootNumbers b j)) (b .fold) js
+    (λ j. flat-length (ownPlace b) 1 (rootNumbers b j) (λ m. refl) ∙ omega (arith, roots-length b j))
 
-module _ (F : Field ℕ) (L : FieldLaws F) (ω : ℕ) (R : Kind → ℕ → Type 0) (s : ℕ) where
-  pub all-reads : (b : Level) (ls : List Level) (w : List ℕ) → Dealt R s b ls w →
-      length (DecidingAccepts.allPlaces b (ownPlace b) (readRounds s b ls w) (readFinals s b ls w)) ≡ levelReads b ls
-  unfolding readRounds readFinals roundCoins
-  all-reads b [] w d = places-length F L ω b w ∙ ap (λ (n : ℕ). n * b .fold) (each-replicate R (b .repetitions) (index (shiftCount b)) w d .0)
-  all-reads b (l ∷ ls) w d =
-      let v = take (laterCount b) (drop s w) in
-      let e : length (drop 2 v) ≡ b .repetitions = length-drop 2 v ∙ omega (arith, each-later R (b .repetitions) (shiftCount b) v (d .1) .0) in
-      length-append (placesOf b (ownPlace b) (drop 2 v)) _
-      ∙ (λ i. (places-length F L ω b (drop 2 v) ∙ ap (λ (n : ℕ). n * b .fold) e) i + all-reads l ls (drop (laterCount b) (drop s w)) (d .2) i)
+pub all-reads : (R : Kind → ℕ → Type 0) (s : ℕ) (b : Level) (ls : List Level) (w : List ℕ) → Dealt R s b ls w →
+    length (allPlaces b (ownPlace b) (readRounds s b ls w) (readFinals s b ls w)) ≡ levelReads b ls
+unfolding readRounds readFinals roundCoins
+all-reads R s b [] w d = places-length b w ∙ ap (λ (n : ℕ). n * b .fold) (each-replicate R (b .repetitions) (index (shiftCount b)) w d .0)
+all-reads R s b (l ∷ ls) w d =
+    let v = take (laterCount b) (drop s w) in
+    let e : length (drop 2 v) ≡ b .repetitions = length-drop 2 v ∙ omega (arith, each-later R (b .repetitions) (shiftCount b) v (d .1) .0) in
+    length-append (placesOf b (ownPlace b) (drop 2 v)) _
+    ∙ (λ i. (places-length b (drop 2 v) ∙ ap (λ (n : ℕ). n * b .fold) e) i + all-reads R s l ls (drop (laterCount b) (drop s w)) (d .2) i)
 
 -- one folding number for all levels
 level-reads : (k m i n d t : ℕ) (n′ d′ : ℕ) (ts : List ℕ) → length ts ≤ m →

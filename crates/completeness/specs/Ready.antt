@@ -1,4 +1,5 @@
--- A sheet that passes is ready: its field has the laws and a fitting root of unity, its levels are right, and its indices are words.
+-- A sheet without a fault has all that completeness asks of it: the laws of a field, ω with ω^(n0/2) = -1, n0 = 2^(e+1), levels of the right sizes, and limits that
+-- are words.
 use Rattle.algebra.specs.PrimeField.{fitting-root, prime-field}
 use Prim.Native.Nat.{ℕ, suc, _+_, _-_, _/_, _%_, _^_, _≤_, _<_}
 use native.Mathlib.Nat.{pow-suc, div-le-self, mul-le-mul-right, one-mul}

@@ -20,9 +20,10 @@ use Rattle.definition.specs.Reading.{sheetTest}
 use Rattle.definition.specs.Deciding.{answers}
 use Rattle.definition.specs.Verify.{verify}
 use Rattle.definition.specs.Prover.{honestStream}
+use Rattle.definition.specs.WorkedTranscript.{coefficients, coins, sheetWords}
 use Rattle.definition.specs.Prove.{coefficientsTest, done, inputRangeTest, prove, refusal, sheetLengthTest}
-use Rattle.completeness.specs.Numbered.{Allowed, Copy, Due, Message, Room, answerPoly, coefficientsByHand, coinsByHand, combinationCoin, correctedOf, final, foldCoin, functionOf, lengthOf, levelOf, outCoinsOf, outsOf, pairAt, pairsOf, quotientPoly, readsDue, replies, roundOf, roundPoly, roundsOf, samplesAt, sentBefore, sheetByHand, sheetField, sheetRoot, startOf, streamOn, table, total, vanishingPoly, wordsIn}
 use Rattle.completeness.specs.ByPlace.{at-place}
+use Rattle.completeness.specs.Numbered.{Allowed, Copy, Due, Message, Room, answerPoly, combinationCoin, correctedOf, final, foldCoin, functionOf, lengthOf, levelOf, outCoinsOf, outsOf, pairAt, pairsOf, quotientPoly, readsDue, replies, roundOf, roundPoly, roundsOf, samplesAt, sentBefore, sheetField, sheetRoot, startOf, streamOn, table, total, vanishingPoly, wordsIn}
 use Rattle.completeness.specs.FileTrip
 use Rattle.completeness.specs.Completeness
 use Rattle.completeness.specs.DecidingAccepts
@@ -172,7 +173,7 @@ module _ (w f coins : List ℕ) (ok : Allowed w f coins) where
 -- 7. NON-ANTICIPATION. For any message, a table, the replies of one round or the final coefficients, and any two allowed lists that agree on all coins sent before
 -- it, the two files have the same words in that message.
 pub non-anticipation : (w f c d : List ℕ) → Allowed w f c → Allowed w f d → (copy : Copy) (m : Message) → Due w m →
-    take (sentBefore w m) c ≡ take (sentBefore w m) d → wordsIn (streamOn copy w f c) w m ≡ wordsIn (streamOn copy w f d) w m
+    take (sentBefore w m) c ≡ take (sentBefore w m) d → wordsIn w (streamOn copy w f c) m ≡ wordsIn w (streamOn copy w f d) m
 non-anticipation = NonAnticipation.non-anticipation
 
 -- The messages are those of the layout: of a message's words each is of kind message, as many coins stand before it as it says,
@@ -227,7 +228,7 @@ module _ (w : List ℕ) (words : sheetLengthTest w ≡ accepted) (sheet : sheetT
   never-meet = DomainsByNumber.shifts-off-domain w words sheet
 
 -- 9. THE PREMISES CAN BE MET. The transcript by hand is allowed,
-pub by-hand-allowed : Allowed sheetByHand coefficientsByHand coinsByHand
+pub by-hand-allowed : Allowed sheetWords coefficients coins
 by-hand-allowed = Premises.by-hand
 
 -- and for every sheet without a fault and every list of d0 elements there is an allowed coin list.

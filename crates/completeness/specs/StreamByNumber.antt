@@ -132,7 +132,7 @@ module _ {w f coins : List ℕ} (ok : Allowed w f coins) where
         (λ y. drop (sym n y + x) (whole y)) ∙ drop-append-add front (rest ++ z) x
 
     -- The words of every message.
-    pub message-words : (m : Message) → Due w m → wordsIn (honestStream w f coins ++ z) w m ≡ messageOf w f coins m
+    pub message-words : (m : Message) → Due w m → wordsIn w (honestStream w f coins ++ z) m ≡ messageOf w f coins m
     unfolding wordsIn startOf lengthOf messageOf joined roundPart afterTable lastPart
     message-words (table i) l =
         let t = tableOf (sheetField w) (sheetRoot w) (levelOf w i) (roundPoly w f coins i) in
