@@ -2,21 +2,9 @@
 use Prim.Native.Nat.{ℕ, zero, suc, _+_, _≤_, _<_}
 use native.Mathlib.Nat.{add-suc, suc-add, add-zero, zero-add}
 use native.Mathlib.Omega.{arith}
-use mathlib.Core.Path.{_≡_, sym, ap, _∙_, subst}
 use mathlib.Core.List.{List, map}
+use mathlib.Core.Path.{_≡_, sym, ap, _∙_, subst}
 use lib.ListN.{length}
-use Rattle.algebra.specs.PrimeField.{signs-differ}
-use Rattle.algebra.specs.RingLaws.{sub-self}
-use Rattle.algebra.specs.RootsOfUnity.{minusOne}
-use Rattle.completeness.specs.Allowed.{sheet-long}
-use Rattle.completeness.specs.Domains.{Roots}
-use Rattle.completeness.specs.LevelSizes.{Chain, Sized}
-use Rattle.completeness.specs.LevelsByNumber.{level-first, levels-later}
-use Rattle.completeness.specs.Numbered.{levelOf, roundsOf, sheetField, sheetRoot}
-use Rattle.completeness.specs.Ready.{Ready, ready}
-use Rattle.completeness.specs.SheetLevels.{Step, Steps}
-use Rattle.completeness.specs.SheetRules.{exponents}
-use Rattle.completeness.specs.Domains
 use Rattle.definition.specs.Domain.{point, shiftPoint}
 use Rattle.definition.specs.Field.{Field}
 use Rattle.definition.specs.Lists.{range}
@@ -24,6 +12,18 @@ use Rattle.definition.specs.Prove.{sheetLengthTest}
 use Rattle.definition.specs.Reading.{sheetTest}
 use Rattle.definition.specs.Sheet.{Level, firstLevel, laterLevels, sheetOf, shiftCount}
 use Rattle.definition.specs.Verdict.{accepted}
+use Rattle.algebra.specs.PrimeField.{signs-differ}
+use Rattle.algebra.specs.RingLaws.{sub-self}
+use Rattle.algebra.specs.RootsOfUnity.{minusOne}
+use Rattle.completeness.specs.Allowed.{sheet-long}
+use Rattle.completeness.specs.Domains
+use Rattle.completeness.specs.Domains.{Roots}
+use Rattle.completeness.specs.LevelSizes.{Chain, Sized}
+use Rattle.completeness.specs.LevelsByNumber.{level-first, levels-later}
+use Rattle.completeness.specs.Numbered.{levelOf, roundsOf, sheetField, sheetRoot}
+use Rattle.completeness.specs.Ready.{Ready, ready}
+use Rattle.completeness.specs.SheetLevels.{Step, Steps}
+use Rattle.completeness.specs.SheetRules.{exponents}
 
 -- n levels past level i
 chain-at : (w : List ℕ) (a m i n : ℕ) → n ≤ m → Chain a (levelOf w i) (map (levelOf w) (range (suc i) m)) → Sized a (levelOf w (i + n))
@@ -51,10 +51,14 @@ module _ (w : List ℕ) (long : length w ≡ 12) (passed : sheetTest w ≡ accep
   by-number P p = subst (λ (ls : List Level). P (levelOf w 0) ls) (levels-later w enough-words) (subst (λ (b : Level). P b (laterLevels (sheetOf w))) (level-first w) p)
 
   pub sized : (i : ℕ) → i ≤ roundsOf w → Sized (suc (r .e)) (levelOf w i)
-  sized i l = subst (λ (j : ℕ). Sized (suc (r .e)) (levelOf w j)) (zero-add i) (chain-at w (suc (r .e)) (roundsOf w) 0 i l (by-number (Chain (suc (r .e))) (r .chain)))
+  sized i l =
+      subst (λ (j : ℕ). Sized (suc (r .e)) (levelOf w j)) (zero-add i)
+      (chain-at w (suc (r .e)) (roundsOf w) 0 i l (by-number (Chain (suc (r .e))) (r .chain)))
 
   pub step : (i : ℕ) → i < roundsOf w → Step (sheetOf w .outCoins) (levelOf w i) (levelOf w (suc i))
-  step i l = subst (λ (j : ℕ). Step (sheetOf w .outCoins) (levelOf w j) (levelOf w (suc j))) (zero-add i) (steps-at w (sheetOf w .outCoins) (roundsOf w) 0 i l (by-number (Steps (sheetOf w .outCoins)) (r .steps)))
+  step i l =
+      subst (λ (j : ℕ). Step (sheetOf w .outCoins) (levelOf w j) (levelOf w (suc j))) (zero-add i)
+      (steps-at w (sheetOf w .outCoins) (roundsOf w) 0 i l (by-number (Steps (sheetOf w .outCoins)) (r .steps)))
 
 -- Domains, by level number, from the two tests of a sheet.
 module _ (w : List ℕ) (words : sheetLengthTest w ≡ accepted) (passed : sheetTest w ≡ accepted) where

@@ -2,23 +2,23 @@
 use Prim.Native.Nat.{ℕ, zero, suc, _+_, _*_, _/_, _%_, _≤_, _<_}
 use native.Mathlib.Nat.{div-le-self}
 use native.Mathlib.Omega.{arith}
-use mathlib.Core.Path.{_≡_, refl, sym, ap, _∙_, subst}
 use mathlib.Core.Bool.{Bool, true, false, _||_, true≢false}
 use mathlib.Core.List.{List, [], _∷_, tail}
+use mathlib.Core.Path.{_≡_, refl, sym, ap, _∙_, subst}
 use lib.Dec.{eqb}
 use lib.ListN.{length, getD, take, drop, replicate, length-append, length-replicate}
 use lib.Seq.{getD-drop}
 use borrow.Author.Tests.{eqb-true, not-false}
-use Rattle.algebra.specs.ListFacts.{All}
-use Rattle.completeness.specs.LayoutFacts.{round-length}
-use Rattle.completeness.specs.SheetRules.{between-true, exponents, rules-hold, small-repetitions}
-use Rattle.completeness.specs.Tests.{and-true, equal-passes, if-passes, then-passes}
 use Rattle.definition.specs.Block.{blockCount, streamOf}
 use Rattle.definition.specs.Layout.{coin, index, laterCount, layout, message, restLayout, roundLayout, wordsDue}
 use Rattle.definition.specs.Reading.{blocksTest, bodyTests, checkTest, lengthTest, reading, sheetTest, streamTests}
 use Rattle.definition.specs.Sheet.{Level, degreeRule, finalCount, firstLevel, laterLevels, levelsFrom, outCoinsRule, powerOfTwo, sheetOf, sheetRules, shiftCount}
 use Rattle.definition.specs.Verdict.{Outcome, Verdict, accepted, refused, thenVerdict}
 use Rattle.definition.specs.Verify.{verify}
+use Rattle.algebra.specs.ListFacts.{All}
+use Rattle.completeness.specs.LayoutFacts.{round-length}
+use Rattle.completeness.specs.SheetRules.{between-true, exponents, rules-hold, small-repetitions}
+use Rattle.completeness.specs.Tests.{and-true, equal-passes, if-passes, then-passes}
 
 final-size : (s : ℕ) (b : Level) → length (restLayout s b []) ≤ b .degree + b .repetitions
 unfolding restLayout finalCount

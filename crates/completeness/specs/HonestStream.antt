@@ -2,20 +2,11 @@
 use Prim.Native.Nat.{ℕ, _/_, _<_}
 use native.Mathlib.Nat.{mod-lt}
 use native.Mathlib.Omega.{arith}
-use mathlib.Core.Path.{_≡_, refl, ap, _∙_}
 use mathlib.Core.List.{List, [], _∷_, _++_, map, append-assoc}
+use mathlib.Core.Path.{_≡_, refl, ap, _∙_}
 use lib.ListN.{length, getD, take, drop, replicate, length-map, length-drop}
 use lib.Seq.{take-at, drop-at}
 use borrow.Author.Tests.{lt-leb}
-use Rattle.algebra.specs.Lengths
-use Rattle.completeness.specs.DecidingAccepts
-use Rattle.algebra.specs.Laws.{FieldLaws}
-use Rattle.algebra.specs.ListFacts.{All}
-use Rattle.completeness.specs.DecidingAccepts.{Fair, table-length}
-use Rattle.completeness.specs.EachWord.{Each, each-join, each-later, each-replicate, each-same}
-use Rattle.completeness.specs.FairCoins.{Passes}
-use Rattle.completeness.specs.LayoutFacts.{Dealt}
-use Rattle.completeness.specs.RoundTrip.{Shaped, round-trip}
 use Rattle.definition.specs.Deciding.{outInDomain}
 use Rattle.definition.specs.Domain.{domain}
 use Rattle.definition.specs.Field.{Field, primeField}
@@ -26,6 +17,15 @@ use Rattle.definition.specs.Prover.{honest, honestRest, honestRound, nextPoly, 
 use Rattle.definition.specs.Reading.{outOfRange}
 use Rattle.definition.specs.Sheet.{Level, Sheet, finalCount, firstLevel, laterLevels, rootOfUnity, shiftCount}
 use Rattle.definition.specs.Transcript.{restWords, roundWords, transcriptWords}
+use Rattle.algebra.specs.Laws.{FieldLaws}
+use Rattle.algebra.specs.Lengths
+use Rattle.algebra.specs.ListFacts.{All}
+use Rattle.completeness.specs.DecidingAccepts
+use Rattle.completeness.specs.DecidingAccepts.{Fair, table-length}
+use Rattle.completeness.specs.EachWord.{Each, each-join, each-later, each-replicate, each-same}
+use Rattle.completeness.specs.FairCoins.{Passes}
+use Rattle.completeness.specs.LayoutFacts.{Dealt}
+use Rattle.completeness.specs.RoundTrip.{Shaped, round-trip}
 
 -- level 0's degree bound is d0
 pub first-degree : (h : Sheet) (f : List ℕ) → length f ≡ h .degree → length f ≡ firstLevel h .degree

@@ -1,15 +1,15 @@
 -- The layout: the coins among its kinds, round by round; the length of a round; and what holds of every kind in it.
 use Prim.Native.Nat.{ℕ, zero, suc, _+_}
 use native.Mathlib.Omega.{arith}
-use mathlib.Core.Path.{_≡_, refl, ap, _∙_, subst}
 use mathlib.Core.List.{List, [], _∷_, _++_, append-assoc}
+use mathlib.Core.Path.{_≡_, refl, ap, _∙_, subst}
 use lib.ListN.{length, take, drop, replicate, length-append, length-replicate}
+use Rattle.definition.specs.Layout.{Kind, coin, coinKinds, index, laterCount, layout, message, out, restLayout, roundLayout}
+use Rattle.definition.specs.Sheet.{Level, Sheet, finalCount, firstLevel, laterLevels, shiftCount}
 use Rattle.algebra.specs.ListFacts.{All, all-append}
 use Rattle.completeness.specs.EachWord.{Each, each-append-at}
 use Rattle.completeness.specs.LevelSizes.{Chain, Sized}
 use Rattle.completeness.specs.ListLaws.{all-replicate}
-use Rattle.definition.specs.Layout.{Kind, coin, coinKinds, index, laterCount, layout, message, out, restLayout, roundLayout}
-use Rattle.definition.specs.Sheet.{Level, Sheet, finalCount, firstLevel, laterLevels, shiftCount}
 
 pub coins-append : (ks ks′ : List Kind) → coinKinds (ks ++ ks′) ≡ coinKinds ks ++ coinKinds ks′
 unfolding coinKinds

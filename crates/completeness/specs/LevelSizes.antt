@@ -3,10 +3,10 @@ use Prim.Native.Nat.{ℕ, zero, suc, _+_, _-_, _*_, _/_, _^_, _≤_, _<_}
 use native.Mathlib.Nat
 use native.Mathlib.Nat.{mul-div-cancel}
 use native.Mathlib.Omega.{arith}
-use mathlib.Core.Path.{_≡_, refl, sym, ap, _∙_}
 use mathlib.Core.List.{List, [], _∷_}
-use lib.Pow.{pow-add, pow-pos}
+use mathlib.Core.Path.{_≡_, refl, sym, ap, _∙_}
 use lib.ListN.{replicate}
+use lib.Pow.{pow-add, pow-pos}
 use Rattle.definition.specs.Sheet.{Level, levelsFrom}
 
 -- 2^(v+c) / 2^c
@@ -18,6 +18,16 @@ pub record Sized (a : ℕ) (l : Level) : Type 0 where
   pub whole : 2 ^ l .number * l .size ≡ 2 ^ a
   pub folds : l .size / l .fold * l .fold ≡ l .size
   pub degrees : l .degree / l .fold * l .fold ≡ l .degree
+
+-- such a level has points and shift points, and k is not 0
+positive-factors : (q k n : ℕ) → q * k ≡ n → 0 < n → (0 < q) × (0 < k)
+positive-factors zero k n e h = absurd (omega (arith, Nat.zero-mul k))
+positive-factors (suc q) zero n e h = absurd (omega (arith, Nat.mul-zero (suc q)))
+positive-factors (suc q) (suc k) n e h = (omega arith, omega arith)
+
+pub positive-sizes : (a : ℕ) (l : Level) → Sized a l → (0 < l .size / l .fold) × (0 < l .fold)
+positive-sizes a l r =
+    positive-factors (l .size / l .fold) (l .fold) (l .size) (r .folds) (positive-factors (2 ^ l .number) (l .size) (2 ^ a) (r .whole) (pow-pos a) .1)
 
 -- every level has its sizes, and its degree bound is the one before over the folding number before
 abbrev pub Chain : ℕ → Level → List Level → Type 0

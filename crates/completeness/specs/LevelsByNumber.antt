@@ -2,13 +2,13 @@
 use Prim.Native.Nat.{ℕ, zero, suc, _+_, _/_, _^_, _≤_}
 use native.Mathlib.Nat.{div-one, div-div-eq-div-mul, pow-suc, pow-zero}
 use native.Mathlib.Omega.{arith}
-use mathlib.Core.Path.{_≡_, refl, sym, ap, _∙_}
 use mathlib.Core.List.{List, _∷_, map}
+use mathlib.Core.Path.{_≡_, refl, sym, ap, _∙_}
 use lib.ListN.{length, getD, take, drop, replicate}
 use lib.Seq.{drop-cons, getD-take, getD-drop}
-use Rattle.completeness.specs.Numbered.{levelOf, roundsOf}
 use Rattle.definition.specs.Lists.{range}
 use Rattle.definition.specs.Sheet.{firstLevel, laterLevels, levelsFrom, sheetOf}
+use Rattle.completeness.specs.Numbered.{levelOf, roundsOf}
 
 halved : (n i : ℕ) → n / 2 ^ i / 2 ≡ n / 2 ^ suc i
 halved n i = div-div-eq-div-mul n (2 ^ i) 2 ∙ ap (λ (x : ℕ). n / x) (sym (pow-suc 2 i))

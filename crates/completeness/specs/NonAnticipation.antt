@@ -1,17 +1,17 @@
 -- Non-anticipation: what the prover works out for a message is settled by the coins sent before it. No coin list need be allowed, or even full.
 use Prim.Native.Nat.{ℕ, zero, suc, _+_, _≤_, _<_}
 use native.Mathlib.Omega.{arith}
-use mathlib.Core.Path.{_≡_, refl, sym, ap, _∙_}
 use mathlib.Core.List.{List, map}
+use mathlib.Core.Path.{_≡_, refl, sym, ap, _∙_}
 use lib.ListN.{getD, take, drop}
 use lib.Seq.{take-take, getD-take}
-use Rattle.completeness.specs.ListLaws.{drop-take}
-use Rattle.completeness.specs.Numbered.{Allowed, Copy, Due, Message, coinCount, coinsBefore, coinsOf, combinationCoin, correctedOf, final, foldCoin, levelOf, outCoinsOf, outsOf, replies, roundPoly, roundsOf, sentBefore, sheetField, sheetRoot, shiftIndices, streamOn, table, wordsIn}
-use Rattle.completeness.specs.StreamByNumber.{copy-is, message-words, messageOf}
 use Rattle.definition.specs.Layout.{laterCount}
 use Rattle.definition.specs.Polynomial.{evaluate, foldPoly}
 use Rattle.definition.specs.Prover.{nextPoly, tableOf}
 use Rattle.definition.specs.Transcript.{RoundCoins}
+use Rattle.completeness.specs.ListLaws.{drop-take}
+use Rattle.completeness.specs.Numbered.{Allowed, Copy, Due, Message, coinCount, coinsBefore, coinsOf, combinationCoin, correctedOf, final, foldCoin, levelOf, outCoinsOf, outsOf, replies, roundPoly, roundsOf, sentBefore, sheetField, sheetRoot, shiftIndices, streamOn, table, wordsIn}
+use Rattle.completeness.specs.StreamByNumber.{copy-is, message-words, messageOf}
 
 -- two lists that agree on n words agree on fewer, on each of them, and on each run of them
 fewer : (m n : ℕ) (c d : List ℕ) → m ≤ n → take n c ≡ take n d → take m c ≡ take m d

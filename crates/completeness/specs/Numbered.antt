@@ -1,20 +1,20 @@
 -- THE VOCABULARY OF THE PAGE: 01's notions by number, over a sheet's words w, coefficients f, a coin list and a word stream. It holds no lemma and no proof.
 -- M is the number of rounds, k the folding number, s the number of out coins of a round; t_i, n_i and d_i belong to level i.
 use Prim.Native.Nat.{ℕ, zero, suc, _+_, _*_, _/_, _^_, _≤_}
-use mathlib.Core.Path.{_≡_}
 use mathlib.Core.List.{List, [], _∷_, _++_}
+use mathlib.Core.Path.{_≡_}
 use lib.ListN.{length, getD, take, drop}
-use Rattle.definition.specs.Field.{Field, primeField}
-use Rattle.definition.specs.Polynomial.{Sample, points, subPoly, vanishing, interpolate, quotient, foldPoly, distinct}
-use Rattle.definition.specs.Sheet.{Level, sheetOf, sheetLength, finalCount, rootOfUnity}
-use Rattle.definition.specs.Transcript.{RoundCoins, Round}
-use Rattle.definition.specs.Layout.{laterCount, layout, coinKinds, wordsDue}
 use Rattle.definition.specs.Block.{blockCount, fileOf, streamOf}
-use Rattle.definition.specs.Verdict.{accepted}
+use Rattle.definition.specs.Deciding.{answers, nextFunction, tableFunction}
+use Rattle.definition.specs.Field.{Field, primeField}
+use Rattle.definition.specs.Layout.{coinKinds, laterCount, layout, wordsDue}
+use Rattle.definition.specs.Polynomial.{Sample, distinct, foldPoly, interpolate, points, quotient, subPoly, vanishing}
+use Rattle.definition.specs.Prove.{coefficientsTest, coinDomainTest, coinsTest, inputRangeTest, outputTest, sheetLengthTest}
+use Rattle.definition.specs.Prover.{honestAnswers, honestStream, nextPoly}
 use Rattle.definition.specs.Reading.{sheetTest}
-use Rattle.definition.specs.Deciding.{answers, tableFunction, nextFunction}
-use Rattle.definition.specs.Prover.{honestAnswers, nextPoly, honestStream}
-use Rattle.definition.specs.Prove.{sheetLengthTest, coefficientsTest, coinsTest, inputRangeTest, coinDomainTest, outputTest}
+use Rattle.definition.specs.Sheet.{Level, finalCount, rootOfUnity, sheetLength, sheetOf}
+use Rattle.definition.specs.Transcript.{Round, RoundCoins}
+use Rattle.definition.specs.Verdict.{accepted}
 
 -- the sheet's field, and its ω
 abbrev pub sheetField : List ℕ → Field ℕ

@@ -1,14 +1,11 @@
--- What prove writes is accepted: prove answers done exactly when its tests pass, and then the blocks at the front of its output are a file that verify accepts.
+-- Completeness of prove: it answers done exactly when its tests pass, and then the blocks at the front of its output are a file that verify accepts.
 use Prim.Native.Nat.{ℕ, _*_}
 use native.Mathlib.Omega.{arith}
-use mathlib.Core.Path.{_≡_, refl, sym, ap, _∙_}
-use mathlib.Core.Logic.{_↔_}
 use mathlib.Core.List.{List, _++_}
+use mathlib.Core.Logic.{_↔_}
+use mathlib.Core.Path.{_≡_, refl, sym, ap, _∙_}
 use lib.ListN.{length, take, drop}
 use lib.Seq.{take-at}
-use Rattle.completeness.specs.Completeness.{completeness, file-size}
-use Rattle.completeness.specs.Numbered.{Allowed, Room, readsDue}
-use Rattle.completeness.specs.Tests.{then-passes}
 use Rattle.definition.specs.Block.{blockCount, fileOf}
 use Rattle.definition.specs.Layout.{coinKinds, layout, wordsDue}
 use Rattle.definition.specs.Prove.{Result, coefficientsTest, coinDomainTest, coinsTest, done, finish, inputRangeTest, prove, proveTests, refusal, sheetLengthTest}
@@ -17,6 +14,9 @@ use Rattle.definition.specs.Reading.{sheetTest}
 use Rattle.definition.specs.Sheet.{sheetOf}
 use Rattle.definition.specs.Verdict.{Outcome, _then_, accepted, refused}
 use Rattle.definition.specs.Verify.{verify}
+use Rattle.completeness.specs.Completeness.{completeness, file-size}
+use Rattle.completeness.specs.Numbered.{Allowed, Room, readsDue}
+use Rattle.completeness.specs.Tests.{then-passes}
 
 finish-done : (o : Outcome) (count n : ℕ) (written output : List ℕ) → finish o count written output .answer ≡ done n → (o ≡ accepted) × (count ≡ n)
 unfolding finish

@@ -3,22 +3,22 @@ use Prim.Native.Nat.{ℕ, zero, suc, _+_, _*_, _/_, _≤_}
 use native.Mathlib.Nat
 use native.Mathlib.Nat.{suc-mul, zero-mul}
 use native.Mathlib.Omega.{arith}
-use mathlib.Core.Path.{_≡_, refl, sym, ap, _∙_}
 use mathlib.Core.List.{List, [], _∷_, flatMap}
+use mathlib.Core.Path.{_≡_, refl, sym, ap, _∙_}
 use lib.ListN.{length, getD, take, drop, replicate, length-append, length-drop, length-take}
 use lib.Seq.{drop-cons}
-use Rattle.completeness.specs.DecidingAccepts.{allPlaces, roots-length}
-use Rattle.completeness.specs.EachWord.{each-later, each-replicate}
-use Rattle.completeness.specs.LayoutFacts.{Dealt}
-use Rattle.completeness.specs.Numbered.{readsDue, total}
-use Rattle.completeness.specs.SheetLevels.{about-levels}
-use Rattle.completeness.specs.SheetRules.{exponents}
 use Rattle.definition.specs.Deciding.{ownPlace, placesOf}
 use Rattle.definition.specs.Domain.{rootNumbers}
 use Rattle.definition.specs.Layout.{Kind, index, laterCount, readFinals, readRounds, roundCoins}
 use Rattle.definition.specs.Reading.{sheetTest}
 use Rattle.definition.specs.Sheet.{Level, firstLevel, laterLevels, levelsFrom, sheetOf, shiftCount}
 use Rattle.definition.specs.Verdict.{accepted}
+use Rattle.completeness.specs.DecidingAccepts.{allPlaces, roots-length}
+use Rattle.completeness.specs.EachWord.{each-later, each-replicate}
+use Rattle.completeness.specs.LayoutFacts.{Dealt}
+use Rattle.completeness.specs.Numbered.{readsDue, total}
+use Rattle.completeness.specs.SheetLevels.{about-levels}
+use Rattle.completeness.specs.SheetRules.{exponents}
 
 -- the reads level by level
 abbrev pub levelReads : Level → List Level → ℕ

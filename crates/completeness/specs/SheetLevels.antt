@@ -1,21 +1,21 @@
--- The levels of a sheet that passes: each is right, and each step from one to the next leaves more degree than there are points.
+-- The levels of a sheet without a fault: each has its sizes, and each step from one to the next leaves more degree than there are points.
 use Prim.Native.Nat.{ℕ, zero, suc, _+_, _-_, _*_, _/_, _^_, _≤_, _<_}
 use native.Mathlib.Nat
 use native.Mathlib.Nat.{pow-suc}
 use native.Mathlib.Omega.{arith}
-use mathlib.Core.Path.{_≡_, refl, sym, ap, _∙_, subst}
 use mathlib.Core.List.{List, [], _∷_, _++_, tail}
+use mathlib.Core.Path.{_≡_, refl, sym, ap, _∙_, subst}
 use lib.ListN.{length, getD, take, drop, replicate, length-drop, List·getD-append}
 use lib.Seq.{drop-cons, take-append-le, drop-append-le}
-use Rattle.completeness.specs.LevelSizes
-use Rattle.algebra.specs.ModularArithmetic.{pow-pow}
-use Rattle.completeness.specs.LevelSizes.{Chain, chain}
-use Rattle.completeness.specs.SheetRules.{Exponents, exponents, few-points, twelve}
 use Rattle.definition.specs.Field.{generatorOf, primeOf}
 use Rattle.definition.specs.Lists.{range}
 use Rattle.definition.specs.Reading.{sheetTest}
 use Rattle.definition.specs.Sheet.{Level, degreeRule, fieldRule, firstLevel, foldRule, laterLevels, levelsFrom, outCoinsRule, repetitionsRule, roundsRule, sheetOf, sheetRules, sizeRule}
 use Rattle.definition.specs.Verdict.{accepted}
+use Rattle.algebra.specs.ModularArithmetic.{pow-pow}
+use Rattle.completeness.specs.LevelSizes
+use Rattle.completeness.specs.LevelSizes.{Chain, chain}
+use Rattle.completeness.specs.SheetRules.{Exponents, exponents, few-points, twelve}
 
 -- from level b to the next level l, with s out coins: fewer points than the next degree bound; l has a number before it; the folding number is even
 pub record Step (s : ℕ) (b l : Level) : Type 0 where
@@ -25,6 +25,7 @@ pub record Step (s : ℕ) (b l : Level) : Type 0 where
   pub half : ℕ
   pub even : b .fold ≡ half + half
 
+-- of all levels
 abbrev pub Steps : ℕ → Level → List Level → Type 0
 Steps s b [] = Unit {0}
 Steps s b (l ∷ ls) = Step s b l × Steps s l ls

@@ -1,28 +1,27 @@
 -- What the 12 rules say, where none is broken: the exponents of n0, d0 and k, and the size of each word.
 use Prim.Native.Nat.{ℕ, zero, suc, _+_, _-_, _*_, _/_, _%_, _^_, _≤_, _<_}
+use native.Mathlib.Decide.{decLt}
 use native.Mathlib.Nat
 use native.Mathlib.Nat.{pow-suc, pow-zero}
-use native.Mathlib.Decide.{decLt}
 use native.Mathlib.Omega.{arith}
-use mathlib.Core.Path.{_≡_, refl, sym, ap, _∙_, subst}
 use mathlib.Core.Bool.{Bool, true, false, not, cond, _&&_, _||_, true≢false}
 use mathlib.Core.List.{List, [], _∷_, map}
+use mathlib.Core.Path.{_≡_, refl, sym, ap, _∙_, subst}
 use lib.Dec.{eqb, ltb, leb}
-use lib.Pow.{pow-mono, pow-pos}
 use lib.ListN.{length, getD, drop, drop-of-length-le}
+use lib.Pow.{pow-mono, pow-pos}
 use lib.Seq.{drop-cons}
 use borrow.Author.Tests.{ltb-true, leb-true, eqb-true, not-false, lt-ltb}
+use Rattle.definition.specs.Field.{knownField, primeOf}
+use Rattle.definition.specs.Lists.{member, range}
+use Rattle.definition.specs.Reading.{sheetTest}
+use Rattle.definition.specs.Sheet.{between, degreeRule, fieldRule, foldRule, outCoinsRule, powerOfTwo, repetitionsRule, roundsRule, sheetRules, sizeRule}
+use Rattle.definition.specs.Verdict.{accepted}
 use Rattle.algebra.specs.ListFacts.{All, all-in-map, all-map}
 use Rattle.algebra.specs.ModularArithmetic.{pow-pow}
 use Rattle.completeness.specs.FileTrip.{Word}
 use Rattle.completeness.specs.ListLaws.{all-at}
 use Rattle.completeness.specs.Tests.{all-false, and-true}
-use Rattle.definition.specs.Field.{knownField}
-use Rattle.definition.specs.Field.{primeOf}
-use Rattle.definition.specs.Lists.{member, range}
-use Rattle.definition.specs.Reading.{sheetTest}
-use Rattle.definition.specs.Sheet.{between, degreeRule, fieldRule, foldRule, outCoinsRule, powerOfTwo, repetitionsRule, roundsRule, sheetRules, sizeRule}
-use Rattle.definition.specs.Verdict.{accepted}
 
 -- one of the powers of two
 member-range : (f : ℕ → ℕ) (from n x : ℕ) → member x (map f (range from n)) ≡ true → (a : ℕ) × (from ≤ a) × (a < from + n) × (x ≡ f a)
