@@ -81,7 +81,7 @@ module _ {w f coins : List ℕ} (ok : Allowed w f coins) where
   -- the words after the sheet
   honest-each : Each (Passes h) (layout h) (transcriptWords τ)
   unfolding readCoins
-  honest-each = words-each h (sheetReady .laws) positive f coins (allowed-degree ok) (allowed-first ok) (allowed-rounds ok) fair-coins
+  honest-each = words-each h positive (sheetReady .laws) f coins (allowed-degree ok) (allowed-first ok) (allowed-rounds ok) fair-coins
 
   pub honest-words : All Word (honestStream w f coins)
   unfolding honestStream
@@ -165,7 +165,7 @@ module _ {w f coins : List ℕ} (ok : Allowed w f coins) where
   -- reading the words back, whatever follows them
   read-words : (z : List ℕ) → readTranscript h (transcriptWords τ ++ z) ≡ τ
   unfolding readCoins
-  read-words z = words-read h (sheetReady .laws) positive f coins (allowed-degree ok) (allowed-first ok) (allowed-rounds ok) fair-coins z
+  read-words z = words-read h positive (sheetReady .laws) f coins (allowed-degree ok) (allowed-first ok) (allowed-rounds ok) fair-coins z
 
   pub read-back : (z : List ℕ) → readTranscript h (drop 12 (honestStream w f coins ++ z)) ≡ τ
   unfolding honestStream
