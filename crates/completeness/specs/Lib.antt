@@ -1,29 +1,33 @@
 -- COMPLETENESS over the written definition. A reader needs two files: Numbered, the vocabulary, and Statements, the page of theorems. The others are their proofs.
 
+-- the vocabulary, and the page
+pub mod Numbered
+pub mod Statements
 -- lists and tests
 pub mod ListLaws
 pub mod ByPlace
+pub mod Parts
 pub mod Tests
--- the vocabulary
-pub mod Numbered
--- in any field with the laws: deciding accepts honest transcripts, and what one round and one domain are
+-- the sheet and its levels
+pub mod LevelSizes
+pub mod LevelsByNumber
+pub mod SheetRules
+pub mod SheetLevels
+pub mod Ready
+-- in any field with the laws: deciding accepts honest transcripts; one round; domains; and a party that sends and asks
 pub mod DistinctPoints
 pub mod DecidingAccepts
 pub mod RoundPolynomials
-pub mod LevelSizes
-pub mod SheetRules
-pub mod SheetLevels
 pub mod Domains
 pub mod Causal
--- words: the file, the kinds of the words, the sheet, the coins
+-- the words: their file, their kinds, and the coins among them
 pub mod BlockTrip
 pub mod FileTrip
 pub mod EachWord
 pub mod LayoutFacts
-pub mod Ready
 pub mod FairCoins
 pub mod Allowed
--- the honest stream is accepted
+-- the honest file is accepted, and the premises can be met
 pub mod RoundTrip
 pub mod HonestStream
 pub mod Reads
@@ -31,15 +35,11 @@ pub mod Completeness
 pub mod ProveAccepted
 pub mod Premises
 pub mod FileSize
--- the same by number of level, round and message
-pub mod LevelsByNumber
+-- rounds, messages and domains by number
 pub mod CoinsByNumber
-pub mod Parts
 pub mod LayoutByNumber
 pub mod DomainsByNumber
 pub mod RunByNumber
 pub mod StreamByNumber
 pub mod FunctionsByNumber
 pub mod NonAnticipation
--- THE PAGE
-pub mod Statements

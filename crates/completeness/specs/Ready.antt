@@ -18,7 +18,8 @@ use Rattle.algebra.specs.PrimeField.{Suited, fitting-root, prime-field, suited}
 use Rattle.algebra.specs.RootsOfUnity.{minusOne}
 use Rattle.completeness.specs.LayoutFacts.{layout-all}
 use Rattle.completeness.specs.LevelSizes.{Chain, Sized}
-use Rattle.completeness.specs.SheetLevels.{Steps, sheet-chain, sheet-steps}
+use Rattle.completeness.specs.Numbered.{levelOf, roundsOf}
+use Rattle.completeness.specs.SheetLevels.{Steps, sheet-chain, sheet-steps, sized}
 use Rattle.completeness.specs.SheetRules.{exponents}
 
 pub record Ready (h : Sheet) : Type 0 where
@@ -53,6 +54,11 @@ ready w long passed =
       chain = sheet-chain w long passed;
       steps = sheet-steps w long passed;
     }
+
+-- its levels by number
+pub ready-sized : (w : List ℕ) (long : length w ≡ 12) (passed : sheetTest w ≡ accepted) (i : ℕ) → i ≤ roundsOf w → Sized (suc (ready w long passed .e)) (levelOf w i)
+unfolding ready
+ready-sized = sized
 
 -- every limit of the layout is a word's
 shift-count : (a : ℕ) (b : Level) → Sized a b → shiftCount b ≤ 2 ^ a

@@ -29,12 +29,13 @@ use Rattle.completeness.specs.DecidingAccepts
 use Rattle.completeness.specs.DecidingAccepts.{Fair, FairRound, Foldable}
 use Rattle.completeness.specs.DistinctPoints.{all-distinct, kept-places}
 use Rattle.completeness.specs.Domains.{domain-apart, foldable}
-use Rattle.completeness.specs.DomainsByNumber.{enough-words, sized}
 use Rattle.completeness.specs.FairCoins.{reduced}
 use Rattle.completeness.specs.LevelsByNumber.{level-first, undivided}
 use Rattle.completeness.specs.ListLaws.{range-length}
 use Rattle.completeness.specs.Numbered.{Allowed, answerPoly, coinsOf, combinationCoin, correctedOf, finalIndices, foldCoin, levelOf, pairAt, pairsOf, quotientPoly, roundPoly, roundsOf, samplesAt, sheetField, sheetRoot, vanishingPoly}
+use Rattle.completeness.specs.Ready.{ready-sized}
 use Rattle.completeness.specs.RoundPolynomials
+use Rattle.completeness.specs.SheetLevels.{enough-words}
 use Rattle.completeness.specs.SheetRules.{exponents}
 
 -- n rounds past level i
@@ -81,7 +82,7 @@ module _ {w f coins : List ℕ} (ok : Allowed w f coins) where
   fair-round i l = subst (λ (j : ℕ). FairRound F L ω (levelOf w j) (coinsOf w coins (suc j))) (zero-add i) (fair-at w coins L _ (roundsOf w) 0 i l fair-all)
 
   pub level-folds : (i : ℕ) → i ≤ roundsOf w → Foldable F ω (levelOf w i)
-  level-folds i l = foldable F L ω (signs-differ (sheetOf w .prime) (sheetReady ok .large)) (sheetReady ok .e) (sheetReady ok .root) (levelOf w i) (sized w long (ok .sheet) i l)
+  level-folds i l = foldable F L ω (signs-differ (sheetOf w .prime) (sheetReady ok .large)) (sheetReady ok .e) (sheetReady ok .root) (levelOf w i) (ready-sized w long (ok .sheet) i l)
 
   -- DEGREES. f_i has d_i coefficients, and so has g_i; g_(i+1) has d_i/k.
   pub corrected-length : (i : ℕ) → i ≤ roundsOf w → length (correctedOf w f coins i) ≡ levelOf w i .degree
@@ -147,7 +148,7 @@ module _ {w f coins : List ℕ} (ok : Allowed w f coins) where
     unfolding quotientPoly vanishingPoly answerPoly samplesAt pairsOf
     coefficients-divide =
         RoundPolynomials.coefficients-divide F L ω (levelOf w i) g (coinsOf w coins (suc i)) (fair-round i l) (round-length (suc i) (omega arith)) (domain F ω (levelOf w 0))
-        (domain-apart F L ω (signs-differ (sheetOf w .prime) (sheetReady ok .large)) (sheetReady ok .e) (sheetReady ok .root) (levelOf w 0) (sized w long (ok .sheet) 0 (omega arith)))
+        (domain-apart F L ω (signs-differ (sheetOf w .prime) (sheetReady ok .large)) (sheetReady ok .e) (sheetReady ok .root) (levelOf w 0) (ready-sized w long (ok .sheet) 0 (omega arith)))
         enough round-elements
 
     -- A passes through pair j of G's list, and is the only polynomial with e coefficients, all elements, that passes through all pairs

@@ -18,7 +18,6 @@ use Rattle.completeness.specs.Allowed.{allowed-count, allowed-long}
 use Rattle.completeness.specs.CoinsByNumber.{coins-read}
 use Rattle.completeness.specs.Completeness.{honest-words, read-back}
 use Rattle.completeness.specs.DecidingAccepts.{table-at, table-length}
-use Rattle.completeness.specs.DomainsByNumber.{enough-words}
 use Rattle.completeness.specs.FileTrip.{file-stream, fillCount, filled}
 use Rattle.completeness.specs.LayoutByNumber.{coins-due}
 use Rattle.completeness.specs.LevelsByNumber.{level-first}
@@ -26,6 +25,7 @@ use Rattle.completeness.specs.ListLaws.{getD-map, opened}
 use Rattle.completeness.specs.Numbered.{Allowed, Copy, Due, Message, coinCount, coinsBefore, coinsOf, combinationCoin, correctedOf, final, finalIndices, foldCoin, lengthOf, levelOf, outCoinsOf, outsOf, read, replies, roundPoly, roundStart, roundsOf, sheetField, sheetRoot, shiftIndices, startOf, streamOn, table, wordCount, wordsIn, written}
 use Rattle.completeness.specs.Parts.{firsts, firsts-length, joined, split-joined}
 use Rattle.completeness.specs.RunByNumber.{folded-length}
+use Rattle.completeness.specs.SheetLevels.{enough-words}
 
 coins-grow : (w : List ℕ) (i m : ℕ) → coinsBefore w i ≤ coinsBefore w (i + m)
 unfolding coinsBefore
