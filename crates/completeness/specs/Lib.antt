@@ -1,28 +1,45 @@
-pub mod Complete
-pub mod LevelFacts
-pub mod SheetFacts
-pub mod SheetPassed
+-- COMPLETENESS over the written definition. A reader needs two files: Numbered, the vocabulary, and Statements, the page of theorems. The others are their proofs.
+
+-- the vocabulary, and the page
+pub mod Numbered
+pub mod Statements
+-- lists and tests
+pub mod ListLaws
+pub mod ByPlace
+pub mod Parts
+pub mod Tests
+-- the sheet and its levels
+pub mod LevelSizes
+pub mod LevelsByNumber
+pub mod SheetRules
 pub mod SheetLevels
 pub mod Ready
+-- in any field with the laws: deciding accepts honest transcripts; one round; domains; and a party that sends and asks
+pub mod DistinctPoints
+pub mod DecidingAccepts
+pub mod RoundPolynomials
 pub mod Domains
-pub mod Stages
+pub mod Causal
+-- the words: their file, their kinds, and the coins among them
 pub mod BlockTrip
 pub mod FileTrip
-pub mod CoinFacts
 pub mod EachWord
-pub mod RoundTrip
+pub mod LayoutFacts
 pub mod FairCoins
+pub mod Allowed
+-- the honest file is accepted, and the premises can be met
+pub mod RoundTrip
 pub mod HonestStream
 pub mod Reads
-pub mod FileSize
-pub mod Allowed
 pub mod Completeness
 pub mod ProveAccepted
-pub mod Messages
-pub mod MessagePlaces
-pub mod Values
-pub mod HonestRun
-pub mod Entries
-pub mod Causal
-pub mod NonAnticipation
 pub mod Premises
+pub mod FileSize
+-- rounds, messages and domains by number
+pub mod CoinsByNumber
+pub mod LayoutByNumber
+pub mod DomainsByNumber
+pub mod RunByNumber
+pub mod StreamByNumber
+pub mod FunctionsByNumber
+pub mod NonAnticipation
