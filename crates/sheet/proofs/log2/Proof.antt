@@ -1,0 +1,12 @@
+use Rattle.sheet.specs.OneBit.{one-bit}
+use Rattle.sheet.proofs.log2.Statement.{statement}
+use Rattle.sheet.proofs.log2.Tie as tie
+use Rattle.sheet.proofs.log2.Reads as reads
+use Rattle.sheet.proofs.log2.Lts as lts
+
+-- src/lib.rt:17:1
+returns : tie.Need-returns
+returns c = one-bit 32 (c .args .x) (c .fits .x .fits) (c .pre)
+
+pub log2-spec : {M : Type 1} → statement M
+log2-spec = tie.close (tie.spec returns)
