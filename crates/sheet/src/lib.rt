@@ -1,4 +1,4 @@
-// The sheet: the first of its 12 words that breaks its rule.
+// The sheet: the first of its 12 words that breaks its rule, and the number of words, blocks and coins that it makes due where none does.
 // Each rule is a function of its own. It reads only words whose rules held before, so that no power, shift or product is made of a word not yet accepted.
 use outcome::Found;
 ghost use mathlib.Core.Path.{_≡_};
@@ -7,11 +7,16 @@ ghost use mathlib.Core.List.{map};
 ghost use Prim.Native.Nat.{ℕ, _+_, _-_, _*_, _/_, _^_, _≤_, _<_};
 ghost use lib.Count.{ones};
 ghost use lib.ListN.{length, getD};
+ghost use Rattle.definition.specs.Block.{blockCount};
 ghost use Rattle.definition.specs.Field.{primeOf};
+ghost use Rattle.definition.specs.Layout.{coinKinds, layout, wordsDue};
 ghost use Rattle.definition.specs.Lists.{firstTrue, range};
-ghost use Rattle.definition.specs.Sheet.{between as betweenIn, powerOfTwo, fieldRule, sizeRule, degreeRule, foldRule, roundsRule, outCoinsRule, repetitionsRule, sheetRules};
+ghost use Rattle.definition.specs.Sheet.{between as betweenIn, powerOfTwo, fieldRule, sizeRule, degreeRule, foldRule, roundsRule, outCoinsRule, repetitionsRule, sheetOf, sheetRules};
+ghost use Rattle.definition.specs.Reading.{sheetTest};
+ghost use Rattle.definition.specs.Verdict.{accepted};
 ghost use Rattle.outcome.specs.Meaning.{placeOf};
 ghost use Rattle.sheet.specs.Given.{Shape};
+ghost use Rattle.sheet.specs.Sizes.{roundWords};
 
 // The logarithm of a power of two, read off its single one bit.
 pub fn log2(x: u32) -> u32
@@ -187,4 +192,62 @@ pub fn broken(w: &[u32]) -> Found
         return Found::At(5);
     }
     broken_repetitions(w)
+}
+
+// The words of a round whose table has n words, after a level with t repetitions: table, out coins, replies, combination coin, fold coin, shift indices.
+fn round_words(n: usize, s: usize, t: usize) -> usize
+    requires { ⌜ roundWords n s t ≤ 8636 ⌝ }
+    ensures { λ r. ⌜ r ≡ roundWords n s t ⌝ }
+{
+    n + 2 * s + 2 + t
+}
+
+// The number of words that a sheet makes due, its own included. At each level n is the domain's size and d the degree bound.
+pub fn words_due(w: &[u32]) -> usize
+    requires { ⌜ (12 ≤ length (now w)) × (sheetTest (now w) ≡ accepted) ⌝ }
+    ensures { λ r. ⌜ (r ≡ wordsDue (sheetOf (now (w .entry)))) × (r ≤ 8636) ⌝ }
+{
+    let rounds = w[4] as usize;
+    let s = w[5] as usize;
+    let k = w[3] as usize;
+    let mut n = w[1] as usize;
+    let mut d = w[2] as usize;
+    // the sheet, table 0 and fold coin 0
+    let mut due = 12 + n + 1;
+    let mut i = 0;
+    while i < rounds {
+        n /= 2;
+        d /= k;
+        due += round_words(n, s, w[6 + i] as usize);
+        i += 1;
+    }
+    // the final coefficients and the final indices
+    due + d / k + w[6 + i] as usize
+}
+
+// The number of blocks of 127 words that they fill.
+pub fn blocks_due(w: &[u32]) -> usize
+    requires { ⌜ (12 ≤ length (now w)) × (sheetTest (now w) ≡ accepted) ⌝ }
+    ensures { λ r. ⌜ (r ≡ blockCount (wordsDue (sheetOf (now (w .entry))))) × ((1 ≤ r) × (r ≤ 68)) ⌝ }
+{
+    (words_due(w) + 126) / 127
+}
+
+// The number of coins that a sheet makes due.
+pub fn coins_due(w: &[u32]) -> usize
+    requires { ⌜ (12 ≤ length (now w)) × (sheetTest (now w) ≡ accepted) ⌝ }
+    ensures { λ r. ⌜ r ≡ length (coinKinds (layout (sheetOf (now (w .entry))))) ⌝ }
+{
+    let rounds = w[4] as usize;
+    let s = w[5] as usize;
+    // fold coin 0
+    let mut due = 1;
+    let mut i = 0;
+    while i < rounds {
+        // out coins, combination coin, fold coin, shift indices
+        due += s + 2 + w[6 + i] as usize;
+        i += 1;
+    }
+    // the final indices
+    due + w[6 + i] as usize
 }

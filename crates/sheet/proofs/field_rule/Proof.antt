@@ -1,17 +1,14 @@
-use Rattle.definition.specs.Field.{knownField}
-use Rattle.definition.specs.Sheet.{fieldRule}
+-- `sheet::field_rule` meets its contract. The definition, word for word. Assumes nothing.
 use mathlib.Core.Path.{refl}
 use borrow.Author.Needs.{needs}
+use Rattle.definition.specs.Field.{knownField}
+use Rattle.definition.specs.Sheet.{fieldRule}
 use Rattle.sheet.proofs.field_rule.Statement.{statement}
 use Rattle.sheet.proofs.field_rule.Tie as tie
-use Rattle.sheet.proofs.field_rule.Reads as reads
-use Rattle.sheet.proofs.field_rule.Lts as lts
 
--- src/lib.rt:59:5
 shared-slice-read-result : tie.Need-shared-slice-read-result
 shared-slice-read-result c = search needs
 
--- src/lib.rt:55:1
 returns : tie.Need-returns
 unfolding fieldRule knownField
 returns c = refl

@@ -1,15 +1,12 @@
-use Rattle.sheet.specs.OneBit.{powerOfTwo-large, powerOfTwo-ones}
+-- `sheet::is_power` meets its contract. Up to 4096 the ones count decides, and above that nothing is a power of the definition. Assumes nothing.
 use mathlib.Core.Path.{sym}
+use Rattle.sheet.specs.OneBit.{powerOfTwo-large, powerOfTwo-ones}
 use Rattle.sheet.proofs.is_power.Statement.{statement}
 use Rattle.sheet.proofs.is_power.Tie as tie
-use Rattle.sheet.proofs.is_power.Reads as reads
-use Rattle.sheet.proofs.is_power.Lts as lts
 
--- src/lib.rt:29:9
 returns : tie.Need-returns
 returns c = sym (powerOfTwo-large _ (c .if1 .taken))
 
--- src/lib.rt:25:1
 returns-2 : tie.Need-returns-2
 returns-2 c = powerOfTwo-ones _ (c .if1 .left)
 

@@ -1,10 +1,8 @@
+-- `sheet::log2` meets its contract. The one bit stands above the trailing zeros. Assumes nothing.
 use Rattle.sheet.specs.OneBit.{one-bit}
 use Rattle.sheet.proofs.log2.Statement.{statement}
 use Rattle.sheet.proofs.log2.Tie as tie
-use Rattle.sheet.proofs.log2.Reads as reads
-use Rattle.sheet.proofs.log2.Lts as lts
 
--- src/lib.rt:17:1
 returns : tie.Need-returns
 returns c = one-bit 32 (c .args .x) (c .fits .x .fits) (c .pre)
 

@@ -1,51 +1,38 @@
+-- `sheet::size_rule` meets its contract. Each exit is the first part of the rule that fails. The size that is divided by is at least 4. Assumes nothing.
 use native.Mathlib.Omega.{arith}
+use borrow.Author.Needs.{needs}
 use Rattle.completeness.specs.SheetPassed.{between-true}
 use Rattle.definition.specs.Sheet.{sizeRule}
 use Rattle.sheet.proofs.RuleLaws.{failed, held}
-use borrow.Author.Needs.{needs}
 use Rattle.sheet.proofs.size_rule.Statement.{statement}
 use Rattle.sheet.proofs.size_rule.Tie as tie
-use Rattle.sheet.proofs.size_rule.Reads as reads
-use Rattle.sheet.proofs.size_rule.Lts as lts
-use Rattle.sheet.proofs.between.Reads as between-reads
-use Rattle.sheet.proofs.group_size.Reads as group-size-reads
-use Rattle.sheet.proofs.is_power.Reads as is-power-reads
 
--- src/lib.rt:67:13
 shared-slice-read-n : tie.Need-shared-slice-read-n
 shared-slice-read-n c = search needs
 
--- src/lib.rt:68:9
 is-power-requires : tie.Need-is-power-requires
 is-power-requires c κs = search needs
 
--- src/lib.rt:69:9
 returns : tie.Need-returns
 unfolding sizeRule
 returns c = simp (failed (c .before .is-power .ensures) (c .if1 .taken))
 
--- src/lib.rt:71:9
 between-requires : tie.Need-between-requires
 between-requires c κs = search needs
 
--- src/lib.rt:72:9
 returns-2 : tie.Need-returns-2
 unfolding sizeRule
 returns-2 c = simp (held (c .before .before .before .is-power .ensures) (c .before .before .if1 .left), failed (c .before .between .ensures) (c .if2 .taken))
 
--- src/lib.rt:74:16
 shared-slice-read-group-size : tie.Need-shared-slice-read-group-size
 shared-slice-read-group-size c = search needs
 
--- src/lib.rt:74:5
 group-size-requires : tie.Need-group-size-requires
 group-size-requires c κs = search needs
 
--- src/lib.rt:74:5
 rem-result : tie.Need-rem-result
 rem-result c = omega (arith, between-true 4 4096 _ (held (c .before .before .before .between .ensures) (c .before .before .if2 .left)))
 
--- src/lib.rt:63:1
 returns-3 : tie.Need-returns-3
 unfolding sizeRule
 returns-3 c = simp (c .group-size .ensures, held (c .before .before .before .before .before .is-power .ensures) (c .before .before .before .before .if1 .left), held (c .before .before .before .between .ensures) (c .before .before .if2 .left))
