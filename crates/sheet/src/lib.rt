@@ -15,7 +15,7 @@ ghost use Rattle.definition.specs.Sheet.{between as betweenIn, powerOfTwo, fiel
 ghost use Rattle.definition.specs.Reading.{sheetTest};
 ghost use Rattle.definition.specs.Verdict.{accepted};
 ghost use Rattle.outcome.specs.Meaning.{placeOf};
-ghost use Rattle.sheet.specs.Given.{Shape};
+ghost use Rattle.sheet.specs.Rules.{Shape};
 ghost use Rattle.sheet.specs.Sizes.{roundWords};
 
 // The logarithm of a power of two, read off its single one bit.
