@@ -1,0 +1,5 @@
+pub mod Rules
+pub mod OneBit
+pub mod Sizes
+pub mod Bounds
+pub mod Front
