@@ -31,7 +31,7 @@ final-size s b =
       div-le-self (b .degree) (b .fold),
     )
 
-rest-length : (s : ℕ) (b l : Level) (ls : List Level) → length (restLayout s b (l ∷ ls)) ≡ l .size + (s + (s + laterCount b)) + length (restLayout s l ls)
+pub rest-length : (s : ℕ) (b l : Level) (ls : List Level) → length (restLayout s b (l ∷ ls)) ≡ l .size + (s + (s + laterCount b)) + length (restLayout s l ls)
 unfolding restLayout
 rest-length s b l ls = length-append (roundLayout s b l) (restLayout s l ls) ∙ ap (λ (n : ℕ). n + length (restLayout s l ls)) (round-length s b l)
 

@@ -51,7 +51,7 @@ round-coins s b l =
     (ap (λ (r : List Kind). replicate s (out l) ++ r)
     (coins-append (replicate s message) _ ∙ rw coins-messages (later-coins (b .repetitions) (shiftCount b)))))
 
-coins-round : (s : ℕ) (b l : Level) (ls : List Level) → coinKinds (restLayout s b (l ∷ ls))
+pub coins-round : (s : ℕ) (b l : Level) (ls : List Level) → coinKinds (restLayout s b (l ∷ ls))
     ≡ replicate s (out l) ++ ((coin ∷ coin ∷ replicate (b .repetitions) (index (shiftCount b))) ++ coinKinds (restLayout s l ls))
 unfolding restLayout
 coins-round s b l ls =

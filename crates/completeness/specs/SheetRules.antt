@@ -35,7 +35,7 @@ member-range f from (suc n) x e = go (eqb x (f from)) refl e (member-range f (su
     go true h k r = (from, omega arith, omega arith, eqb-true x (f from) h)
     go false h k r = let q = r k in (q .0, omega (arith, q .1), omega (arith, q .2), q .3)
 
-power-of-two : (x : ℕ) → powerOfTwo x ≡ true → (a : ℕ) × (a < 13) × (x ≡ 2 ^ a)
+pub power-of-two : (x : ℕ) → powerOfTwo x ≡ true → (a : ℕ) × (a < 13) × (x ≡ 2 ^ a)
 unfolding powerOfTwo
 power-of-two x e = let q = member-range (λ a. 2 ^ a) 0 13 x e in (q .0, omega (arith, q .2), q .3)
 

@@ -7,8 +7,8 @@ use mathlib.Core.Bool.{_&&_}
 use mathlib.Core.List.{List}
 use lib.ListN.{length, getD}
 use borrow.Author.Tests.{leb-true}
-use Rattle.completeness.specs.SheetFacts.{and-true}
-use Rattle.completeness.specs.SheetPassed.{between-true, rules-hold, small-repetitions}
+use Rattle.completeness.specs.Tests.{and-true}
+use Rattle.completeness.specs.SheetRules.{between-true, rules-hold, small-repetitions}
 use Rattle.definition.specs.Block.{blockCount}
 use Rattle.definition.specs.Layout.{coinKinds, layout, wordsDue}
 use Rattle.definition.specs.Reading.{sheetTest}

@@ -5,7 +5,7 @@ use mathlib.Core.List.{List, _++_}
 use mathlib.Core.Path.{_≡_, sym, ap, _∙_}
 use lib.ListN.{length, take, drop, length-take, take-append-drop}
 use Rattle.completeness.specs.SheetLevels
-use Rattle.completeness.specs.SheetPassed.{twelve}
+use Rattle.completeness.specs.SheetRules.{twelve}
 use Rattle.definition.specs.Lists.{range}
 use Rattle.definition.specs.Reading.{sheetTest}
 use Rattle.definition.specs.Sheet.{degreeRule, fieldRule, foldRule, outCoinsRule, repetitionsRule, roundsRule, sheetOf, sheetRules, sizeRule}
