@@ -1,4 +1,4 @@
--- The coins of round i by their places in the coin list are those that the walk over the rounds reads there, and they are settled by the coins up to them.
+-- The coins of round i by their places in the coin list are those that the walk over the rounds reads there.
 use Prim.Native.Nat.{ℕ, zero, suc, _+_, _≤_}
 use native.Mathlib.Nat
 use native.Mathlib.Nat.{suc-add, zero-add}
