@@ -1,0 +1,4 @@
+pub mod Newton
+pub mod Pairs
+pub mod NewtonLaws
+pub mod GeometricSum

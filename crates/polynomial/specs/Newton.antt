@@ -1,0 +1,38 @@
+-- Interpolation in Newton's form: a polynomial written over the vanishing polynomials of the points behind each point, with one coefficient for each.
+use Prim.Native.Nat.{ℕ}
+use mathlib.Core.Path.{_≡_}
+use mathlib.Core.List.{List, [], _∷_}
+use lib.ListN.{length}
+use Rattle.definition.specs.Field.{Field, fieldOf}
+use Rattle.definition.specs.Polynomial.{pair, evaluate, geometric, correctedValue}
+
+module _ {A : Type 0} (F : Field A) where
+  infixl 65 _⊕_ _⊖_
+  infixl 70 _⊗_
+  open Field F using (𝟘, 𝟙, _⊕_, _⊖_, _⊗_, inverse)
+
+  -- the value at x of the points' vanishing polynomial: the product of x - a
+  unfoldable pub vanishAt : List A → A → A
+  vanishAt [] x = 𝟙
+  vanishAt (a ∷ xs) x = (x ⊖ a) ⊗ vanishAt xs x
+
+  -- the value at x of Newton's form with these points and coefficients
+  unfoldable pub newtonAt : List A → List A → A → A
+  newtonAt [] cs x = 𝟘
+  newtonAt (a ∷ xs) [] x = 𝟘
+  newtonAt (a ∷ xs) (c ∷ cs) x = newtonAt xs cs x ⊕ c ⊗ vanishAt xs x
+
+  -- the coefficients of Newton's form through the points and values
+  unfoldable pub newton : List A → List A → List A
+  newton [] ys = []
+  newton (x ∷ xs) [] = []
+  newton (x ∷ xs) (y ∷ ys) = let cs = newton xs ys in ((y ⊖ newtonAt xs cs x) ⊗ inverse (vanishAt xs x)) ∷ cs
+
+  -- the definition's corrected value at x, where the table sent has y, by Newton's form
+  unfoldable pub newtonCorrected : List A → List A → A → A → A → A
+  newtonCorrected xs cs c x y = (y ⊖ newtonAt xs cs x) ⊗ inverse (vanishAt xs x) ⊗ evaluate F (geometric F c (length xs)) x
+
+-- r is the corrected value at x, where the table has y, of any samples at the points xs whose Newton coefficients are cs
+abbrev pub Corrected : ℕ → List ℕ → List ℕ → ℕ → ℕ → ℕ → ℕ → Type 0
+Corrected field xs cs c x y r =
+    (ys : List ℕ) → length ys ≡ length xs → cs ≡ newton (fieldOf field) xs ys → r ≡ correctedValue (fieldOf field) (pair xs ys) c x y

@@ -1,0 +1,112 @@
+// Polynomials over one of the fields, at a point: given by their coefficients, or by samples in Newton's form.
+// Newton's form has one coefficient for each point, and a single walk over points and coefficients gives the value at x of the polynomial through
+// the samples and of the points' vanishing polynomial. Samples stand in the last places of their slices, from number `from` on, and a walk goes
+// from the end to the front, as the definition's recursions do.
+ghost use mathlib.Core.Path.{_≡_};
+ghost use Prim.Native.Nat.{ℕ, _+_, _-_, _≤_, _<_};
+ghost use lib.ListN.{length, drop};
+ghost use Rattle.definition.specs.Field.{fieldOf};
+ghost use Rattle.definition.specs.Polynomial.{evaluate, geometric, interpolate, pair};
+ghost use Rattle.polynomial.specs.Newton.{Corrected, vanishAt, newtonAt, newton, newtonCorrected};
+
+// The value at x of the polynomial with these coefficients, by Horner's rule.
+pub fn value_at(field: u32, coefficients: &[u32], x: u32) -> u32
+    ensures { λ r. ⌜ r ≡ evaluate (fieldOf field) (now (coefficients .entry)) x ⌝ }
+{
+    let mut value: u32 = 0;
+    let mut i = coefficients.len();
+    while 0 < i {
+        i -= 1;
+        value = field::add(field, coefficients[i], field::mul(field, x, value));
+    }
+    value
+}
+
+// What a walk over Newton's form gives: the value of the form, and that of the vanishing polynomial.
+pub struct Both {
+    pub value: u32,
+    pub vanish: u32,
+}
+
+// The value at x of Newton's form with the points xs and the coefficients cs, both from number `from` on.
+pub fn newton_at(field: u32, xs: &[u32], cs: &[u32], from: usize, x: u32) -> Both
+    requires { ⌜ (from ≤ length (now xs)) × (length (now xs) ≤ length (now cs)) ⌝ }
+    ensures { λ r. ⌜ r .value ≡ newtonAt (fieldOf field) (drop from (now (xs .entry))) (drop from (now (cs .entry))) x ⌝ }
+    ensures { λ r. ⌜ r .vanish ≡ vanishAt (fieldOf field) (drop from (now (xs .entry))) x ⌝ }
+{
+    let mut value: u32 = 0;
+    let mut vanish: u32 = 1;
+    let mut i = xs.len();
+    while from < i {
+        i -= 1;
+        value = field::add(field, value, field::mul(field, cs[i], vanish));
+        vanish = field::mul(field, field::sub(field, x, xs[i]), vanish);
+    }
+    Both {
+        value: value,
+        vanish: vanish,
+    }
+}
+
+// The coefficients of Newton's form through the points xs and values ys from number `from` on, into the same places of out.
+pub fn coefficients(field: u32, xs: &[u32], ys: &[u32], from: usize, out: &mut [u32])
+    requires { ⌜ (from ≤ length (now xs)) × ((length (now ys) ≡ length (now xs)) × (length (now out) ≡ length (now xs))) ⌝ }
+    ensures { λ _. ⌜ drop from (now (out .exit)) ≡ newton (fieldOf field) (drop from (now (xs .entry))) (drop from (now (ys .entry))) ⌝ }
+{
+    let mut i = xs.len();
+    while from < i {
+        let b = newton_at(field, xs, out, i, xs[i - 1]);
+        i -= 1;
+        out[i] = field::mul(
+            field,
+            field::sub(field, ys[i], b.value),
+            field::inv(field, b.vanish),
+        );
+    }
+}
+
+// 1 + cx + .. + (cx)^e, which has e + 1 terms, by doubling. What is left to add is b·(1 + q + .. + q^(n-1)): of an odd number of terms the first goes
+// to a, and an even number is half as many at the square of q, 1 + q times.
+pub fn geometric_at(field: u32, c: u32, e: usize, x: u32) -> u32
+    ensures { λ r. ⌜ r ≡ evaluate (fieldOf field) (geometric (fieldOf field) c e) x ⌝ }
+{
+    let mut q = field::mul(field, x, c);
+    let mut a: u32 = 1;
+    let mut b = q;
+    let mut n = e;
+    while 0 < n {
+        if n % 2 == 1 {
+            a = field::add(field, a, b);
+            b = field::mul(field, b, q);
+        }
+        b = field::mul(field, b, field::add(field, 1, q));
+        q = field::mul(field, q, q);
+        n = n / 2;
+    }
+    a
+}
+
+// The corrected value at x, where the table sent has y, of the points and Newton coefficients from number `from` on.
+pub fn corrected_at(field: u32, xs: &[u32], cs: &[u32], from: usize, c: u32, x: u32, y: u32) -> u32
+    requires { ⌜ (from ≤ length (now xs)) × (length (now xs) ≤ length (now cs)) ⌝ }
+    ensures { λ r. ⌜ r ≡ newtonCorrected (fieldOf field) (drop from (now (xs .entry))) (drop from (now (cs .entry))) c x y ⌝ }
+    ensures { λ r. ⌜ Corrected field (drop from (now (xs .entry))) (drop from (now (cs .entry))) c x y r ⌝ }
+{
+    let b = newton_at(field, xs, cs, from, x);
+    let q = field::mul(
+        field,
+        field::sub(field, y, b.value),
+        field::inv(field, b.vanish),
+    );
+    field::mul(field, q, geometric_at(field, c, xs.len() - from, x))
+}
+
+// The value at x of the polynomial through points and values; cs is scratch, as long as the points.
+pub fn interpolated_at(field: u32, xs: &[u32], ys: &[u32], cs: &mut [u32], x: u32) -> u32
+    requires { ⌜ (length (now ys) ≡ length (now xs)) × (length (now cs) ≡ length (now xs)) ⌝ }
+    ensures { λ r. ⌜ r ≡ evaluate (fieldOf field) (interpolate (fieldOf field) (pair (now (xs .entry)) (now (ys .entry)))) x ⌝ }
+{
+    coefficients(field, xs, ys, 0, cs);
+    let b = newton_at(field, xs, cs, 0, x);
+    b.value
+}

@@ -1,0 +1,85 @@
+-- `samples::push` meets its contract. Assumes nothing.
+use native.Mathlib.Omega.{arith}
+use Rattle.samples.proofs.Steps.{put-same, put-clash, put-new}
+use borrow.Author.Needs.{needs}
+use Rattle.samples.proofs.push.Statement.{statement}
+use Rattle.samples.proofs.push.Tie as tie
+
+look-requires : tie.Need-look-requires
+look-requires c κs = search needs
+
+enum-known-f : tie.Need-enum-known-f
+enum-known-f c = search needs
+
+same-length : tie.Need-same-length
+same-length c = search needs
+
+same-length-2 : tie.Need-same-length-2
+same-length-2 c = search needs
+
+returns : tie.Need-returns
+returns c =
+    let a = c .before .before .before .before .before .before .before .before .before .args in
+    (put-same (a .xs .now) (a .ys .now) (a .k) (a .x) (a .y) (c .before .before .before .before .look .ensures) (c .before .before .f .given .1) (c .if1 .taken), (omega arith, omega arith))
+
+same-length-3 : tie.Need-same-length-3
+same-length-3 c = search needs
+
+same-length-4 : tie.Need-same-length-4
+same-length-4 c = search needs
+
+returns-2 : tie.Need-returns-2
+returns-2 c =
+    let a = c .before .before .before .before .before .before .before .before .before .args in
+    (put-clash (a .xs .now) (a .ys .now) (a .k) (a .x) (a .y) (c .before .before .before .before .look .ensures) (c .before .before .f .given .1) (c .if1 .left), tt)
+
+enum-told : tie.Need-enum-told
+enum-told c = search needs
+
+sub-at : tie.Need-sub-at
+sub-at c = search needs
+
+mul-xs : tie.Need-mul-xs
+mul-xs c = search needs
+
+slice-write-xs : tie.Need-slice-write-xs
+slice-write-xs c = search needs
+
+mul-ys : tie.Need-mul-ys
+mul-ys c = search needs
+
+slice-write-ys : tie.Need-slice-write-ys
+slice-write-ys c = search needs
+
+same-length-5 : tie.Need-same-length-5
+same-length-5 c = search needs
+
+same-length-6 : tie.Need-same-length-6
+same-length-6 c = search needs
+
+returns-3 : tie.Need-returns-3
+returns-3 c =
+    let a = c .before .before .before .before .before .before .before .args in
+    (put-new (a .xs .now) (a .ys .now) (a .k) (a .x) (a .y) (c .before .before .look .ensures) (c .enum-told .given .1) (omega arith) (omega arith) (omega arith), (omega arith, omega arith))
+
+pub push-spec : {M : Type 1} → statement M
+push-spec =
+    tie.close
+    (tie.spec
+    look-requires
+    enum-known-f
+    same-length
+    same-length-2
+    returns
+    same-length-3
+    same-length-4
+    returns-2
+    enum-told
+    sub-at
+    mul-xs
+    slice-write-xs
+    mul-ys
+    slice-write-ys
+    same-length-5
+    same-length-6
+    returns-3)

@@ -1,0 +1,124 @@
+-- Putting samples one by one gives the definition's `distinct` and finds its `clash`: without a clash so far, what is kept tells of every sample met.
+use Prim.Native.Nat.{ℕ}
+use mathlib.Core.Path.{_≡_, _∙_, sym, ap, refl}
+use mathlib.Core.Bool.{Bool, true, false, cond, not, _&&_, _||_, or-true, or-false}
+use mathlib.Core.List.{List, [], _∷_, _++_}
+use mathlib.Core.Option.{Option, none, some}
+use lib.Dec.{eqb}
+use lib.ListN.{take, drop, take-append-drop}
+use borrow.Author.Tests.{eqb-true}
+use Rattle.definition.specs.Field.{Field, primeField, fieldOf}
+use Rattle.definition.specs.Polynomial.{Sample, distinct, clash, contradicts, sampledAt}
+use Rattle.samples.specs.declared.Looked.{Looked}
+use Rattle.samples.specs.declared.Looked.the-variants.{Value, Nothing}
+use Rattle.samples.specs.Samples.{lookup, put, putBy, sifted}
+
+-- has the point a value, and is it another than y?
+abbrev found : Looked → Bool
+found Nothing = false
+found (Value v) = true
+
+abbrev other : ℕ → Looked → Bool
+other y Nothing = false
+other y (Value v) = not (eqb y v)
+
+nothing : (o : Looked) → found o ≡ false → o ≡ Nothing
+nothing Nothing e = refl
+nothing (Value v) e = let z : true ≡ false = e in cc
+
+-- the value at a point that is there with no other value than v
+same : (v : ℕ) (o : Looked) → found o ≡ true → other v o ≡ false → o ≡ Value v
+same v Nothing f e = let z : false ≡ true = f in cc
+same v (Value w) f e = step (eqb v w) refl
+  where
+    step : (b : Bool) → eqb v w ≡ b → Value w ≡ Value v
+    step true h = ap Value (sym (eqb-true v w h))
+    step false h = let z : not false ≡ false = ap not (sym h) ∙ e in cc
+
+or-first : (a b : Bool) → (a || b) ≡ false → a ≡ false
+or-first false b e = refl
+or-first true b e = e
+
+or-second : (a b : Bool) → (a || b) ≡ false → b ≡ false
+or-second false b e = e
+or-second true b e = let z : true ≡ false = e in cc
+
+or-same : (b : Bool) → (b || b) ≡ b
+or-same true = refl
+or-same false = refl
+
+-- One sample r more in front of the kept ones g, or none more where r's point is in g (b): what is told of a sample q then. t says whether q and r have
+-- equal points.
+one-more : (q r : Sample ℕ) (g : List (Sample ℕ)) (b t : Bool) {s d : Bool} → eqb (q .point) (r .point) ≡ t →
+    s ≡ found (lookup (q .point) g) → d ≡ other (q .value) (lookup (q .point) g) →
+    b ≡ found (lookup (r .point) g) → other (r .value) (lookup (r .point) g) ≡ false →
+    ((t || s) ≡ found (lookup (q .point) (cond b g (r ∷ g)))) × (((t && not (eqb (q .value) (r .value))) || d) ≡ other (q .value) (lookup (q .point) (cond b g (r ∷ g))))
+unfolding lookup
+one-more q r g true false et es ed eb er = (es, ed)
+one-more q r g true true et es ed eb er =
+    let e : lookup (q .point) g ≡ Value (r .value) = ap (λ (x : ℕ). lookup x g) (eqb-true _ _ et) ∙ same (r .value) _ (sym eb) er in
+    (sym (ap found e), ap (λ (x : Bool). not (eqb (q .value) (r .value)) || x) (ed ∙ ap (other (q .value)) e) ∙ or-same _ ∙ sym (ap (other (q .value)) e))
+one-more q r g false false et es ed eb er = (rw et es, rw et ed)
+one-more q r g false true et es ed eb er =
+    let e : lookup (q .point) g ≡ Nothing = ap (λ (x : ℕ). lookup x g) (eqb-true _ _ et) ∙ nothing _ (sym eb) in
+    (rw et, rw et (ap (λ (x : Bool). not (eqb (q .value) (r .value)) || x) (ed ∙ ap (other (q .value)) e) ∙ or-false _))
+
+put-by : (q : Sample ℕ) (g : List (Sample ℕ)) (o : Looked) {s d : Bool} → s ≡ found o → d ≡ other (q .value) o →
+    putBy q g o ≡ cond (d || false) none (some (cond s g (q ∷ g)))
+unfolding putBy
+put-by q g Nothing es ed = rw (es, ed)
+put-by q g (Value v) es ed = rw (es, ed) (by (eqb (q .value) v))
+  where
+    by : (b : Bool) → cond b (some g) none ≡ cond (not b || false) none (some g)
+    by true = refl
+    by false = refl
+
+clashed : (g : List (Sample ℕ)) (b : Bool) → none ≡ cond b none (some g) → b ≡ true
+clashed g true e = refl
+clashed g false e = let z : none ≡ some g = e in cc
+
+module _ (field : ℕ) where
+  abbrev F : Field ℕ
+  F = fieldOf field
+
+  -- without a clash, the distinct samples tell whether a point is there, and whether with another value
+  told : (ps : List (Sample ℕ)) → clash F ps ≡ false → (q : Sample ℕ) →
+      (sampledAt F (q .point) ps ≡ found (lookup (q .point) (distinct F ps))) × (contradicts F q ps ≡ other (q .value) (lookup (q .point) (distinct F ps)))
+  unfolding fieldOf primeField distinct clash contradicts sampledAt lookup
+  told [] h q = (refl, refl)
+  told (r ∷ ps) h q =
+      let quiet : clash F ps ≡ false = or-second (contradicts F r ps) (clash F ps) h in
+      let calm : contradicts F r ps ≡ false = or-first (contradicts F r ps) (clash F ps) h in
+      let a = told ps quiet q in
+      let b = told ps quiet r in
+      one-more q r (distinct F ps) (sampledAt F (r .point) ps) (eqb (q .point) (r .point)) refl (a .0) (a .1) (b .0) (sym (b .1) ∙ calm)
+
+  -- where the samples gathered so far are the definition's, so they are with one more
+  pub put-ok : (q : Sample ℕ) (ps g : List (Sample ℕ)) → some g ≡ sifted field ps → put q g ≡ sifted field (q ∷ ps)
+  unfolding put sifted distinct clash
+  put-ok q ps g e = by (clash F ps) refl
+    where
+      by : (b : Bool) → clash F ps ≡ b → putBy q g (lookup (q .point) g) ≡ cond (contradicts F q ps || clash F ps) none (some (cond (sampledAt F (q .point) ps) (distinct F ps) (q ∷ distinct F ps)))
+      by true h = let z : some g ≡ none = e ∙ rw h in cc
+      by false h =
+          let w : some g ≡ some (distinct F ps) = e ∙ rw h in
+          let d : g ≡ distinct F ps = cc in
+          let k = told ps h q in
+          rw (d, h) (put-by q (distinct F ps) (lookup (q .point) (distinct F ps)) (k .0) (k .1))
+
+  pub sifted-nil : some [] ≡ sifted field []
+  unfolding sifted clash distinct
+  sifted-nil = refl
+
+  clash-behind : (l ps : List (Sample ℕ)) → clash F ps ≡ true → clash F (l ++ ps) ≡ true
+  unfolding clash
+  clash-behind [] ps e = e
+  clash-behind (q ∷ l) ps e = rw (clash-behind l ps e) (or-true (contradicts F q (l ++ ps)))
+
+  -- a clash stays one behind other samples, and so where a list is begun earlier
+  pub clash-append : (l ps : List (Sample ℕ)) → none ≡ sifted field ps → none ≡ sifted field (l ++ ps)
+  unfolding sifted
+  clash-append l ps e = rw (clash-behind l ps (clashed (distinct F ps) (clash F ps) e))
+
+  pub clash-drop : (i : ℕ) (l : List (Sample ℕ)) → none ≡ sifted field (drop i l) → none ≡ sifted field l
+  clash-drop i l e = clash-append (take i l) (drop i l) e ∙ ap (sifted field) (take-append-drop i l)
