@@ -1,0 +1,88 @@
+-- Laws of ω: its powers come round after n0 of them, and the ω of a smaller n0 is a power of that of a larger one. Assumes nothing.
+use Prim.Native.Nat.{ℕ, zero, suc, _+_, _-_, _*_, _/_, _%_, _^_, _≤_, _<_}
+use native.Mathlib.Nat.{div-add-mod', div-eq-of-eq-mul-left, lt-of-not-le, mul-assoc, mul-div-cancel, pow-suc}
+use native.Mathlib.Omega.{arith}
+use mathlib.Core.Path.{_≡_, refl, sym, ap, _∙_, subst}
+use lib.Pow.{pow-add, pow-mono, pow-pos}
+use Rattle.definition.specs.Field.{Field, primeField, primeOf, generatorOf, fieldOf, power}
+use Rattle.algebra.specs.Laws.{FieldLaws}
+use Rattle.algebra.specs.RingLaws.{power-add, reduce-power}
+use Rattle.algebra.specs.RootsOfUnity.{minusOne, minus-square, power-mul, power-one}
+use Rattle.algebra.specs.ModularArithmetic.{pow-mod, pow-pow, power-is}
+use Rattle.algebra.specs.PrimeField.{suited, laws, fitting-root}
+use Rattle.powers.specs.Root.{root}
+use Rattle.domain.specs.Powers.{Fitting}
+
+module _ {A : Type 0} (F : Field A) (L : FieldLaws F) where
+  open FieldLaws L using (mul-one)
+
+  -- a part of an exponent may be taken modulo n where ω^n is 1
+  pub around : (ω : A) (a e n : ℕ) → power F ω n ≡ F .𝟙 → power F ω (a + e % n) ≡ power F ω (a + e)
+  around ω a e n h =
+      let s : a + e ≡ a + e % n + n * (e / n) = omega (arith, div-add-mod' e n) in
+      sym
+      (ap (power F ω) s
+      ∙ power-add F L ω (a + e % n) (n * (e / n))
+      ∙ ap (λ (t : A). F ._⊗_ (power F ω (a + e % n)) t)
+      (sym (power-mul F L ω n (e / n)) ∙ ap (λ (t : A). power F t (e / n)) h ∙ power-one F L (e / n))
+      ∙ mul-one (power F ω (a + e % n))
+      ∙ reduce-power F L ω (a + e % n))
+
+big : (field : ℕ) → 1 < primeOf field
+big field = omega (arith, suited field .large)
+
+-- ω is the field's power of the generator
+pub root-by : (field size : ℕ) → power (fieldOf field) (generatorOf field) ((primeOf field - 1) / size) ≡ root field size
+unfolding fieldOf root
+root-by field size = power-is (primeOf field) (big field) (generatorOf field) ((primeOf field - 1) / size)
+
+halves : (a n : ℕ) → n ≡ 2 ^ a → 4 ≤ n → n / 2 + n / 2 ≡ n
+halves zero n e h = omega arith
+halves (suc a) n e h = omega (arith, pow-suc 2 a)
+
+-- ω^n0 = 1
+pub round : (field size : ℕ) → Fitting field size → power (fieldOf field) (root field size) size ≡ fieldOf field .𝟙
+unfolding fieldOf root
+round field size f =
+    let p = primeOf field in
+    let g = generatorOf field in
+    let h = size / 2 in
+    let s = suited field in
+    let F = primeField p in
+    let e : h + h ≡ size = halves (f .log) size (f .two) (f .least) in
+    let half : power F (g ^ ((p - 1) / (h + h)) % p) h ≡ minusOne F =
+    fitting-root p g h (s .large) (s .fits) (ap (λ (n : ℕ). (p - 1) % n) e ∙ f .divides) in
+    let half′ : power F (g ^ ((p - 1) / size) % p) h ≡ minusOne F = ap (λ (n : ℕ). power F (g ^ ((p - 1) / n) % p) h) (sym e) ∙ half in
+    ap (power F (g ^ ((p - 1) / size) % p)) (sym e)
+    ∙ power-add F (laws field) (g ^ ((p - 1) / size) % p) h h
+    ∙ rw half′ (minus-square F (laws field))
+
+-- where n·step = m and m divides p - 1, the ω of n is the step-th power of that of m
+pub root-step : (field n m step : ℕ) → 0 < n → 0 < m → step * n ≡ m → (primeOf field - 1) % m ≡ 0 → root field n ≡ power (fieldOf field) (root field m) step
+unfolding fieldOf root
+root-step field n m step hn hm e divides =
+    let p = primeOf field in
+    let g = generatorOf field in
+    let q = (p - 1) / m in
+    let whole : p - 1 ≡ q * m = omega (arith, div-add-mod' (p - 1) m) in
+    let part : p - 1 ≡ q * step * n = whole ∙ ap (λ (k : ℕ). q * k) (sym e) ∙ sym (mul-assoc q step n) in
+    let quotient : (p - 1) / n ≡ q * step = div-eq-of-eq-mul-left hn part in
+    ap (λ (k : ℕ). g ^ k % p) quotient
+    ∙ ap (λ (k : ℕ). k % p) (sym (pow-pow g q step))
+    ∙ sym (pow-mod p (g ^ q) step)
+    ∙ sym (power-is p (big field) (g ^ q % p) step)
+
+at-most-twelve : (a : ℕ) → 2 ^ a ≤ 4096 → a < 13
+at-most-twelve a h = lt-of-not-le (λ l. omega (arith, pow-mono l))
+
+-- each n0 divides 4096
+pub whole-steps : (field size : ℕ) → Fitting field size → 4096 / size * size ≡ 4096
+whole-steps field size f =
+    let a = f .log in
+    let l : a < 13 = at-most-twelve a (subst (λ (n : ℕ). n ≤ 4096) (f .two) (f .most)) in
+    let s : 12 - a + a ≡ 12 = omega arith in
+    let e : 2 ^ (12 - a) * 2 ^ a ≡ 4096 = sym (pow-add 2 (12 - a) a) ∙ ap (λ (n : ℕ). 2 ^ n) s in
+    ap (λ (n : ℕ). 4096 / n * n) (f .two)
+    ∙ ap (λ (n : ℕ). n / 2 ^ a * 2 ^ a) (sym e)
+    ∙ ap (λ (n : ℕ). n * 2 ^ a) (mul-div-cancel (2 ^ (12 - a)) (pow-pos a))
+    ∙ e

@@ -1,0 +1,82 @@
+// The points of domain 0 as a table, which holds those of every later domain, and membership in a domain.
+ghost use mathlib.Core.Path.{_≡_};
+ghost use Prim.Native.Nat.{ℕ, _+_, _*_, _%_, _<_};
+ghost use lib.ListN.{length, getD};
+ghost use Rattle.definition.specs.Field.{Field, generatorOf, fieldOf, power};
+ghost use Rattle.powers.specs.Root.{root, Stored};
+ghost use Rattle.domain.specs.Powers.{Powers, Fitting, Inside};
+
+// The field's generator.
+fn generator(field: u32) -> u32
+    ensures { λ r. ⌜ r ≡ generatorOf field ⌝ }
+{
+    if field < 2 { 3 } else { 31 }
+}
+
+// The root of unity of the size.
+fn root_of(field: u32, size: usize) -> u32
+    requires { ⌜ Fitting field size ⌝ }
+    ensures { λ r. ⌜ r ≡ root field size ⌝ }
+{
+    field::pow(
+        field,
+        generator(field),
+        (field::modulus(field) - 1) / size as u32,
+    )
+}
+
+// The powers of w from the first on, each next by a product.
+fn by_products(field: u32, w: u32, out: &mut [u32])
+    ensures { λ r. ⌜ ((e : ℕ) → e < length (now (out .entry)) → getD (now (out .exit)) e 0 ≡ power (fieldOf field) w (1 + e)) ⌝ }
+{
+    let mut x: u32 = 1;
+    let mut e: usize = 0;
+    while e < out.len() {
+        x = field::mul(field, w, x);
+        out[e] = x;
+        e += 1;
+    }
+}
+
+// Every step-th of the stored powers, the first last: its place is 4096, which is 0 again.
+fn from_stored(table: &[u32], step: usize, out: &mut [u32])
+    requires { ⌜ length (now table) ≡ 4096 ⌝ }
+    requires { ⌜ step * length (now out) ≡ 4096 ⌝ }
+    ensures { λ r. ⌜ ((e : ℕ) → e < length (now (out .entry)) → getD (now (out .exit)) e 0 ≡ getD (now (table .entry)) (step * (1 + e) % 4096) 0) ⌝ }
+{
+    let mut e: usize = 0;
+    while e < out.len() {
+        out[e] = table[step * (1 + e) % 4096];
+        e += 1;
+    }
+}
+
+// The points of domain 0, which are the powers of ω from the first on. The larger field reads them from the stored table.
+pub fn points(field: u32, size: usize, out: &mut [u32])
+    requires { ⌜ Fitting field size ⌝ }
+    requires { ⌜ length (now out) ≡ size ⌝ }
+    ensures { λ r. ⌜ Powers field (root field size) (now (out .exit)) ⌝ }
+{
+    if field < 2 {
+        by_products(field, root_of(field, size), out);
+    } else {
+        let table = powers::stored();
+        from_stored(&table, 4096 / size, out);
+    }
+}
+
+// Does x lie in domain i, whose points stand at every scale-th place of the table? scale is 2^i.
+pub fn inside(pw: &[u32], scale: usize, x: u32) -> bool
+    requires { ⌜ 0 < scale ⌝ }
+    ensures { λ r. ⌜ Inside (now (pw .entry)) scale x r ⌝ }
+{
+    let count = pw.len() / scale;
+    let mut j: usize = 0;
+    while j < count {
+        if pw[scale * j] == x {
+            return true;
+        }
+        j += 1;
+    }
+    false
+}

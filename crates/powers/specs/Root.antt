@@ -1,0 +1,21 @@
+-- The root of unity of a field and a size, as the definition has it for a sheet, and what the stored table says. Assumes nothing.
+use Prim.Native.Nat.{ℕ, _+_, _-_, _/_, _%_, _^_, _<_}
+use mathlib.Core.Path.{_≡_, refl}
+use mathlib.Core.List.{List}
+use lib.ListN.{length, getD}
+use Rattle.definition.specs.Field.{primeOf, generatorOf, fieldOf, power}
+use Rattle.definition.specs.Sheet.{sheetOf, rootOfUnity}
+
+-- ω = g^((p-1)/n0) (01, Domains)
+unfoldable pub root : ℕ → ℕ → ℕ
+root field size = generatorOf field ^ ((primeOf field - 1) / size) % primeOf field
+
+-- it is the definition's, for every sheet with this field and size
+pub root-of-sheet : (w : List ℕ) → rootOfUnity (sheetOf w) ≡ root (getD w 0 0) (getD w 1 0)
+unfolding root rootOfUnity sheetOf
+root-of-sheet w = refl
+
+-- the list is the 4,096 powers of the ω of n0 = 4096 in field 2, from the power 0 on
+pub record Stored (t : List ℕ) : Type 0 where
+  pub size : length t ≡ 4096
+  pub entry : (k : ℕ) → k < 4096 → getD t k 0 ≡ power (fieldOf 2) (root 2 4096) k
