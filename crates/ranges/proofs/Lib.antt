@@ -1,0 +1,4 @@
+pub mod Filled
+pub mod Counting
+pub mod Walking
+pub mod Turns

@@ -1,0 +1,137 @@
+// Refusals 5 and 6: a word out of range, a fill word not zero.
+//
+// The walk of refusal 5 counts two rounds beside the rounds 1 to M: round 0 is table 0 with its fold coin, round M + 1 is the final coefficients and
+// indices. Each is then a run of elements and a run of indices below one limit, and the three functions before the walk give their numbers.
+use outcome::Found;
+ghost use mathlib.Core.Path.{_≡_};
+ghost use mathlib.Core.Bool.{not};
+ghost use mathlib.Core.List.{map, zipWith};
+ghost use Prim.Native.Nat.{_+_, _≤_, _<_};
+ghost use lib.Dec.{eqb};
+ghost use lib.ListN.{length, getD, drop};
+ghost use Rattle.definition.specs.Field.{primeOf};
+ghost use Rattle.definition.specs.Lists.{firstTrue};
+ghost use Rattle.definition.specs.Layout.{layout, wordsDue};
+ghost use Rattle.definition.specs.Reading.{outOfRange, sheetTest};
+ghost use Rattle.definition.specs.Sheet.{sheetOf};
+ghost use Rattle.definition.specs.Verdict.{accepted};
+ghost use Rattle.outcome.specs.Meaning.{placeOf};
+ghost use Rattle.ranges.specs.Rounds.{divided, elementCount, indexCount, indexLimit};
+
+// The prime of a field.
+fn prime(field: u32) -> u32
+    ensures { λ r. ⌜ r ≡ primeOf field ⌝ }
+{
+    match field {
+        0 => 17,
+        1 => 65537,
+        _ => 2013265921,
+    }
+}
+
+// A word, to count with: sums of a few words fit.
+fn word(w: &[u32], i: usize) -> usize
+    requires { ⌜ i < length (now w) ⌝ }
+    ensures { λ r. ⌜ (r ≡ getD (now (w .entry)) i 0) × (r < 4294967296) ⌝ }
+{
+    w[i] as usize
+}
+
+// x divided by b, `times` times over.
+fn divide(x: usize, b: usize, times: usize) -> usize
+    requires { ⌜ 0 < b ⌝ }
+    ensures { λ r. ⌜ r ≡ divided x b times ⌝ }
+{
+    let mut q = x;
+    let mut i = 0;
+    while i < times {
+        q /= b;
+        i += 1;
+    }
+    q
+}
+
+// How many elements a round begins with: table 0 and a fold coin; then table, out coins, replies and two coins; at last the final coefficients.
+fn elements(w: &[u32], round: usize) -> usize
+    requires { ⌜ 12 ≤ length (now w) ⌝ }
+    requires { ⌜ 0 < getD (now w) 3 0 ⌝ }
+    ensures { λ r. ⌜ r ≡ elementCount (now (w .entry)) round ⌝ }
+{
+    if round == 0 {
+        return word(w, 1) + 1;
+    }
+    if round <= word(w, 4) {
+        return divide(word(w, 1), 2, round) + 2 * word(w, 5) + 2;
+    }
+    divide(word(w, 2), word(w, 3), round)
+}
+
+// How many indices follow the elements of a round.
+fn indices(w: &[u32], round: usize) -> usize
+    requires { ⌜ 12 ≤ length (now w) ⌝ }
+    requires { ⌜ round ≤ 6 ⌝ }
+    ensures { λ r. ⌜ r ≡ indexCount (now (w .entry)) round ⌝ }
+{
+    if round == 0 {
+        return 0;
+    }
+    word(w, 5 + round)
+}
+
+// The limit that these indices are below: the number of shift points of the level before.
+fn limit(w: &[u32], round: usize) -> usize
+    requires { ⌜ 12 ≤ length (now w) ⌝ }
+    requires { ⌜ 0 < getD (now w) 3 0 ⌝ }
+    ensures { λ r. ⌜ r ≡ indexLimit (now (w .entry)) round ⌝ }
+{
+    if round == 0 {
+        return 0;
+    }
+    divide(word(w, 1), 2, round - 1) / word(w, 3)
+}
+
+// Refusal 5: the first word after the sheet that is not below its limit, by its number in the stream.
+pub fn out_of_range(w: &[u32]) -> Found
+    requires { ⌜ sheetTest (now w) ≡ accepted ⌝ }
+    requires { ⌜ wordsDue (sheetOf (now w)) ≤ length (now w) ⌝ }
+    ensures { λ r.
+        ⌜ placeOf r ≡ firstTrue 12 (zipWith (outOfRange (sheetOf (now (w .entry)))) (layout (sheetOf (now (w .entry)))) (drop 12 (now (w .entry)))) ⌝ }
+{
+    let p = prime(w[0]) as usize;
+    let rounds = word(w, 4) + 2;
+    let mut found = Found::Nothing;
+    let mut at = 12;
+    let mut round = 0;
+    'walk: while round < rounds {
+        let first = elements(w, round);
+        let count = first + indices(w, round);
+        let below = limit(w, round);
+        let mut j = 0;
+        while j < count {
+            let bound = if j < first { p } else { below };
+            if bound <= word(w, at) {
+                found = Found::At(at);
+                break 'walk;
+            }
+            at += 1;
+            j += 1;
+        }
+        round += 1;
+    }
+    found
+}
+
+// Refusal 6: the first word after those due that is not zero, by its number in the stream.
+pub fn fill_not_zero(w: &[u32], due: usize) -> Found
+    requires { ⌜ due ≤ length (now w) ⌝ }
+    ensures { λ r. ⌜ placeOf r ≡ firstTrue due (map (λ x. not (eqb x 0)) (drop due (now (w .entry)))) ⌝ }
+{
+    let mut at = due;
+    while at < w.len() {
+        if w[at] != 0 {
+            return Found::At(at);
+        }
+        at += 1;
+    }
+    Found::Nothing
+}
