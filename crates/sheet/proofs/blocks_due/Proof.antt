@@ -1,0 +1,21 @@
+-- `sheet::blocks_due` meets its contract. A division of at most 8636 words. Assumes nothing.
+use native.Mathlib.Omega.{arith}
+use mathlib.Core.Path.{ap}
+use borrow.Author.Needs.{needs}
+use Rattle.definition.specs.Block.{blockCount}
+use Rattle.sheet.specs.Bounds.{blocks-least}
+use Rattle.sheet.proofs.blocks_due.Statement.{statement}
+use Rattle.sheet.proofs.blocks_due.Tie as tie
+
+words-due-requires : tie.Need-words-due-requires
+words-due-requires c κs = search needs
+
+add-result : tie.Need-add-result
+add-result c = search needs
+
+returns : tie.Need-returns
+unfolding blockCount
+returns c = let r = c .words-due in let s = c .before .before in (ap blockCount (r .ensures .0), (omega (arith, r .ensures .0, blocks-least _ (s .pre .0) (s .pre .1)), omega (arith, r .ensures .1)))
+
+pub blocks-due-spec : {M : Type 1} → statement M
+blocks-due-spec = tie.close (tie.spec words-due-requires add-result returns)

@@ -1,0 +1,4 @@
+pub mod Given
+pub mod OneBit
+pub mod Sizes
+pub mod Bounds
