@@ -1,0 +1,166 @@
+use Prim.Native.Nat.{ℕ, _+_, _-_, _*_, _/_, _≤_, _<_, min}
+use native.Mathlib.Omega.{arith}
+use mathlib.Core.Path.{_≡_, refl, sym, ap, _∙_}
+use mathlib.Core.Bool.{Bool, true, false, not}
+use mathlib.Core.Logic.{⊎-elim}
+use mathlib.Core.List.{List, [], _++_}
+use lib.ListN.{length, getD, take, drop}
+use lib.Seq.{take-take}
+use borrow.Author.Tests.{not-true, not-false}
+use native.Mathlib.Nat.{eq-zero-or-pos, le-refl}
+use Rattle.definition.specs.Lists.{firstTrue}
+use Rattle.definition.specs.Block.{fileBlocks, streamOf, wrongChecks}
+use Rattle.outcome.specs.declared.Found.{Found}
+use Rattle.outcome.specs.declared.Found.the-variants.{At, Nothing}
+use Rattle.outcome.specs.Meaning.{placeOf}
+use Rattle.stream.specs.Overwriting.{overwrite, overwrite-before, overwrite-front}
+use Rattle.stream.specs.FileWords.{blockWords, block-words-length, blocks-count, stream-next}
+use Rattle.stream.specs.Checks.{rightCheck, wrong-here, wrong-later, wrong-nowhere}
+use Rattle.stream.specs.Loaded.{Loaded}
+use Rattle.stream.proofs.load.Statement.{statement}
+use Rattle.stream.proofs.load.Tie as tie
+use Rattle.stream.proofs.load.Reads as reads
+use Rattle.stream.proofs.load.Lts as lts
+use Rattle.stream.proofs.place.Reads as place-reads
+use Rattle.stream.proofs.take_block.Reads as take-block-reads
+
+-- the search for a wrong check goes on at block b
+Searching : List ℕ → ℕ → Type 0
+Searching file b = firstTrue b (wrongChecks b (drop b (fileBlocks file))) ≡ firstTrue 0 (wrongChecks 0 (fileBlocks file))
+
+-- the words of the blocks before block b, up to 68 of them
+Holding : List ℕ → ℕ → List ℕ → Type 0
+Holding file b words = take (127 * min b 68) words ≡ take (127 * min b 68) (streamOf file)
+
+module _ (file : List ℕ) (b : ℕ) where
+  found-here : (words : List ℕ) {r : Bool} → b < length file / 512 → r ≡ rightCheck b (getD (fileBlocks file) b []) → not r ≡ true → Searching file b
+      → Loaded file (At b) words
+  unfolding placeOf Searching
+  found-here words {r} h e t s =
+      let n : b < length (fileBlocks file) = omega (arith, blocks-count file) in
+      record {
+        checked = sym (wrong-here (fileBlocks file) b n (sym e ∙ not-true r t)) ∙ s;
+        front = λ q. let z : _≡_ {A = ℕ} 0 1 = cc in absurd (omega arith);
+      }
+
+  search-on : {r : Bool} → b < length file / 512 → r ≡ rightCheck b (getD (fileBlocks file) b []) → not r ≡ false → Searching file b → Searching file (b + 1)
+  unfolding Searching
+  search-on {r} h e t s =
+      let n : b < length (fileBlocks file) = omega (arith, blocks-count file) in
+      wrong-later (fileBlocks file) b n (sym e ∙ not-false r t) ∙ s
+
+  -- block b is stored behind those before it, or, from number 68 on, behind the first 68
+  hold-more : (l : List ℕ) {o : List ℕ} {at : ℕ} → b < length file / 512 → length l ≡ 8763 → at ≡ 127 * min b 68
+      → o ≡ overwrite l at (blockWords file b) → Holding file b l → Holding file (b + 1) o
+  unfolding Holding
+  hold-more l {o} {at} h n e q w = ⊎-elim (λ z. above (omega arith)) (λ z. below (omega arith)) (eq-zero-or-pos (68 - b))
+    where
+      below : b < 68 → take (127 * min (b + 1) 68) o ≡ take (127 * min (b + 1) 68) (streamOf file)
+      below k =
+          let m : min b 68 ≡ b = omega arith in
+          let j : 127 * b + length (blockWords file b) ≡ 127 * (b + 1) = omega (arith, block-words-length file b h) in
+          let i : min (b + 1) 68 ≡ b + 1 = omega arith in
+          let f = overwrite-front l (127 * b) (blockWords file b) (omega (arith, n)) in
+          let g = ap (λ (y : List ℕ). y ++ blockWords file b) (rw m at w) in
+          rw (i, q, e, m) ((rw j at f) ∙ g ∙ stream-next file b h)
+
+      above : 68 ≤ b → take (127 * min (b + 1) 68) o ≡ take (127 * min (b + 1) 68) (streamOf file)
+      above k =
+          let m : min (b + 1) 68 ≡ min b 68 = omega arith in
+          rw m (rw (q, e) (overwrite-before l (127 * min b 68) (blockWords file b) (omega (arith, n)) (127 * min b 68) (le-refl _) ∙ w))
+
+-- all blocks read
+all-right : (file : List ℕ) (b : ℕ) (words : List ℕ) → b ≡ length file / 512 → Searching file b → Holding file b words → Loaded file Nothing words
+unfolding placeOf Searching Holding
+all-right file b words e s w =
+    record {
+      checked = sym (wrong-nowhere (fileBlocks file) b (omega (arith, blocks-count file))) ∙ s;
+      front =
+          λ q m h k.
+          let t : 127 * m ≤ 127 * min b 68 = omega arith in
+          sym (take-take (127 * m) (127 * min b 68) words t) ∙ ap (take (127 * m)) w ∙ take-take (127 * m) (127 * min b 68) (streamOf file) t;
+    }
+
+abbrev Inv-loop : tie.InvT-loop
+Inv-loop file words₀ blocks b₀ words b = (b ≤ length file / 512) × ((length words ≡ length words₀) × (Searching file b × Holding file b words))
+
+abbrev μ-loop : tie.MeasureT-loop
+μ-loop file words₀ blocks b₀ words b = length file / 512 - b
+
+-- src/lib.rt:69:5
+loop-holds : tie.Need-loop-holds Inv-loop μ-loop
+unfolding Searching Holding
+loop-holds c = (omega arith, (refl, (refl, refl)))
+
+-- src/lib.rt:70:13
+place-requires : tie.Need-place-requires Inv-loop μ-loop
+place-requires c κs = omega arith
+
+-- src/lib.rt:71:13
+take-block-requires : tie.Need-take-block-requires Inv-loop μ-loop
+take-block-requires c κs = omega arith
+
+-- src/lib.rt:72:13
+same-length : tie.Need-same-length Inv-loop μ-loop
+same-length c = omega arith
+
+-- src/lib.rt:72:13
+returns : tie.Need-returns Inv-loop μ-loop
+returns c =
+    let l = c .before .before .before .before .before .before .before .loop in
+    let a = c .before .before .before .before .before .before .before .before .before .before .args in
+    let p = c .before .before .before .take-block in
+    found-here (a .file .now) (l .b) (p .last .1 .1 .0) (omega arith) (p .ensures .0) (c .if1 .taken) (l .inv .1 .1 .0)
+
+-- src/lib.rt:74:9
+add-b : tie.Need-add-b Inv-loop μ-loop
+add-b c = omega arith
+
+-- src/lib.rt:69:5
+loop-less : tie.Need-loop-less Inv-loop μ-loop
+loop-less c = omega arith
+
+-- src/lib.rt:69:5
+loop-again : tie.Need-loop-again Inv-loop μ-loop
+loop-again c =
+    let l = c .before .before .before .before .before .before .before .loop in
+    let s = c .before .before .before .before .before .before .before .before .before .before in
+    let a = s .args in
+    let p = c .before .before .before .take-block in
+    let h : l .b < length (a .file .now) / 512 = omega arith in (
+      omega arith,
+      (
+        p .kept .1 .1 .0 ∙ l .inv .1 .0,
+        (
+          search-on (a .file .now) (l .b) h (p .ensures .0) (c .if1 .left) (l .inv .1 .1 .0),
+          hold-more (a .file .now) (l .b) (l .words) h (l .inv .1 .0 ∙ s .pre) (c .before .before .before .before .before .place .ensures) (p .ensures .1) (l .inv .1 .1 .1),
+        ),
+      ),
+    )
+
+-- src/lib.rt:63:1
+same-length-2 : tie.Need-same-length-2 Inv-loop μ-loop
+same-length-2 c = omega arith
+
+-- src/lib.rt:63:1
+returns-2 : tie.Need-returns-2 Inv-loop μ-loop
+returns-2 c =
+    let l = c .before .loop in
+    all-right (c .before .before .before .before .args .file .now) (l .b) (l .words) (omega arith) (l .inv .1 .1 .0) (l .inv .1 .1 .1)
+
+pub load-spec : {M : Type 1} → statement M
+load-spec =
+    tie.close
+    (tie.spec
+    Inv-loop
+    μ-loop
+    loop-holds
+    place-requires
+    take-block-requires
+    same-length
+    returns
+    add-b
+    loop-less
+    loop-again
+    same-length-2
+    returns-2)

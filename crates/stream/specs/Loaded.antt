@@ -1,0 +1,30 @@
+-- What loading a file answers and leaves.
+use Prim.Native.Nat.{ℕ, _*_, _/_, _≤_, _<_}
+use native.Mathlib.Omega.{arith}
+use mathlib.Core.Path.{_≡_, _∙_, sym, ap}
+use mathlib.Core.List.{List}
+use lib.ListN.{length, getD, take}
+use lib.Seq.{getD-take, take-all}
+use Rattle.outcome.specs.declared.Found.{Found}
+use Rattle.outcome.specs.declared.Found.the-variants.{Nothing}
+use Rattle.outcome.specs.Meaning.{placeOf}
+use Rattle.definition.specs.Lists.{firstTrue}
+use Rattle.definition.specs.Block.{fileBlocks, streamOf, wrongChecks}
+use Rattle.stream.specs.FileWords.{stream-length}
+
+-- where the first wrong check is; and where there is none, the words of the file's blocks, up to 68 of them
+pub record Loaded (file : List ℕ) (found : Found) (words : List ℕ) : Type 0 where
+  pub checked : placeOf found ≡ firstTrue 0 (wrongChecks 0 (fileBlocks file))
+  pub front : found ≡ Nothing → (m : ℕ) → m ≤ length file / 512 → m ≤ 68 → take (127 * m) words ≡ take (127 * m) (streamOf file)
+
+module _ (file : List ℕ) {found : Found} {words : List ℕ} (loaded : Loaded file found words) (right : found ≡ Nothing) where
+  -- the whole stream, of a file of at most 68 blocks
+  pub loaded-all : length file / 512 ≤ 68 → take (127 * (length file / 512)) words ≡ streamOf file
+  loaded-all h =
+      loaded .front right (length file / 512) (omega arith) h
+      ∙ take-all (127 * (length file / 512)) (streamOf file) (omega (arith, stream-length file))
+
+  -- and each of its words
+  pub loaded-at : (m n : ℕ) → m ≤ length file / 512 → m ≤ 68 → n < 127 * m → getD words n 0 ≡ getD (streamOf file) n 0
+  loaded-at m n a b h =
+      sym (getD-take (127 * m) words n 0 h) ∙ ap (λ (l : List ℕ). getD l n 0) (loaded .front right m a b) ∙ getD-take (127 * m) (streamOf file) n 0 h

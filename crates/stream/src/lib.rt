@@ -1,0 +1,76 @@
+// The blocks and words of a file: 512 bytes a block, of which 508 are 127 words and the last four a check word.
+ghost use mathlib.Core.Path.{_≡_};
+ghost use mathlib.Core.List.{[]};
+ghost use Prim.Native.Nat.{ℕ, _+_, _*_, _/_, _≤_, _<_, min};
+ghost use lib.ListN.{length, getD};
+ghost use Rattle.definition.specs.Block.{fileBlocks};
+ghost use Rattle.stream.specs.Overwriting.{overwrite};
+ghost use Rattle.stream.specs.FileWords.{wordAt, blockWords};
+ghost use Rattle.stream.specs.Checks.{rightCheck};
+ghost use Rattle.stream.specs.Loaded.{Loaded};
+use outcome::Found;
+
+fn wide(b: u8) -> u32
+    ensures { λ r. ⌜ (r ≡ b) × (r < 256) ⌝ }
+{
+    b as u32
+}
+
+// The word in the four bytes from number `at` on, the least significant first.
+pub fn word(s: &[u8], at: usize) -> u32
+    requires { ⌜ at + 4 ≤ length (now s) ⌝ }
+    ensures { λ r. ⌜ r ≡ wordAt (now (s .entry)) at ⌝ }
+{
+    wide(s[at]) + 256 * wide(s[at + 1]) + 65536 * wide(s[at + 2]) + 16777216 * wide(s[at + 3])
+}
+
+// The sum with word w of a block added, w + 1 times. The bounds keep the sum of 127 words in 64 bits.
+fn add_weighted(sum: u64, w: usize, x: u32) -> u64
+    requires { ⌜ (w < 127) × (sum ≤ 9223372036854775807) ⌝ }
+    ensures { λ r. ⌜ (r ≡ sum + (w + 1) * x) × (r ≤ sum + 545460846592) ⌝ }
+{
+    sum + (w as u64 + 1) * x as u64
+}
+
+// Reads block b: stores its 127 words from number `at` on, and answers whether its check word is right.
+fn take_block(file: &[u8], b: usize, words: &mut [u32], at: usize) -> bool
+    requires { ⌜ (b < length (now file) / 512) × (at + 127 ≤ length (now words)) ⌝ }
+    ensures { λ r. ⌜ r ≡ rightCheck b (getD (fileBlocks (now (file .entry))) b []) ⌝ }
+    ensures { λ r. ⌜ now (words .exit) ≡ overwrite (now (words .entry)) at (blockWords (now (file .entry)) b) ⌝ }
+{
+    let from = 512 * b;
+    let mut sum = b as u64 + 1;
+    let mut w = 0;
+    while w < 127 {
+        let x = word(file, from + 4 * w);
+        words[at + w] = x;
+        sum = add_weighted(sum, w, x);
+        w += 1;
+    }
+    word(file, from + 508) as u64 == sum % 4294967291
+}
+
+// Where the words of block b go: one block after the other, and all from number 68 on to the same place,
+// since no file of more than 68 blocks is accepted and only their checks count.
+fn place(b: usize) -> usize
+    ensures { λ r. ⌜ r ≡ 127 * min b 68 ⌝ }
+{
+    if b < 68 { 127 * b } else { 8636 }
+}
+
+// Reads a file in one pass: checks each block up to the first that is wrong, and stores the words.
+pub fn load(file: &[u8], words: &mut [u32]) -> Found
+    requires { ⌜ length (now words) ≡ 8763 ⌝ }
+    ensures { λ r. ⌜ Loaded (now (file .entry)) r (now (words .exit)) ⌝ }
+{
+    let blocks = file.len() / 512;
+    let mut b = 0;
+    while b < blocks {
+        let at = place(b);
+        if !take_block(file, b, words, at) {
+            return Found::At(b);
+        }
+        b += 1;
+    }
+    Found::Nothing
+}
