@@ -1,0 +1,104 @@
+-- Verify, accepted and refusals 7 to 9 (01, Verify, prove, encode): places, reads and the order of the tests, on whole files, by computation.
+use Prim.Native.Nat.{ℕ}
+use mathlib.Core.Path.{_≡_, refl}
+use lib.ListN.{set}
+use Rattle.definition.specs.Block.{fileOf}
+use Rattle.definition.specs.Verify.{verify}
+use Rattle.definition.specs.WorkedTranscript.{stream, doubled, twoOuts, smallest, folded4, twoRounds, accept, refuse, definitions}
+
+-- `fileOf` makes the checks right.
+pub record DecidingCases : Type 0 where
+  -- accepted: the reads are k for each shift and each final coin; a repeated shift index is one point of G, and it is read twice,
+  -- as a repeated final index is
+  pub accepts : verify (fileOf doubled) ≡ accept 8
+  pub shift·repeated : verify (fileOf (set (set (set doubled 41 5) 43 2) 44 0)) ≡ accept 8
+  pub final·repeated : verify (fileOf (set doubled 46 1)) ≡ accept 8
+  pub two·outs : verify (fileOf twoOuts) ≡ accept 6
+  pub two·equal·outs : verify (fileOf (set (set (set (set twoOuts 38 0) 40 5) 44 2) 45 0)) ≡ accept 6
+  -- the combination coin 12 makes cx = 1 at x = 10, which final coin 1 reads (P7); the combination coin 0
+  pub cx·1 : verify (fileOf (set (set (set stream 39 12) 42 7) 43 6)) ≡ accept 4
+  pub cx·1·wrong : verify (fileOf (set stream 39 12)) ≡ refuse 9 0 4
+  pub c·0 : verify (fileOf (set (set (set doubled 39 0) 43 6) 44 0)) ≡ accept 8
+  -- no round, M = 0: the smallest sheet, and k = 4 with two final coins
+  pub no·round : verify (fileOf smallest) ≡ accept 2
+  pub no·round·wrong : verify (fileOf (set smallest 17 8)) ≡ refuse 9 0 2
+  pub k·4 : verify (fileOf folded4) ≡ accept 8
+  pub k·4·first·wrong : verify (fileOf (set folded4 29 9)) ≡ refuse 9 0 4
+  pub k·4·second·wrong : verify (fileOf (set (set folded4 29 9) 30 4)) ≡ refuse 9 1 8
+  -- 7: the last point of domain 1; the second of two out coins; a point of domain 0 alone and 0 are outside
+  pub last·point : verify (fileOf (set stream 37 6)) ≡ refuse 7 37 0
+  pub second·out·coin : verify (fileOf (set twoOuts 38 3)) ≡ refuse 7 38 0
+  pub first·out·coin : verify (fileOf (set (set twoOuts 37 14) 38 3)) ≡ refuse 7 37 0
+  pub point·of·domain·0 : verify (fileOf (set doubled 37 13)) ≡ refuse 9 0 6
+  -- 7 before 8: two equal out coins in domain 1 with different replies
+  pub seven·before·eight : verify (fileOf (set (set twoOuts 37 3) 38 3)) ≡ refuse 7 37 0
+  -- 8: an out coin is the first shift point, or the second; the reads are those of all shift coins of the round
+  pub clash·with·first·shift : verify (fileOf (set doubled 37 9)) ≡ refuse 8 1 4
+  pub clash·with·second·shift : verify (fileOf (set doubled 37 4)) ≡ refuse 8 1 4
+  -- 8: two equal out coins with different replies; the second out coin is a shift point; equal replies do not clash, not even wrong ones
+  pub clash·of·outs : verify (fileOf (set twoOuts 38 0)) ≡ refuse 8 1 2
+  pub clash·of·second·out : verify (fileOf (set twoOuts 38 4)) ≡ refuse 8 1 2
+  pub equal·wrong·replies : verify (fileOf (set (set (set twoOuts 38 0) 39 6) 40 6)) ≡ refuse 9 0 4
+  -- 8 before 9
+  pub eight·before·nine : verify (fileOf (set (set doubled 37 9) 43 0)) ≡ refuse 8 1 4
+  -- 9: at the first final coin, at the second alone, at both; the reads are up to and with the failing coin
+  pub first·final : verify (fileOf (set (set doubled 43 12) 44 13)) ≡ refuse 9 0 6
+  pub second·final : verify (fileOf (set (set doubled 43 5) 44 13)) ≡ refuse 9 1 8
+  pub both·finals : verify (fileOf (set doubled 43 0)) ≡ refuse 9 0 6
+  -- 9: a wrong word of table 0 that a shift coin reads, or of table 1 that a final coin reads; words that no coin reads are not judged
+  pub table·0·read : verify (fileOf (set doubled 12 6)) ≡ refuse 9 0 6
+  pub table·0·not·read : verify (fileOf (set doubled 13 6)) ≡ accept 8
+  pub table·1·read : verify (fileOf (set doubled 34 6)) ≡ refuse 9 0 6
+  pub table·1·not·read : verify (fileOf (set doubled 29 6)) ≡ accept 8
+  -- two rounds, out coins 61 62 and 77 78, replies 63 64 and 79 80: 8 in round 1, in round 2, in both; the place is the round, and the
+  -- reads are those of the rounds up to it
+  pub clash·in·round·1 : verify (fileOf (set twoRounds 63 1)) ≡ refuse 8 1 4
+  pub clash·in·round·2 : verify (fileOf (set twoRounds 79 1)) ≡ refuse 8 2 6
+  pub clash·in·both : verify (fileOf (set (set twoRounds 63 1) 79 1)) ≡ refuse 8 1 4
+  -- 7 in round 2 comes before 8 in round 1; a coin of round 2 is tested against domain 2 alone: 65529 is in both domains, 65025 in
+  -- domain 1 only
+  pub out·coin·of·round·2 : verify (fileOf (set (set twoRounds 63 1) 78 65529)) ≡ refuse 7 78 0
+  pub out·coins·of·both : verify (fileOf (set (set twoRounds 62 65025) 77 65529)) ≡ refuse 7 62 0
+  pub round·2·and·domain·1 : verify (fileOf (set (set twoRounds 63 1) 77 65025)) ≡ refuse 8 1 4
+
+pub decidingCases : DecidingCases
+unfolding definitions
+decidingCases = record {
+  accepts = refl;
+  shift·repeated = refl;
+  final·repeated = refl;
+  two·outs = refl;
+  two·equal·outs = refl;
+  cx·1 = refl;
+  cx·1·wrong = refl;
+  c·0 = refl;
+  no·round = refl;
+  no·round·wrong = refl;
+  k·4 = refl;
+  k·4·first·wrong = refl;
+  k·4·second·wrong = refl;
+  last·point = refl;
+  second·out·coin = refl;
+  first·out·coin = refl;
+  point·of·domain·0 = refl;
+  seven·before·eight = refl;
+  clash·with·first·shift = refl;
+  clash·with·second·shift = refl;
+  clash·of·outs = refl;
+  clash·of·second·out = refl;
+  equal·wrong·replies = refl;
+  eight·before·nine = refl;
+  first·final = refl;
+  second·final = refl;
+  both·finals = refl;
+  table·0·read = refl;
+  table·0·not·read = refl;
+  table·1·read = refl;
+  table·1·not·read = refl;
+  clash·in·round·1 = refl;
+  clash·in·round·2 = refl;
+  clash·in·both = refl;
+  out·coin·of·round·2 = refl;
+  out·coins·of·both = refl;
+  round·2·and·domain·1 = refl;
+}
