@@ -1,4 +1,4 @@
--- The premises of demand 3: sheet, coefficients and coins that pass the tests of prove (01, Verify, prove, encode), and what they say word by word.
+-- What the premises say, word by word: a sheet of 12 words, d0 coefficients, and coins each of which passes refusals 5 and 7.
 use Prim.Native.Nat.{ℕ, _+_}
 use native.Mathlib.Omega.{arith}
 use mathlib.Core.Path.{_≡_, refl, sym, ap, _∙_, subst}
@@ -9,38 +9,17 @@ use lib.Dec.{eqb}
 use lib.ListN.{length, getD, drop, replicate, length-append, length-replicate}
 use lib.Seq.{drop-at}
 use borrow.Author.Tests.{eqb-true, not-false}
-use Rattle.completeness.specs.CoinFacts.{Each, coins-append, coins-messages, each-append-at, each-false}
-use Rattle.completeness.specs.EachWord.{Dealt, dealt, each-pair}
+use Rattle.completeness.specs.EachWord.{Each, each-append-at, each-false, each-pair}
 use Rattle.completeness.specs.FairCoins.{Passes}
+use Rattle.completeness.specs.LayoutFacts.{Dealt, coins-append, coins-messages, dealt}
+use Rattle.completeness.specs.Numbered.{Allowed}
+use Rattle.completeness.specs.Tests.{at-passes, equal-passes}
 use Rattle.definition.specs.Deciding.{outInDomain}
 use Rattle.definition.specs.Layout.{Kind, coin, coinKinds, layout, message, restLayout}
 use Rattle.definition.specs.Prove.{coefficientsTest, coinDomainTest, coinsTest, inputRangeTest, sheetLengthTest}
-use Rattle.definition.specs.Reading.{outOfRange, sheetTest}
+use Rattle.definition.specs.Reading.{outOfRange}
 use Rattle.definition.specs.Sheet.{Sheet, firstLevel, laterLevels, sheetOf}
 use Rattle.definition.specs.Verdict.{accepted, refuseAt, refuseIf}
-
--- 12 words without a broken rule; d0 coefficients; a full coin list; every word in range; every out coin outside its round's domain
-pub record Allowed (w f coins : List ℕ) : Type 0 where
-  pub words : sheetLengthTest w ≡ accepted
-  pub sheet : sheetTest w ≡ accepted
-  pub coefficients : coefficientsTest (sheetOf w) f ≡ accepted
-  pub full : coinsTest (sheetOf w) coins ≡ accepted
-  pub range : inputRangeTest (sheetOf w) (coinKinds (layout (sheetOf w))) (f ++ coins) ≡ accepted
-  pub outside : coinDomainTest (sheetOf w) coins ≡ accepted
-
--- a test that passes
-pub if-passes : (n p : ℕ) (b : Bool) → refuseIf n p b ≡ accepted → b ≡ false
-unfolding refuseIf
-if-passes n p true e = let z : _≡_ {A = ℕ} 0 1 = cc in absurd (omega arith)
-if-passes n p false e = refl
-
-at-passes : (n : ℕ) (o : Option ℕ) → refuseAt n o ≡ accepted → o ≡ none
-unfolding refuseAt
-at-passes n none e = refl
-at-passes n (some p) e = let z : _≡_ {A = ℕ} 0 1 = cc in absurd (omega arith)
-
-pub equal-passes : (n p a b : ℕ) → refuseIf n p (not (eqb a b)) ≡ accepted → a ≡ b
-equal-passes n p a b e = eqb-true a b (not-false (eqb a b) (if-passes n p (not (eqb a b)) e))
 
 head-each : (R : Kind → ℕ → Type 0) (k : Kind) (ks : List Kind) (w : List ℕ) → Each R (k ∷ ks) w → R k (getD w 0 0) × Each R ks (drop 1 w)
 head-each R k ks [] h = absurd h

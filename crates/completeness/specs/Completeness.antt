@@ -10,20 +10,21 @@ use lib.Dec.{eqb}
 use lib.ListN.{length, drop, replicate, length-append}
 use lib.Seq.{drop-at}
 use borrow.Author.Tests.{eq-eqb, ne-eqb}
-use Rattle.completeness.specs.Complete
+use Rattle.completeness.specs.DecidingAccepts
 use Rattle.algebra.specs.ListFacts.{All, all-append}
-use Rattle.completeness.specs.Allowed.{Allowed, allowed-degree, allowed-first, allowed-long, allowed-rounds}
-use Rattle.completeness.specs.CoinFacts.{Each}
-use Rattle.completeness.specs.Complete.{Fair}
-use Rattle.completeness.specs.Domains.{level-ok}
-use Rattle.completeness.specs.EachWord.{each-length, each-map, each-none}
+use Rattle.completeness.specs.Allowed.{allowed-degree, allowed-first, allowed-long, allowed-rounds}
+use Rattle.completeness.specs.DecidingAccepts.{Fair}
+use Rattle.completeness.specs.Domains.{foldable}
+use Rattle.completeness.specs.EachWord.{Each, each-length, each-map, each-none}
 use Rattle.completeness.specs.FairCoins.{Passes, chain-head, fair, in-range}
 use Rattle.completeness.specs.FileTrip.{Word, file-checks, file-length, file-stream, fillCount, filled}
 use Rattle.completeness.specs.HonestStream.{first-degree, words-each, words-read}
-use Rattle.completeness.specs.Reads.{all-reads, readsDue, sheet-reads}
+use Rattle.completeness.specs.Numbered.{Allowed, readsDue}
+use Rattle.completeness.specs.Reads.{all-reads, sheet-reads}
 use Rattle.completeness.specs.Ready.{Ready, layout-fits, ready}
 use Rattle.completeness.specs.SheetLevels.{rules-front, sheet-front}
 use Rattle.completeness.specs.SheetPassed.{sheet-words}
+use Rattle.completeness.specs.Tests.{at-none, if-false, none-true}
 use Rattle.definition.specs.Block.{blockCount, fileOf, streamOf}
 use Rattle.definition.specs.Deciding.{decide, deciding, outInDomain, outTest, ownPlace, readsOf}
 use Rattle.definition.specs.Field.{Field, primeField}
@@ -35,20 +36,6 @@ use Rattle.definition.specs.Sheet.{Sheet, firstLevel, laterLevels, rootOfUnity,
 use Rattle.definition.specs.Transcript.{Transcript, transcriptWords}
 use Rattle.definition.specs.Verdict.{_then_, accepted, refuseAt, refuseIf, thenVerdict}
 use Rattle.definition.specs.Verify.{verify}
-
--- tests that pass
-pub if-false : (n p : ℕ) (b : Bool) → b ≡ false → refuseIf n p b ≡ accepted
-unfolding refuseIf
-if-false n p b e = rw e
-
-none-true : (from : ℕ) (bs : List Bool) → All (λ (b : Bool). b ≡ false) bs → firstTrue from bs ≡ none
-unfolding firstTrue
-none-true from [] h = refl
-none-true from (b ∷ bs) h = rw (h .0) (none-true (suc from) bs (h .1))
-
-pub at-none : (n : ℕ) (o : Option ℕ) → o ≡ none → refuseAt n o ≡ accepted
-unfolding refuseAt
-at-none n o e = rw e
 
 no-fill : (from n : ℕ) → firstTrue from (map (λ (x : ℕ). not (eqb x 0)) (replicate n 0)) ≡ none
 unfolding firstTrue
@@ -72,17 +59,18 @@ module _ {w f coins : List ℕ} (ok : Allowed w f coins) where
   abbrev ω : ℕ
   ω = rootOfUnity (sheetOf w)
 
-  long : length w ≡ 12
+  abbrev long : length w ≡ 12
   long = allowed-long ok
 
-  pub sheetReady : Ready (sheetOf w)
-  sheetReady = ready w long (ok .sheet)
+  abbrev pub sheetReady : Ready (sheetOf w)
+  sheetReady = ready w (allowed-long ok) (ok .sheet)
 
   abbrev τ : Transcript ℕ
   τ = honest (primeField (sheetOf w .prime)) (rootOfUnity (sheetOf w)) (firstLevel (sheetOf w)) f (readCoins (sheetOf w) coins)
 
   -- the allowed coins are fair
-  pub fair-coins : Fair F (sheetReady .laws) ω (firstLevel h) (readRounds (h .outCoins) (firstLevel h) (laterLevels h) (drop 1 coins)) (readFinals (h .outCoins) (firstLevel h) (laterLevels h) (drop 1 coins))
+  pub fair-coins : Fair F (sheetReady .laws) ω (firstLevel h) (readCoins h coins .rounds) (readCoins h coins .finals)
+  unfolding readCoins
   fair-coins = fair h (sheetReady .laws) (signs-differ (h .prime) (sheetReady .large)) (sheetReady .e) (sheetReady .root) (h .outCoins) (firstLevel h) (laterLevels h) (drop 1 coins) (sheetReady .chain) (sheetReady .steps) (allowed-rounds ok)
 
   positive : 0 < h .prime
@@ -90,6 +78,7 @@ module _ {w f coins : List ℕ} (ok : Allowed w f coins) where
 
   -- the words after the sheet
   pub honest-each : Each (Passes h) (layout h) (transcriptWords τ)
+  unfolding readCoins
   honest-each = words-each h (sheetReady .laws) positive f coins (allowed-degree ok) (allowed-first ok) (allowed-rounds ok) fair-coins
 
   pub honest-words : All Word (honestStream w f coins)
@@ -175,15 +164,15 @@ module _ {w f coins : List ℕ} (ok : Allowed w f coins) where
   unfolding readCoins readsOf
   decided =
       ap (decide F ω (firstLevel h)) (words-read h (sheetReady .laws) positive f coins (allowed-degree ok) (allowed-first ok) (allowed-rounds ok) fair-coins fill)
-      ∙ Complete.completeness F (sheetReady .laws) ω (firstLevel h) f (readCoins h coins) degree
-      (level-ok F (sheetReady .laws) ω (signs-differ (h .prime) (sheetReady .large)) (sheetReady .e) (sheetReady .root) (firstLevel h) (chain-head _ (firstLevel h) (laterLevels h) (sheetReady .chain)))
+      ∙ DecidingAccepts.deciding-accepts F (sheetReady .laws) ω (firstLevel h) f (readCoins h coins) degree
+      (foldable F (sheetReady .laws) ω (signs-differ (h .prime) (sheetReady .large)) (sheetReady .e) (sheetReady .root) (firstLevel h) (chain-head _ (firstLevel h) (laterLevels h) (sheetReady .chain)))
       fair-coins
       ∙ (λ i. record { outcome = accepted; reads = counted i })
     where
       degree : length f ≡ firstLevel h .degree
       degree = first-degree h f (allowed-degree ok)
 
-      counted : length (Complete.allPlaces F (sheetReady .laws) ω (firstLevel h) (ownPlace (firstLevel h)) (readRounds (h .outCoins) (firstLevel h) (laterLevels h) (drop 1 coins)) (readFinals (h .outCoins) (firstLevel h) (laterLevels h) (drop 1 coins))) ≡ readsDue w
+      counted : length (DecidingAccepts.allPlaces (firstLevel h) (ownPlace (firstLevel h)) (readRounds (h .outCoins) (firstLevel h) (laterLevels h) (drop 1 coins)) (readFinals (h .outCoins) (firstLevel h) (laterLevels h) (drop 1 coins))) ≡ readsDue w
       counted = all-reads F (sheetReady .laws) ω (Passes h) (h .outCoins) (firstLevel h) (laterLevels h) (drop 1 coins) (allowed-rounds ok) ∙ sheet-reads w long (ok .sheet)
 
   deciding-passes : deciding (w ++ (transcriptWords τ ++ fill)) ≡ record { outcome = accepted; reads = readsDue w }

@@ -2,7 +2,7 @@
 use Prim.Native.Nat.{ℕ, zero, suc, _+_, _*_, _/_, _%_, _≤_, _<_}
 use native.Mathlib.Nat.{div-le-self}
 use native.Mathlib.Omega.{arith}
-use mathlib.Core.Path.{_≡_, refl, sym, subst}
+use mathlib.Core.Path.{_≡_, refl, sym, ap, _∙_, subst}
 use mathlib.Core.Bool.{Bool, true, false, _||_, true≢false}
 use mathlib.Core.List.{List, [], _∷_, tail}
 use lib.Dec.{eqb}
@@ -10,13 +10,11 @@ use lib.ListN.{length, getD, take, drop, replicate, length-append, length-replic
 use lib.Seq.{getD-drop}
 use borrow.Author.Tests.{eqb-true, not-false}
 use Rattle.algebra.specs.ListFacts.{All}
-use Rattle.completeness.specs.Allowed.{equal-passes, if-passes}
-use Rattle.completeness.specs.MessagePlaces.{rest-length}
-use Rattle.completeness.specs.ProveAccepted.{then-passes}
-use Rattle.completeness.specs.SheetFacts.{and-true}
+use Rattle.completeness.specs.LayoutFacts.{round-length}
 use Rattle.completeness.specs.SheetPassed.{between-true, exponents, rules-hold, small-repetitions}
+use Rattle.completeness.specs.Tests.{and-true, equal-passes, if-passes, then-passes}
 use Rattle.definition.specs.Block.{blockCount, streamOf}
-use Rattle.definition.specs.Layout.{coin, index, laterCount, layout, message, restLayout, wordsDue}
+use Rattle.definition.specs.Layout.{coin, index, laterCount, layout, message, restLayout, roundLayout, wordsDue}
 use Rattle.definition.specs.Reading.{blocksTest, bodyTests, checkTest, lengthTest, reading, sheetTest, streamTests}
 use Rattle.definition.specs.Sheet.{Level, degreeRule, finalCount, firstLevel, laterLevels, levelsFrom, outCoinsRule, powerOfTwo, sheetOf, sheetRules, shiftCount}
 use Rattle.definition.specs.Verdict.{Outcome, Verdict, accepted, refused, thenVerdict}
@@ -32,6 +30,10 @@ final-size s b =
       length-replicate (b .repetitions) (index (shiftCount b)),
       div-le-self (b .degree) (b .fold),
     )
+
+rest-length : (s : ℕ) (b l : Level) (ls : List Level) → length (restLayout s b (l ∷ ls)) ≡ l .size + (s + (s + laterCount b)) + length (restLayout s l ls)
+unfolding restLayout
+rest-length s b l ls = length-append (roundLayout s b l) (restLayout s l ls) ∙ ap (λ (n : ℕ). n + length (restLayout s l ls)) (round-length s b l)
 
 -- the words after a fold coin: the tables halve, and each round has at most 70 other words
 rest-size : (s k m i n d t : ℕ) (ts : List ℕ) → s ≤ 2 → t ≤ 64 → All (λ x. x ≤ 64) ts →

@@ -10,6 +10,7 @@ use lib.Seq.{take-at}
 use lib.Dec.{lit<}
 use Rattle.algebra.specs.ListFacts.{All, all-append}
 use Rattle.completeness.specs.BlockTrip.{chunks-of, right-checks, sealed, words-of-bytes}
+use Rattle.completeness.specs.ListLaws.{all-drop, all-replicate, all-take, flatMap-append}
 use Rattle.definition.specs.Block.{blockCount, blocksOf, bytesOf, checkWord, fileBlocks, fileOf, lowBytes, sealFrom, streamOf, weightedSum, wordOf, wrongChecks}
 use Rattle.definition.specs.Lists.{chunks}
 
@@ -23,11 +24,6 @@ filled w = w ++ replicate (fillCount w) 0
 pub filled-length : (w : List ℕ) → length (filled w) ≡ blockCount (length w) * 127
 unfolding filled fillCount blockCount
 filled-length w = length-append w _ ∙ rw length-replicate (omega arith)
-
-pub flatMap-append : {A B : Type 0} (f : A → List B) (xs ys : List A) → flatMap f (xs ++ ys) ≡ flatMap f xs ++ flatMap f ys
-unfolding flatMap
-flatMap-append f [] ys = refl
-flatMap-append f (x ∷ xs) ys = ap (λ (t : List _). f x ++ t) (flatMap-append f xs ys) ∙ sym (append-assoc (f x) (flatMap f xs) (flatMap f ys))
 
 chunks-length : {A : Type 0} (n size : ℕ) (xs : List A) → length (chunks n size xs) ≡ n
 unfolding chunks
@@ -50,20 +46,6 @@ chunks-joined zero size (x ∷ xs) h = absurd (omega (arith, h, zero-mul size))
 chunks-joined (suc n) size xs h =
     ap (λ (t : List _). take size xs ++ t) (chunks-joined n size (drop size xs) (length-drop size xs ∙ omega (arith, h, suc-mul n size)))
     ∙ take-append-drop size xs
-
-all-take : {A : Type 0} (P : A → Type 0) (n : ℕ) (xs : List A) → All P xs → All P (take n xs)
-all-take P zero xs h = tt
-all-take P (suc n) [] h = tt
-all-take P (suc n) (x ∷ xs) h = (h .0, all-take P n xs (h .1))
-
-all-drop : {A : Type 0} (P : A → Type 0) (n : ℕ) (xs : List A) → All P xs → All P (drop n xs)
-all-drop P zero xs h = h
-all-drop P (suc n) [] h = tt
-all-drop P (suc n) (x ∷ xs) h = all-drop P n xs (h .1)
-
-pub all-replicate : {A : Type 0} (P : A → Type 0) (n : ℕ) (x : A) → P x → All P (replicate n x)
-all-replicate P zero x h = tt
-all-replicate P (suc n) x h = (h, all-replicate P n x h)
 
 all-chunks : {A : Type 0} (P : A → Type 0) (n size : ℕ) (xs : List A) → All P xs → All (All P) (chunks n size xs)
 unfolding chunks

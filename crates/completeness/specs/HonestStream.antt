@@ -8,15 +8,15 @@ use lib.ListN.{length, getD, take, drop, replicate, length-map, length-drop}
 use lib.Seq.{take-at, drop-at}
 use borrow.Author.Tests.{lt-leb}
 use Rattle.algebra.specs.Lengths
-use Rattle.completeness.specs.Complete
+use Rattle.completeness.specs.DecidingAccepts
 use Rattle.completeness.specs.RoundTrip
 use Rattle.algebra.specs.Laws.{FieldLaws}
 use Rattle.algebra.specs.ListFacts.{All}
-use Rattle.completeness.specs.CoinFacts.{Each, each-later, each-replicate}
-use Rattle.completeness.specs.Complete.{Fair}
-use Rattle.completeness.specs.EachWord.{Dealt, each-join, each-same}
+use Rattle.completeness.specs.DecidingAccepts.{Fair, table-length}
+use Rattle.completeness.specs.EachWord.{Each, each-join, each-later, each-replicate, each-same}
 use Rattle.completeness.specs.FairCoins.{Passes}
-use Rattle.completeness.specs.RoundTrip.{Shaped}
+use Rattle.completeness.specs.LayoutFacts.{Dealt}
+use Rattle.completeness.specs.RoundTrip.{Shaped, round-trip}
 use Rattle.definition.specs.Deciding.{outInDomain}
 use Rattle.definition.specs.Domain.{domain, point}
 use Rattle.definition.specs.Field.{Field, primeField}
@@ -32,38 +32,6 @@ use Rattle.definition.specs.Transcript.{Rest, final, restWords, round, roundWor
 pub first-degree : (h : Sheet) (f : List ℕ) → length f ≡ h .degree → length f ≡ firstLevel h .degree
 unfolding firstLevel
 first-degree h f e = e
-
--- Reading words back, whatever words z follow them.
-module _ (s : ℕ) (z : List ℕ) where
-  pub round-trip-past : (b : Level) (ls : List Level) (τ : Rest ℕ) → Shaped s b ls τ → readRest s b ls (restWords τ ++ z) ≡ τ
-  unfolding readRest restWords roundCoins
-  round-trip-past b [] (final cs js) h =
-      ap (readRest s b []) (append-assoc cs js z)
-      ∙ (λ i. final (take-at cs (js ++ z) (finalCount b) (h .0) i)
-      ((ap (take (b .repetitions)) (drop-at cs (js ++ z) (finalCount b) (h .0)) ∙ take-at js z (b .repetitions) (h .1)) i))
-  round-trip-past b [] (round ρ rest) h = absurd h
-  round-trip-past b (l ∷ ls) (final cs js) h = absurd h
-  round-trip-past b (l ∷ ls) (round ρ rest) h =
-      let later = ρ .coins .combination ∷ ρ .coins .fold ∷ ρ .coins .shifts in
-      let h₁ : length (ρ .table) ≡ l .size = h .0 .table in
-      let h₂ : length (ρ .coins .outs) ≡ s = h .0 .outs in
-      let h₃ : length (ρ .replies) ≡ s = h .0 .replies in
-      let h₄ : length later ≡ laterCount b = RoundTrip.later-length s b ρ (h .0 .shifts) in
-      rw (
-        append-assoc (roundWords ρ) (restWords rest) z,
-        RoundTrip.round-words s ρ (restWords rest ++ z),
-        drop-at (ρ .table) _ (l .size),
-        take-at (ρ .table) _ (l .size),
-        drop-at (ρ .coins .outs) _ s,
-        take-at (ρ .coins .outs) _ s,
-        drop-at (ρ .replies) _ s,
-        take-at (ρ .replies) _ s,
-        drop-at later _ (laterCount b),
-        take-at later _ (laterCount b),
-        round-trip-past l ls rest (h .1),
-        ← h .0 .level,
-        roundCoins,
-      )
 
 -- the later words of a round, read and written
 later-each : (R : Kind → ℕ → Type 0) (n m : ℕ) (v : List ℕ) → Each R (coin ∷ coin ∷ replicate n (index m)) v →
@@ -93,10 +61,6 @@ module _ (h : Sheet) (L : FieldLaws (primeField (h .prime))) (positive : 0 < h .
   values-pass f x [] = tt
   values-pass f x (a ∷ xs) = (value-passes (f a) (x a), values-pass f x xs)
 
-  pub table-length : (l : Level) (f : List ℕ) → length (tableOf F ω l f) ≡ l .size
-  unfolding tableOf domain
-  table-length l f = length-map (map (point F ω l) (range 0 (l .size))) (evaluate F f) ∙ length-map (range 0 (l .size)) (point F ω l) ∙ Complete.range-length F L ω 0 (l .size)
-
   table-values : (l : Level) (f : List ℕ) → All (Passes h message) (tableOf F ω l f)
   unfolding tableOf
   table-values l f = values-pass (λ x. f) (λ x. x) (domain F ω l)
@@ -106,7 +70,7 @@ module _ (h : Sheet) (L : FieldLaws (primeField (h .prime))) (positive : 0 < h .
   fold-values k r f = values-pass (λ c. c) (λ c. r) (chunks (length f / k) k f)
 
   pub table-each : (l : Level) (f : List ℕ) → Each (Passes h) (replicate (l .size) message) (tableOf F ω l f)
-  table-each l f = each-same (Passes h) (l .size) message (tableOf F ω l f) (table-length l f) (table-values l f)
+  table-each l f = each-same (Passes h) (l .size) message (tableOf F ω l f) (table-length F ω l f) (table-values l f)
 
   final-each : (b : Level) (f : List ℕ) (r : ℕ) → length f ≡ b .degree → Each (Passes h) (replicate (finalCount b) message) (foldPoly F (b .fold) r f)
   unfolding finalCount
@@ -136,7 +100,7 @@ module _ (h : Sheet) (L : FieldLaws (primeField (h .prime))) (positive : 0 < h .
       let v = take (laterCount b) (drop s w) in
       let c = roundCoins l (take s w) v in
       each-join (Passes h) (roundLayout s b l) _ _ _ (round-each s b l g (take s w) v (d .0) (d .1))
-      (rest-each s l ls (nextPoly F ω b g c) (getD v 1 0) (drop (laterCount b) (drop s w)) (Complete.next-fits F L ω b f r c len (fair .0)) (d .2) (fair .1))
+      (rest-each s l ls (nextPoly F ω b g c) (getD v 1 0) (drop (laterCount b) (drop s w)) (DecidingAccepts.next-fits F L ω b f r c len (fair .0)) (d .2) (fair .1))
 
   -- the honest messages have the lengths due
   pub rest-shaped : (s : ℕ) (b : Level) (ls : List Level) (f : List ℕ) (r : ℕ) (w : List ℕ) → length f ≡ b .degree → Dealt (Passes h) s b ls w →
@@ -152,17 +116,17 @@ module _ (h : Sheet) (L : FieldLaws (primeField (h .prime))) (positive : 0 < h .
       let o : length (take s w) ≡ s = each-replicate (Passes h) s (out l) (take s w) (d .0) .0 in (
         record {
           level = refl;
-          table = table-length l g;
+          table = table-length F ω l g;
           outs = o;
           replies = length-map (take s w) (evaluate F g) ∙ o;
           shifts = length-drop 2 v ∙ omega (arith, each-later (Passes h) (b .repetitions) (shiftCount b) v (d .1) .0);
         },
-        rest-shaped s l ls (nextPoly F ω b g c) (getD v 1 0) (drop (laterCount b) (drop s w)) (Complete.next-fits F L ω b f r c len (fair .0)) (d .2) (fair .1),
+        rest-shaped s l ls (nextPoly F ω b g c) (getD v 1 0) (drop (laterCount b) (drop s w)) (DecidingAccepts.next-fits F L ω b f r c len (fair .0)) (d .2) (fair .1),
       )
 
   first-level-table : (f : List ℕ) → length (tableOf F ω (firstLevel h) f) ≡ h .size
   unfolding firstLevel
-  first-level-table f = table-length (firstLevel h) f
+  first-level-table f = table-length F ω (firstLevel h) f
 
   -- the whole transcript, for coins with fold coin 0 in front
   module _ (f coins : List ℕ) (len : length f ≡ h .degree) (first : Passes h coin (getD coins 0 0))
@@ -191,7 +155,7 @@ module _ (h : Sheet) (L : FieldLaws (primeField (h .prime))) (positive : 0 < h .
         ∙ (λ i. record {
           table = table;
           fold = r;
-          rest = round-trip-past (h .outCoins) z b (laterLevels h) rest (rest-shaped (h .outCoins) b (laterLevels h) f r (drop 1 coins) shaped-degree d fair) i;
+          rest = round-trip (h .outCoins) z b (laterLevels h) rest (rest-shaped (h .outCoins) b (laterLevels h) f r (drop 1 coins) shaped-degree d fair) i;
         })
       where
         size : length (tableOf F ω (firstLevel h) f) ≡ h .size

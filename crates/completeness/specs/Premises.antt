@@ -1,8 +1,8 @@
--- The premises of completeness can be met: the transcript by hand meets them, and so do, under every sheet that passes, the polynomial 0 and the coins all 0.
+-- The premises of completeness can be met: the transcript by hand meets them, and under every sheet without a fault every polynomial does with the coins all 0.
 use Prim.Native.Nat.{ℕ, zero, suc, _+_, _*_, _/_, _^_, _<_}
 use native.Mathlib.Nat
 use native.Mathlib.Omega.{arith}
-use mathlib.Core.Path.{_≡_, refl, sym, ap, _∙_}
+use mathlib.Core.Path.{_≡_, refl, sym, ap, _∙_, subst}
 use mathlib.Core.Bool.{false, not}
 use mathlib.Core.List.{List, [], _∷_, _++_, map, zipWith, append-nil}
 use lib.ListN.{length, replicate, length-replicate}
@@ -11,24 +11,23 @@ use borrow.Author.Tests.{eq-eqb, ne-eqb, lt-leb}
 use Rattle.algebra.specs.RingLaws
 use Rattle.algebra.specs.RootsOfUnity
 use Rattle.algebra.specs.Laws.{FieldLaws}
-use Rattle.algebra.specs.ListFacts.{All, all-append, all-map}
+use Rattle.algebra.specs.ListFacts.{All, all-map}
 use Rattle.algebra.specs.RootsOfUnity.{minusOne}
-use Rattle.completeness.specs.Allowed.{Allowed, equal-passes}
-use Rattle.completeness.specs.CoinFacts.{Each}
-use Rattle.completeness.specs.Completeness.{at-none, if-false}
-use Rattle.completeness.specs.EachWord.{each-join, each-none, each-same}
-use Rattle.completeness.specs.FileTrip.{all-replicate}
+use Rattle.completeness.specs.EachWord.{Each, each-false, each-join, each-none}
+use Rattle.completeness.specs.LayoutFacts.{layout-all}
+use Rattle.completeness.specs.Numbered.{Allowed, coefficientsByHand, coinsByHand, sheetByHand}
 use Rattle.completeness.specs.Ready.{Ready, ready}
-use Rattle.completeness.specs.SheetFacts.{Chain, Right}
+use Rattle.completeness.specs.SheetFacts.{Sized}
+use Rattle.completeness.specs.Tests.{at-none, at-passes, equal-passes, if-false}
 use Rattle.definition.specs.Deciding.{outInDomain}
 use Rattle.definition.specs.Domain.{domain, inDomain, inList, point}
-use Rattle.definition.specs.Field.{Field, power, primeField}
+use Rattle.definition.specs.Field.{Field, generatorOf, knownField, power, primeField, primeOf}
 use Rattle.definition.specs.Layout.{Kind, coin, coinKinds, index, layout, limit, message, out, restLayout, roundLayout}
-use Rattle.definition.specs.Lists.{firstTrue, range}
+use Rattle.definition.specs.Lists.{firstTrue, member, range}
 use Rattle.definition.specs.Prove.{coefficientsTest, coinDomainTest, coinsTest, inputRangeTest, sheetLengthTest}
 use Rattle.definition.specs.Reading.{outOfRange, sheetTest}
-use Rattle.definition.specs.Sheet.{Level, Sheet, finalCount, firstLevel, laterLevels, rootOfUnity, sheetOf, shiftCount}
-use Rattle.definition.specs.Verdict.{accepted}
+use Rattle.definition.specs.Sheet.{Level, Sheet, between, degreeRule, fieldRule, finalCount, firstLevel, foldRule, laterLevels, levelsFrom, outCoinsRule, powerOfTwo, repetitionsRule, rootOfUnity, roundsRule, sheetOf, sheetRules, shiftCount, sizeRule}
+use Rattle.definition.specs.Verdict.{accepted, refuseAt, refuseIf}
 
 -- no power of a root of unity is 0
 module _ {A : Type 0} (F : Field A) (L : FieldLaws F) where
@@ -76,7 +75,7 @@ coins-of P (coin ∷ ks) h = (h .0, coins-of P ks (h .1))
 coins-of P (out l ∷ ks) h = (h .0, coins-of P ks (h .1))
 coins-of P (index n ∷ ks) h = (h .0, coins-of P ks (h .1))
 
-shift-positive : (a : ℕ) (b : Level) → Right a b → 0 < shiftCount b
+shift-positive : (a : ℕ) (b : Level) → Sized a b → 0 < shiftCount b
 unfolding shiftCount
 shift-positive a b r = go (b .size / b .fold) refl
   where
@@ -109,7 +108,7 @@ module _ (h : Sheet) (r : Ready h) where
   unfolding outOfRange outInDomain limit
   coin-zero = (lt-leb (h .prime) 0 positive, refl)
 
-  index-zero : (b : Level) → Right (suc (r .e)) b → Zero (index (shiftCount b))
+  index-zero : (b : Level) → Sized (suc (r .e)) b → Zero (index (shiftCount b))
   unfolding outOfRange outInDomain limit
   index-zero b rb = (lt-leb (shiftCount b) 0 (shift-positive (suc (r .e)) b rb), refl)
 
@@ -123,24 +122,8 @@ module _ (h : Sheet) (r : Ready h) where
   unfolding outOfRange outInDomain limit inDomain domain
   out-zero l = (lt-leb (h .prime) 0 positive, not-listed l (range 0 (l .size)))
 
-  round-zeros : (s : ℕ) (b l : Level) → Right (suc (r .e)) b → All Zero (roundLayout s b l)
-  unfolding roundLayout
-  round-zeros s b l rb =
-      all-append Zero (replicate (l .size) message) _ (all-replicate Zero (l .size) message message-zero)
-      (all-append Zero (replicate s (out l)) _ (all-replicate Zero s (out l) (out-zero l))
-      (all-append Zero (replicate s message) _ (all-replicate Zero s message message-zero)
-      (coin-zero, (coin-zero, all-replicate Zero (b .repetitions) (index (shiftCount b)) (index-zero b rb)))))
-
-  rest-zeros : (s : ℕ) (b : Level) (ls : List Level) → Chain (suc (r .e)) b ls → All Zero (restLayout s b ls)
-  unfolding restLayout
-  rest-zeros s b [] c =
-      all-append Zero (replicate (finalCount b) message) _ (all-replicate Zero (finalCount b) message message-zero)
-      (all-replicate Zero (b .repetitions) (index (shiftCount b)) (index-zero b c))
-  rest-zeros s b (l ∷ ls) c = all-append Zero (roundLayout s b l) _ (round-zeros s b l (c .0)) (rest-zeros s l ls (c .2))
-
   layout-zeros : All Zero (layout h)
-  unfolding layout
-  layout-zeros = all-append Zero (replicate (h .size) message) _ (all-replicate Zero (h .size) message message-zero) (coin-zero, rest-zeros (h .outCoins) (firstLevel h) (laterLevels h) (r .chain))
+  layout-zeros = layout-all Zero (suc (r .e)) message-zero coin-zero out-zero index-zero h (r .chain)
 
   ks : List Kind
   ks = coinKinds (layout h)
@@ -149,13 +132,14 @@ module _ (h : Sheet) (r : Ready h) where
   unfolding ks
   zeros = coins-of Zero (layout h) layout-zeros
 
-  range-zeros : inputRangeTest h ks (replicate (h .degree) 0 ++ replicate (length ks) 0) ≡ accepted
+  range-zeros : (f : List ℕ) → length f ≡ h .degree → inputRangeTest h [] f ≡ accepted → inputRangeTest h ks (f ++ replicate (length ks) 0) ≡ accepted
   unfolding inputRangeTest
-  range-zeros = at-none 5 _
+  range-zeros f long elements = at-none 5 _
       (ap (λ (l : List ℕ). firstTrue 0 (zipWith (outOfRange h) (replicate (h .degree) message ++ ks) l)) (sym (append-nil _))
-      ∙ each-none (outOfRange h) 0 (replicate (h .degree) message ++ ks) (replicate (h .degree) 0 ++ replicate (length ks) 0) []
-      (each-join (λ k x. outOfRange h k x ≡ false) (replicate (h .degree) message) ks (replicate (h .degree) 0) (replicate (length ks) 0)
-      (each-same (λ k x. outOfRange h k x ≡ false) (h .degree) message (replicate (h .degree) 0) (length-replicate (h .degree) 0) (all-replicate (λ x. outOfRange h message x ≡ false) (h .degree) 0 (message-zero .0)))
+      ∙ each-none (outOfRange h) 0 (replicate (h .degree) message ++ ks) (f ++ replicate (length ks) 0) []
+      (each-join (λ k x. outOfRange h k x ≡ false) (replicate (h .degree) message) ks f (replicate (length ks) 0)
+      (subst (λ (l : List Kind). Each (λ k x. outOfRange h k x ≡ false) l f) (append-nil (replicate (h .degree) message))
+      (each-false (outOfRange h) 0 (replicate (h .degree) message ++ []) f (long ∙ sym (ap length (append-nil (replicate (h .degree) message)) ∙ length-replicate (h .degree) message)) (at-passes 5 _ elements)))
       (each-zeros (λ k x. outOfRange h k x ≡ false) ks (all-map ks zeros (λ k z. z .0)))))
 
   outside-zeros : coinDomainTest h (replicate (length ks) 0) ≡ accepted
@@ -168,18 +152,27 @@ sheet-long : (w : List ℕ) → sheetLengthTest w ≡ accepted → length w ≡ 
 unfolding sheetLengthTest
 sheet-long w e = equal-passes 10 0 (length w) 12 e
 
--- under every sheet that passes there is an allowed list of coefficients and coins: all 0
-pub some-allowed : (w : List ℕ) → sheetLengthTest w ≡ accepted → sheetTest w ≡ accepted →
-    Allowed w (replicate (sheetOf w .degree) 0) (replicate (length (coinKinds (layout (sheetOf w)))) 0)
-unfolding ks coefficientsTest coinsTest
-some-allowed w words passed =
+full-length : (h : Sheet) (f : List ℕ) → coefficientsTest h f ≡ accepted → length f ≡ h .degree
+unfolding coefficientsTest
+full-length h f e = equal-passes 10 1 (length f) (h .degree) e
+
+-- Under every sheet without a fault, for every list of d0 elements, the coins all 0 are allowed.
+pub zeros-allowed : (w f : List ℕ) → sheetLengthTest w ≡ accepted → sheetTest w ≡ accepted → coefficientsTest (sheetOf w) f ≡ accepted → inputRangeTest (sheetOf w) [] f ≡ accepted →
+    Allowed w f (replicate (length (coinKinds (layout (sheetOf w)))) 0)
+unfolding ks coinsTest
+zeros-allowed w f words passed coefficients elements =
     let h = sheetOf w in
     let r = ready w (sheet-long w words) passed in
     record {
       words = words;
       sheet = passed;
-      coefficients = if-false 10 1 _ (ap not (eq-eqb _ _ (length-replicate (h .degree) 0)));
+      coefficients = coefficients;
       full = if-false 10 2 _ (ap not (eq-eqb _ _ (length-replicate (length (coinKinds (layout h))) 0)));
-      range = range-zeros h r;
+      range = range-zeros h r f (full-length h f coefficients) elements;
       outside = outside-zeros h r;
     }
+
+-- The transcript by hand is allowed.
+pub by-hand : Allowed sheetByHand coefficientsByHand coinsByHand
+unfolding sheetLengthTest sheetTest coefficientsTest coinsTest inputRangeTest coinDomainTest refuseIf refuseAt firstTrue zipWith sheetRules fieldRule knownField sizeRule powerOfTwo member range between primeOf degreeRule foldRule roundsRule outCoinsRule repetitionsRule sheetOf generatorOf layout restLayout roundLayout coinKinds firstLevel laterLevels levelsFrom finalCount shiftCount outOfRange limit outInDomain inDomain inList domain point power primeField rootOfUnity
+by-hand = record { words = refl; sheet = refl; coefficients = refl; full = refl; range = refl; outside = refl }

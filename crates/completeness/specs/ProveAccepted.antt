@@ -1,35 +1,23 @@
 -- What prove writes is accepted: prove answers done exactly when its tests pass, and then the blocks at the front of its output are a file that verify accepts.
-use Prim.Native.Nat.{ℕ, _*_, _≤_}
+use Prim.Native.Nat.{ℕ, _*_}
 use native.Mathlib.Omega.{arith}
 use mathlib.Core.Path.{_≡_, refl, sym, ap, _∙_}
 use mathlib.Core.Logic.{_↔_}
 use mathlib.Core.List.{List, _++_}
-use lib.Dec.{ltb}
-use lib.ListN.{length, take, drop, length-append, length-drop}
+use lib.ListN.{length, take, drop}
 use lib.Seq.{take-at}
-use borrow.Author.Tests.{ltb-false}
-use Rattle.completeness.specs.Allowed.{Allowed, if-passes}
 use Rattle.completeness.specs.Completeness.{completeness, honest-length}
 use Rattle.completeness.specs.FileTrip.{file-length}
-use Rattle.completeness.specs.Reads.{readsDue}
+use Rattle.completeness.specs.Numbered.{Allowed, Room, readsDue}
+use Rattle.completeness.specs.Tests.{then-passes}
 use Rattle.definition.specs.Block.{blockCount, fileOf}
 use Rattle.definition.specs.Layout.{coinKinds, layout, wordsDue}
-use Rattle.definition.specs.Prove.{Result, coefficientsTest, coinDomainTest, coinsTest, done, finish, inputRangeTest, outputTest, prove, proveTests, refusal, sheetLengthTest}
+use Rattle.definition.specs.Prove.{Result, coefficientsTest, coinDomainTest, coinsTest, done, finish, inputRangeTest, prove, proveTests, refusal, sheetLengthTest}
 use Rattle.definition.specs.Prover.{honestStream}
 use Rattle.definition.specs.Reading.{sheetTest}
 use Rattle.definition.specs.Sheet.{sheetOf}
 use Rattle.definition.specs.Verdict.{Outcome, _then_, accepted, refused}
 use Rattle.definition.specs.Verify.{verify}
-
--- two tests that both pass
-pub then-passes : (a b : Outcome) → (a then b) ≡ accepted → (a ≡ accepted) × (b ≡ accepted)
-unfolding _then_
-then-passes accepted b e = (refl, e)
-then-passes (refused n p) b e = let z : _≡_ {A = ℕ} 0 1 = cc in absurd (omega arith)
-
--- the output holds the blocks due
-abbrev pub Room : List ℕ → List ℕ → Type 0
-Room w output = outputTest (blockCount (wordsDue (sheetOf w))) (512 * blockCount (wordsDue (sheetOf w))) (length output) ≡ accepted
 
 finish-done : (o : Outcome) (count n : ℕ) (written output : List ℕ) → finish o count written output .answer ≡ done n → (o ≡ accepted) × (count ≡ n)
 unfolding finish
@@ -79,6 +67,9 @@ module _ (w f coins output : List ℕ) where
         output = fileOf (honestStream w f coins) ++ drop ((file-length (honestStream w f coins) ∙ ap (λ (m : ℕ). 512 * blockCount m) (honest-length ok)) i) output;
       })
 
+  pub output-done : Allowed w f coins → Room w output → prove w f coins output .output ≡ fileOf (honestStream w f coins) ++ drop (512 * blockCount (wordsDue (sheetOf w))) output
+  output-done ok room = ap (λ (x : Result). x .output) (allowed-done ok room)
+
   -- done exactly when the tests pass
   pub done-exactly : (prove w f coins output .answer ≡ done (blockCount (wordsDue (sheetOf w)))) ↔ (Allowed w f coins × Room w output)
   done-exactly = (
@@ -99,14 +90,3 @@ module _ (w f coins output : List ℕ) where
       let size : length (fileOf (honestStream w f coins)) ≡ 512 * n = file-length (honestStream w f coins) ∙ ap (λ (m : ℕ). 512 * blockCount m) (honest-length (r .0)) ∙ ap (λ (m : ℕ). 512 * m) (sym (r .2)) in
       ap verify (ap (λ (x : Result). take (512 * n) (x .output)) (allowed-done (r .0) (r .1)) ∙ take-at (fileOf (honestStream w f coins)) _ (512 * n) size)
       ∙ completeness w f coins (r .0)
-
-  -- the output keeps its length
-  pub prove-length : (n : ℕ) → prove w f coins output .answer ≡ done n → length (prove w f coins output .output) ≡ length output
-  unfolding outputTest
-  prove-length n e =
-      let r = done-allowed n e in
-      let b = blockCount (wordsDue (sheetOf w)) in
-      let size : length (fileOf (honestStream w f coins)) ≡ 512 * b = file-length (honestStream w f coins) ∙ ap (λ (m : ℕ). 512 * blockCount m) (honest-length (r .0)) in
-      let enough : 512 * b ≤ length output = ltb-false (length output) (512 * b) (if-passes 11 b (ltb (length output) (512 * b)) (r .1)) in
-      ap (λ (x : Result). length (x .output)) (allowed-done (r .0) (r .1)) ∙ length-append (fileOf (honestStream w f coins)) _
-      ∙ omega (arith, size, length-drop (512 * b) output)

@@ -7,10 +7,11 @@ use mathlib.Core.Path.{_≡_, refl, sym, ap, _∙_}
 use mathlib.Core.List.{List, [], _∷_, flatMap}
 use lib.ListN.{length, getD, take, drop, replicate, length-append, length-drop, length-take}
 use lib.Seq.{drop-cons}
-use Rattle.completeness.specs.Complete
+use Rattle.completeness.specs.DecidingAccepts
 use Rattle.algebra.specs.Laws.{FieldLaws}
-use Rattle.completeness.specs.CoinFacts.{each-later, each-replicate}
-use Rattle.completeness.specs.EachWord.{Dealt}
+use Rattle.completeness.specs.EachWord.{each-later, each-replicate}
+use Rattle.completeness.specs.LayoutFacts.{Dealt}
+use Rattle.completeness.specs.Numbered.{readsDue, total}
 use Rattle.completeness.specs.SheetLevels.{about-levels}
 use Rattle.completeness.specs.SheetPassed.{exponents}
 use Rattle.definition.specs.Deciding.{ownPlace, placesOf}
@@ -20,15 +21,6 @@ use Rattle.definition.specs.Layout.{Kind, index, laterCount, readFinals, readRo
 use Rattle.definition.specs.Reading.{sheetTest}
 use Rattle.definition.specs.Sheet.{Level, firstLevel, laterLevels, levelsFrom, sheetOf, shiftCount}
 use Rattle.definition.specs.Verdict.{accepted}
-
--- the sum of a list
-unfoldable pub total : List ℕ → ℕ
-total [] = 0
-total (x ∷ xs) = x + total xs
-
--- k·(t_0 + .. + t_M), of the sheet's words
-unfoldable pub readsDue : List ℕ → ℕ
-readsDue w = getD w 3 0 * total (sheetOf w .repetitions)
 
 -- the same level by level
 abbrev pub levelReads : Level → List Level → ℕ
@@ -45,11 +37,11 @@ module _ {A : Type 0} (F : Field A) (L : FieldLaws F) (ω : A) where
   unfolding placesOf ownPlace
   places-length b js =
       flat-length (λ j. flatMap (ownPlace b) (rootNumbers b j)) (b .fold) js
-      (λ j. flat-length (ownPlace b) 1 (rootNumbers b j) (λ m. refl) ∙ omega (arith, Complete.roots-length F L ω b j))
+      (λ j. flat-length (ownPlace b) 1 (rootNumbers b j) (λ m. refl) ∙ omega (arith, DecidingAccepts.roots-length b j))
 
 module _ (F : Field ℕ) (L : FieldLaws F) (ω : ℕ) (R : Kind → ℕ → Type 0) (s : ℕ) where
   pub all-reads : (b : Level) (ls : List Level) (w : List ℕ) → Dealt R s b ls w →
-      length (Complete.allPlaces F L ω b (ownPlace b) (readRounds s b ls w) (readFinals s b ls w)) ≡ levelReads b ls
+      length (DecidingAccepts.allPlaces b (ownPlace b) (readRounds s b ls w) (readFinals s b ls w)) ≡ levelReads b ls
   unfolding readRounds readFinals roundCoins
   all-reads b [] w d = places-length F L ω b w ∙ ap (λ (n : ℕ). n * b .fold) (each-replicate R (b .repetitions) (index (shiftCount b)) w d .0)
   all-reads b (l ∷ ls) w d =

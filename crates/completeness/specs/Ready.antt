@@ -4,21 +4,21 @@ use Prim.Native.Nat.{ℕ, suc, _+_, _-_, _/_, _%_, _^_, _≤_, _<_}
 use native.Mathlib.Nat.{pow-suc, div-le-self, mul-le-mul-right, one-mul}
 use native.Mathlib.Omega.{arith}
 use mathlib.Core.Path.{_≡_, sym, subst}
-use mathlib.Core.List.{List, [], _∷_}
-use lib.ListN.{length, getD, replicate}
+use mathlib.Core.List.{List}
+use lib.ListN.{length, getD}
 use lib.Pow.{pow-pos}
 use Rattle.algebra.specs.Laws.{FieldLaws}
-use Rattle.algebra.specs.ListFacts.{All, all-append}
+use Rattle.algebra.specs.ListFacts.{All}
 use Rattle.algebra.specs.PrimeField.{Suited, suited}
 use Rattle.algebra.specs.RootsOfUnity.{minusOne}
-use Rattle.completeness.specs.FileTrip.{all-replicate}
-use Rattle.completeness.specs.SheetFacts.{Chain, Right}
+use Rattle.completeness.specs.LayoutFacts.{layout-all}
+use Rattle.completeness.specs.SheetFacts.{Chain, Sized}
 use Rattle.completeness.specs.SheetLevels.{Steps, sheet-chain, sheet-steps}
 use Rattle.completeness.specs.SheetPassed.{exponents}
 use Rattle.definition.specs.Field.{power, primeField}
-use Rattle.definition.specs.Layout.{Kind, coin, index, layout, limit, message, out, restLayout, roundLayout}
+use Rattle.definition.specs.Layout.{layout, limit}
 use Rattle.definition.specs.Reading.{sheetTest}
-use Rattle.definition.specs.Sheet.{Level, Sheet, finalCount, firstLevel, laterLevels, rootOfUnity, sheetOf, shiftCount}
+use Rattle.definition.specs.Sheet.{Level, Sheet, firstLevel, laterLevels, rootOfUnity, sheetOf, shiftCount}
 use Rattle.definition.specs.Verdict.{accepted}
 
 pub record Ready (h : Sheet) : Type 0 where
@@ -55,50 +55,13 @@ ready w long passed =
     }
 
 -- every limit of the layout is a word's
-shift-count : (a : ℕ) (b : Level) → Right a b → shiftCount b ≤ 2 ^ a
+shift-count : (a : ℕ) (b : Level) → Sized a b → shiftCount b ≤ 2 ^ a
 unfolding shiftCount
 shift-count a b r =
     omega (arith, div-le-self (b .size) (b .fold), mul-le-mul-right (b .size) (pow-pos (b .number)), one-mul (b .size), r .whole)
 
-module _ (p : ℕ) (small : p < 4294967296) (a : ℕ) (bound : 2 ^ a ≤ 4096) (s : ℕ) where
-  abbrev Fits : Kind → Type 0
-  Fits k = limit p k ≤ 4294967296
-
-  message-fits : Fits message
-  unfolding limit
-  message-fits = omega arith
-
-  coin-fits : Fits coin
-  unfolding limit
-  coin-fits = omega arith
-
-  out-fits : (l : Level) → Fits (out l)
-  unfolding limit
-  out-fits l = omega arith
-
-  index-fits : (b : Level) → Right a b → Fits (index (shiftCount b))
-  unfolding limit
-  index-fits b r = omega (arith, shift-count a b r)
-
-  round-fits : (b l : Level) → Right a b → All Fits (roundLayout s b l)
-  unfolding roundLayout
-  round-fits b l r =
-      all-append Fits (replicate (l .size) message) _ (all-replicate Fits (l .size) message message-fits)
-      (all-append Fits (replicate s (out l)) _ (all-replicate Fits s (out l) (out-fits l))
-      (all-append Fits (replicate s message) _ (all-replicate Fits s message message-fits)
-      (coin-fits, (coin-fits, all-replicate Fits (b .repetitions) (index (shiftCount b)) (index-fits b r)))))
-
-  rest-fits : (b : Level) (ls : List Level) → Chain a b ls → All Fits (restLayout s b ls)
-  unfolding restLayout
-  rest-fits b [] r =
-      all-append Fits (replicate (finalCount b) message) _ (all-replicate Fits (finalCount b) message message-fits)
-      (all-replicate Fits (b .repetitions) (index (shiftCount b)) (index-fits b r))
-  rest-fits b (l ∷ ls) r = all-append Fits (roundLayout s b l) _ (round-fits b l (r .0)) (rest-fits l ls (r .2))
-
 pub layout-fits : (h : Sheet) → Ready h → All (λ k. limit (h .prime) k ≤ 4294967296) (layout h)
-unfolding layout
+unfolding limit
 layout-fits h r =
-    let p = h .prime in
-    let s = h .outCoins in
-    all-append _ (replicate (h .size) message) _ (all-replicate _ (h .size) message (message-fits p (r .small) (suc (r .e)) (r .bound) s))
-    (coin-fits p (r .small) (suc (r .e)) (r .bound) s, rest-fits p (r .small) (suc (r .e)) (r .bound) s (firstLevel h) (laterLevels h) (r .chain))
+    layout-all (λ k. limit (h .prime) k ≤ 4294967296) (suc (r .e)) (omega (arith, r .small)) (omega (arith, r .small)) (λ l. omega (arith, r .small))
+    (λ b s. omega (arith, r .bound, shift-count (suc (r .e)) b s)) h (r .chain)

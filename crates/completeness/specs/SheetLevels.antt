@@ -10,7 +10,7 @@ use lib.Seq.{drop-cons, take-append-le, drop-append-le}
 use Rattle.completeness.specs.SheetFacts
 use Rattle.algebra.specs.ModularArithmetic.{pow-pow}
 use Rattle.completeness.specs.SheetFacts.{Chain, chain}
-use Rattle.completeness.specs.SheetPassed.{exponents, Exponents, few-points, twelve}
+use Rattle.completeness.specs.SheetPassed.{Exponents, exponents, few-points, twelve}
 use Rattle.definition.specs.Field.{generatorOf, primeOf}
 use Rattle.definition.specs.Lists.{range}
 use Rattle.definition.specs.Reading.{sheetTest}

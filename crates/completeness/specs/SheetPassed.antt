@@ -4,8 +4,8 @@ use native.Mathlib.Nat
 use native.Mathlib.Nat.{pow-suc, pow-zero}
 use native.Mathlib.Decide.{decLt}
 use native.Mathlib.Omega.{arith}
-use mathlib.Core.Path.{_≡_, sym, ap, _∙_, subst}
-use mathlib.Core.Bool.{Bool, true, false, not, cond, _&&_, true≢false}
+use mathlib.Core.Path.{_≡_, refl, sym, ap, _∙_, subst}
+use mathlib.Core.Bool.{Bool, true, false, not, cond, _&&_, _||_, true≢false}
 use mathlib.Core.List.{List, [], _∷_, map}
 use lib.Dec.{eqb, ltb, leb}
 use lib.Pow.{pow-mono, pow-pos}
@@ -15,13 +15,30 @@ use borrow.Author.Tests.{ltb-true, leb-true, eqb-true, not-false, lt-ltb}
 use Rattle.algebra.specs.ListFacts.{All, all-in-map, all-map}
 use Rattle.algebra.specs.ModularArithmetic.{pow-pow}
 use Rattle.completeness.specs.FileTrip.{Word}
-use Rattle.completeness.specs.SheetFacts.{all-false, and-true, power-of-two}
+use Rattle.completeness.specs.ListLaws.{all-at}
+use Rattle.completeness.specs.Tests.{all-false, and-true}
 use Rattle.definition.specs.Field.{knownField}
 use Rattle.definition.specs.Field.{primeOf}
-use Rattle.definition.specs.Lists.{range}
+use Rattle.definition.specs.Lists.{member, range}
 use Rattle.definition.specs.Reading.{sheetTest}
 use Rattle.definition.specs.Sheet.{between, degreeRule, fieldRule, foldRule, outCoinsRule, powerOfTwo, repetitionsRule, roundsRule, sheetRules, sizeRule}
 use Rattle.definition.specs.Verdict.{accepted}
+
+-- one of the powers of two
+member-range : (f : ℕ → ℕ) (from n x : ℕ) → member x (map f (range from n)) ≡ true → (a : ℕ) × (from ≤ a) × (a < from + n) × (x ≡ f a)
+unfolding member range
+member-range f from zero x e = absurd (true≢false (sym e))
+member-range f from (suc n) x e = go (eqb x (f from)) refl e (member-range f (suc from) n x)
+  where
+    go : (b : Bool) → eqb x (f from) ≡ b → (b || member x (map f (range (suc from) n))) ≡ true →
+        (member x (map f (range (suc from) n)) ≡ true → (a : ℕ) × (suc from ≤ a) × (a < suc from + n) × (x ≡ f a)) →
+        (a : ℕ) × (from ≤ a) × (a < from + suc n) × (x ≡ f a)
+    go true h k r = (from, omega arith, omega arith, eqb-true x (f from) h)
+    go false h k r = let q = r k in (q .0, omega (arith, q .1), omega (arith, q .2), q .3)
+
+power-of-two : (x : ℕ) → powerOfTwo x ≡ true → (a : ℕ) × (a < 13) × (x ≡ 2 ^ a)
+unfolding powerOfTwo
+power-of-two x e = let q = member-range (λ a. 2 ^ a) 0 13 x e in (q .0, omega (arith, q .2), q .3)
 
 pub between-true : (l u x : ℕ) → between l u x ≡ true → (l ≤ x) × (x ≤ u)
 unfolding between
@@ -31,15 +48,6 @@ between-true l u x e = let h = and-true (leb l x) (leb x u) e in (leb-true l x (
 pub rules-hold : (w : List ℕ) → sheetTest w ≡ accepted → All (λ (b : Bool). b ≡ true) (sheetRules w)
 unfolding sheetTest
 rules-hold w e = all-map (sheetRules w) (all-in-map (λ (b : Bool). b ≡ false) not (sheetRules w) (all-false 3 0 (map not (sheetRules w)) e)) not-false
-
-pub all-at : (P : ℕ → Type 0) (from n : ℕ) → All P (range from n) → (i : ℕ) → i < n → P (from + i)
-unfolding range
-all-at P from zero h i l = absurd (omega arith)
-all-at P from (suc n) h zero l = subst P (sym (Nat.add-zero from)) (h .0)
-all-at P from (suc n) h (suc i) l = subst P (step from i) (all-at P (suc from) n (h .1) i (omega arith))
-  where
-    step : (a b : ℕ) → suc a + b ≡ a + suc b
-    step a b = omega arith
 
 -- order of exponents
 pow-below : (i j : ℕ) → 2 ^ i < 2 ^ j → i < j
@@ -57,7 +65,6 @@ pub record Exponents (w : List ℕ) : Type 0 where
   pub a : ℕ
   pub b : ℕ
   pub c : ℕ
-  pub field : getD w 0 0 < 3
   pub size : getD w 1 0 ≡ 2 ^ suc a
   pub small : getD w 1 0 ≤ 4096
   pub divides : (primeOf (getD w 0 0) - 1) % getD w 1 0 ≡ 0
@@ -98,7 +105,6 @@ exponents w e =
       a = p .0;
       b = d₃ .0;
       c = q .0;
-      field = ltb-true _ 3 (h .0);
       size = p .1;
       small = s₃ .1;
       divides = eqb-true _ 0 (s₁ .1);

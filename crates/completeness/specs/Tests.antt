@@ -1,0 +1,55 @@
+-- Tests: what the passing of a test says, and what makes it pass.
+use Prim.Native.Nat.{ℕ, suc}
+use native.Mathlib.Omega.{arith}
+use mathlib.Core.Path.{_≡_, refl, sym}
+use mathlib.Core.Bool.{Bool, true, false, not, _&&_, true≢false}
+use mathlib.Core.List.{List, [], _∷_}
+use mathlib.Core.Option.{Option, none, some}
+use lib.Dec.{eqb}
+use borrow.Author.Tests.{eqb-true, not-false}
+use Rattle.algebra.specs.ListFacts.{All}
+use Rattle.definition.specs.Lists.{firstTrue}
+use Rattle.definition.specs.Verdict.{Outcome, _then_, accepted, refuseAt, refuseIf, refused}
+
+-- what a test that passes says
+pub if-passes : (n p : ℕ) (b : Bool) → refuseIf n p b ≡ accepted → b ≡ false
+unfolding refuseIf
+if-passes n p true e = let z : _≡_ {A = ℕ} 0 1 = cc in absurd (omega arith)
+if-passes n p false e = refl
+
+pub at-passes : (n : ℕ) (o : Option ℕ) → refuseAt n o ≡ accepted → o ≡ none
+unfolding refuseAt
+at-passes n none e = refl
+at-passes n (some p) e = let z : _≡_ {A = ℕ} 0 1 = cc in absurd (omega arith)
+
+pub equal-passes : (n p a b : ℕ) → refuseIf n p (not (eqb a b)) ≡ accepted → a ≡ b
+equal-passes n p a b e = eqb-true a b (not-false (eqb a b) (if-passes n p (not (eqb a b)) e))
+
+pub then-passes : (a b : Outcome) → (a then b) ≡ accepted → (a ≡ accepted) × (b ≡ accepted)
+unfolding _then_
+then-passes accepted b e = (refl, e)
+then-passes (refused n p) b e = let z : _≡_ {A = ℕ} 0 1 = cc in absurd (omega arith)
+
+pub all-false : (n from : ℕ) (bs : List Bool) → refuseAt n (firstTrue from bs) ≡ accepted → All (λ (b : Bool). b ≡ false) bs
+unfolding firstTrue refuseAt
+all-false n from [] e = tt
+all-false n from (true ∷ bs) e = let z : _≡_ {A = ℕ} 0 1 = cc in absurd (omega arith)
+all-false n from (false ∷ bs) e = (refl, all-false n (suc from) bs e)
+
+pub and-true : (a b : Bool) → (a && b) ≡ true → (a ≡ true) × (b ≡ true)
+and-true true b e = (refl, e)
+and-true false b e = absurd (true≢false (sym e))
+
+-- what makes a test pass
+pub if-false : (n p : ℕ) (b : Bool) → b ≡ false → refuseIf n p b ≡ accepted
+unfolding refuseIf
+if-false n p b e = rw e
+
+pub none-true : (from : ℕ) (bs : List Bool) → All (λ (b : Bool). b ≡ false) bs → firstTrue from bs ≡ none
+unfolding firstTrue
+none-true from [] h = refl
+none-true from (b ∷ bs) h = rw (h .0) (none-true (suc from) bs (h .1))
+
+pub at-none : (n : ℕ) (o : Option ℕ) → o ≡ none → refuseAt n o ≡ accepted
+unfolding refuseAt
+at-none n o e = rw e
