@@ -66,6 +66,7 @@ module _ (w : List ℕ) where
   levelsAfter i m =
       levelsFrom (suc i) (divided (getD w 1 0) 2 i / 2) (divided (getD w 2 0) (getD w 3 0) i / getD w 3 0) (replicate m (getD w 3 0)) (take m (drop (7 + i) w))
 
+  -- round M + 1, a round from 1 to M, and round 0, each as its runs
   last-round : (i : ℕ) → getD w 4 0 ≤ i → replicate (finalCount (levelAt i)) prime ++ replicate (getD w (6 + i) 0) (shiftCount (levelAt i)) ≡ roundLimits w (suc i)
   unfolding roundLimits elementCount indexCount indexLimit finalCount shiftCount divided
   last-round i h = rw (le-ltb i (getD w 4 0) h)
@@ -80,6 +81,7 @@ module _ (w : List ℕ) where
   first-round = sym (append-nil _)
 
   module _ (most : getD w 4 0 ≤ 5) (long : 12 ≤ length w) where
+    -- the levels after level i begin with level i + 1
     next-level : (i m : ℕ) → i + suc m ≡ getD w 4 0 → levelsAfter i (suc m) ≡ levelAt (suc i) ∷ levelsAfter (suc i) m
     unfolding levelsFrom divided
     next-level i m e =
@@ -87,6 +89,7 @@ module _ (w : List ℕ) where
         let after : suc (6 + suc i) ≡ 7 + suc i = omega arith in
         rw (drop-cons w (7 + i) 0 (omega arith), here, after)
 
+    -- the layout after level i's fold coin
     rest-limits : (m i : ℕ) → i + m ≡ getD w 4 0 → map (limit prime) (restLayout (getD w 5 0) (levelAt i) (levelsAfter i m)) ≡ limitsFrom w (suc i) (suc m)
     unfolding levelsFrom restLayout limitsFrom
     rest-limits zero i e = final-limits prime (getD w 5 0) (levelAt i) ∙ last-round i (omega arith) ∙ sym (append-nil _)
@@ -96,7 +99,7 @@ module _ (w : List ℕ) where
         ∙ (λ j. (round-limits prime (getD w 5 0) (levelAt i) (levelAt (suc i)) ∙ middle-round i (omega arith)) j ++ rest-limits m (suc i) (omega arith) j)
 
     -- The limits of the layout's words are those of the M + 2 rounds.
-    pub layout-limits : map (limit prime) (layout (sheetOf w)) ≡ limitsFrom w 0 (getD w 4 0 + 2)
+    pub layout-limits : map (limit (primeOf (getD w 0 0))) (layout (sheetOf w)) ≡ limitsFrom w 0 (getD w 4 0 + 2)
     unfolding layout sheetOf firstLevel laterLevels limitsFrom limit divided
     layout-limits =
         let rounds : getD w 4 0 + 2 ≡ suc (suc (getD w 4 0)) = omega arith in
