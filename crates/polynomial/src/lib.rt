@@ -3,7 +3,7 @@
 // the samples and of the points' vanishing polynomial. Samples stand in the last places of their slices, from number `from` on, and a walk goes
 // from the end to the front, as the definition's recursions do.
 ghost use mathlib.Core.Path.{_≡_};
-ghost use Prim.Native.Nat.{ℕ, _+_, _-_, _≤_, _<_};
+ghost use Prim.Native.Nat.{_-_, _≤_, _<_};
 ghost use lib.ListN.{length, drop};
 ghost use Rattle.definition.specs.Field.{fieldOf};
 ghost use Rattle.definition.specs.Polynomial.{evaluate, geometric, interpolate, pair};

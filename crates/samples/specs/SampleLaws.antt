@@ -1,11 +1,12 @@
 -- Putting samples one by one gives the definition's `distinct` and finds its `clash`: without a clash so far, what is kept tells of every sample met.
-use Prim.Native.Nat.{ℕ}
+use Prim.Native.Nat.{ℕ, _<_}
 use mathlib.Core.Path.{_≡_, _∙_, sym, ap, refl}
 use mathlib.Core.Bool.{Bool, true, false, cond, not, _&&_, _||_, or-true, or-false}
 use mathlib.Core.List.{List, [], _∷_, _++_}
-use mathlib.Core.Option.{Option, none, some}
+use mathlib.Core.Option.{none, some}
+use native.Mathlib.Omega.{arith}
 use lib.Dec.{eqb}
-use lib.ListN.{take, drop, take-append-drop}
+use lib.ListN.{length, take, drop, take-append-drop}
 use borrow.Author.Tests.{eqb-true}
 use Rattle.definition.specs.Field.{Field, primeField, fieldOf}
 use Rattle.definition.specs.Polynomial.{Sample, distinct, clash, contradicts, sampledAt}
@@ -93,18 +94,26 @@ module _ (field : ℕ) where
       let b = told ps quiet r in
       one-more q r (distinct F ps) (sampledAt F (r .point) ps) (eqb (q .point) (r .point)) refl (a .0) (a .1) (b .0) (sym (b .1) ∙ calm)
 
+  -- what `sifted` says of samples
+  pub sifted-none : (ps : List (Sample ℕ)) → none ≡ sifted field ps → clash F ps ≡ true
+  unfolding sifted
+  sifted-none ps e = clashed (distinct F ps) (clash F ps) e
+
+  pub sifted-some : (ps g : List (Sample ℕ)) → some g ≡ sifted field ps → (clash F ps ≡ false) × (g ≡ distinct F ps)
+  unfolding sifted
+  sifted-some ps g e = by (clash F ps) e
+    where
+      by : (b : Bool) → some g ≡ cond b none (some (distinct F ps)) → (b ≡ false) × (g ≡ distinct F ps)
+      by true h = let z : some g ≡ none = h in (cc, cc)
+      by false h = (refl, cc)
+
   -- where the samples gathered so far are the definition's, so they are with one more
   pub put-ok : (q : Sample ℕ) (ps g : List (Sample ℕ)) → some g ≡ sifted field ps → put q g ≡ sifted field (q ∷ ps)
   unfolding put sifted distinct clash
-  put-ok q ps g e = by (clash F ps) refl
-    where
-      by : (b : Bool) → clash F ps ≡ b → putBy q g (lookup (q .point) g) ≡ cond (contradicts F q ps || clash F ps) none (some (cond (sampledAt F (q .point) ps) (distinct F ps) (q ∷ distinct F ps)))
-      by true h = let z : some g ≡ none = e ∙ rw h in cc
-      by false h =
-          let w : some g ≡ some (distinct F ps) = e ∙ rw h in
-          let d : g ≡ distinct F ps = cc in
-          let k = told ps h q in
-          rw (d, h) (put-by q (distinct F ps) (lookup (q .point) (distinct F ps)) (k .0) (k .1))
+  put-ok q ps g e =
+      let s = sifted-some ps g e in
+      let t = told ps (s .0) q in
+      rw (s .1, s .0) (put-by q (distinct F ps) (lookup (q .point) (distinct F ps)) (t .0) (t .1))
 
   pub sifted-nil : some [] ≡ sifted field []
   unfolding sifted clash distinct
@@ -118,7 +127,21 @@ module _ (field : ℕ) where
   -- a clash stays one behind other samples, and so where a list is begun earlier
   pub clash-append : (l ps : List (Sample ℕ)) → none ≡ sifted field ps → none ≡ sifted field (l ++ ps)
   unfolding sifted
-  clash-append l ps e = rw (clash-behind l ps (clashed (distinct F ps) (clash F ps) e))
+  clash-append l ps e = rw (clash-behind l ps (sifted-none ps e))
 
   pub clash-drop : (i : ℕ) (l : List (Sample ℕ)) → none ≡ sifted field (drop i l) → none ≡ sifted field l
   clash-drop i l e = clash-append (take i l) (drop i l) e ∙ ap (sifted field) (take-append-drop i l)
+
+  -- of some samples some are kept
+  distinct-some : (ps : List (Sample ℕ)) → 0 < length ps → 0 < length (distinct F ps)
+  unfolding distinct sampledAt
+  distinct-some [] h = h
+  distinct-some (s ∷ []) h = h
+  distinct-some (s ∷ t ∷ ps) h = by (sampledAt F (s .point) (t ∷ ps)) (distinct-some (t ∷ ps) (omega arith))
+    where
+      by : (b : Bool) → 0 < length (distinct F (t ∷ ps)) → 0 < length (cond b (distinct F (t ∷ ps)) (s ∷ distinct F (t ∷ ps)))
+      by true l = l
+      by false l = omega arith
+
+  pub sifted-more : (ps g : List (Sample ℕ)) → 0 < length ps → some g ≡ sifted field ps → 0 < length g
+  sifted-more ps g h e = rw (sifted-some ps g e .1) (distinct-some ps h)

@@ -1,7 +1,7 @@
 // Samples without repeats, in the last places of two slices, one of points and one of values: those from a number on are in use.
 // A sample is put in front of those that are there, unless its point is among them; a point that is there with another value is a clash.
 ghost use mathlib.Core.Path.{_≡_};
-ghost use Prim.Native.Nat.{ℕ, _+_, _≤_, _<_};
+ghost use Prim.Native.Nat.{ℕ, _≤_, _<_};
 ghost use mathlib.Core.List.{List, _++_};
 ghost use mathlib.Core.Option.{some};
 ghost use lib.ListN.{length, drop};

@@ -1,8 +1,8 @@
 -- `polynomial::coefficients` meets its contract: from number i on the coefficients stand in out. Assumes nothing.
 use mathlib.Core.Path.{_≡_}
-use Prim.Native.Nat.{ℕ, _-_, _≤_}
+use Prim.Native.Nat.{_≤_}
 use native.Mathlib.Omega.{arith}
-use lib.ListN.{length, drop, set, length-set}
+use lib.ListN.{length, drop, length-set}
 use borrow.Author.Needs.{needs}
 use Rattle.definition.specs.Field.{fieldOf}
 use Rattle.polynomial.specs.Newton.{newton}

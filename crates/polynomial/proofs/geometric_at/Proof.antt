@@ -1,6 +1,6 @@
 -- `polynomial::geometric_at` meets its contract. The invariant is `Turn`, whose laws are those of doubling; the measure is the number of terms that are
 -- left. Assumes nothing.
-use mathlib.Core.Path.{_≡_, _∙_}
+use mathlib.Core.Path.{_∙_}
 use mathlib.Core.Logic.{⊎-elim}
 use native.Mathlib.Omega.{arith}
 use borrow.Author.Needs.{needs}

@@ -1,8 +1,8 @@
 -- `samples::look` meets its contract: what is found from number i on is what is found from number k on. Assumes nothing.
-use mathlib.Core.Path.{_≡_, _∙_, sym, ap, refl}
-use Prim.Native.Nat.{ℕ, _+_, _-_, _≤_, _<_}
+use mathlib.Core.Path.{_≡_, _∙_, refl}
+use Prim.Native.Nat.{_-_, _≤_}
 use native.Mathlib.Omega.{arith}
-use lib.ListN.{length, drop, getD}
+use lib.ListN.{length, drop}
 use Rattle.definition.specs.Polynomial.{pair}
 use Rattle.samples.specs.Samples.{lookup}
 use Rattle.samples.proofs.Steps.{here, next, end}

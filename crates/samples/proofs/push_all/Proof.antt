@@ -1,10 +1,10 @@
 -- `samples::push_all` meets its contract: the samples from number i on are put. Assumes nothing.
-use mathlib.Core.Path.{_≡_, _∙_, sym, ap, refl}
+use mathlib.Core.Path.{_≡_, _∙_, ap, refl}
 use mathlib.Core.List.{List, _++_}
-use mathlib.Core.Option.{some, none}
-use Prim.Native.Nat.{ℕ, _+_, _-_, _≤_, _<_}
+use mathlib.Core.Option.{some}
+use Prim.Native.Nat.{ℕ, _+_, _-_, _≤_}
 use native.Mathlib.Omega.{arith}
-use lib.ListN.{length, drop, getD}
+use lib.ListN.{length, drop}
 use Rattle.definition.specs.Polynomial.{Sample, pair}
 use Rattle.samples.specs.Samples.{kept, sifted}
 use Rattle.samples.proofs.Steps.{walk-end, walk-turn, walk-clash, kept-from, kept-clash, kept-none, kept-some, room}

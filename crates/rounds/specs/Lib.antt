@@ -1,0 +1,5 @@
+pub mod Powers
+pub mod Round
+pub mod RoundLaws
+pub mod NextRound
+pub mod Reads
