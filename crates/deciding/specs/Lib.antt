@@ -1,0 +1,7 @@
+pub mod Begins
+pub mod Stand
+pub mod Words
+pub mod Standing
+pub mod Inside
+pub mod Steps
+pub mod First
