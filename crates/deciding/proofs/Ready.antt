@@ -1,23 +1,26 @@
 -- What the functions hand to each other, over plain numbers and lists: what a call requires, and what it gives, in the words of the stream.
-use Prim.Native.Nat.{ℕ, _+_, _-_, _*_, _/_, _≤_, _<_}
+use Prim.Native.Nat.{ℕ, _+_, _-_, _*_, _/_, _^_, _≤_, _<_}
 use native.Mathlib.Omega.{arith}
 use mathlib.Core.Path.{_≡_, refl, sym, ap, _∙_, subst}
-use mathlib.Core.List.{List, []}
+use mathlib.Core.List.{List, [], _++_, zipWith}
 use mathlib.Core.Option.{Option, none, some}
 use lib.ListN.{length, getD, take, drop, drop-of-length-le}
-use lib.Seq.{length-take-le}
-use Rattle.definition.specs.Deciding.{decide}
+use lib.Pow.{pow-pos}
+use lib.Seq.{length-front, length-take-le, take-at}
+use Rattle.definition.specs.Deciding.{decide, deciding, outInDomain, outTest}
 use Rattle.definition.specs.Field.{fieldOf, primeField}
-use Rattle.definition.specs.Layout.{readTranscript, wordsDue}
+use Rattle.definition.specs.Layout.{layout, readTranscript, wordsDue}
+use Rattle.definition.specs.Lists.{firstTrue}
 use Rattle.definition.specs.Polynomial.{Sample, pair}
 use Rattle.definition.specs.Reading.{rangeTest, sheetTest}
 use Rattle.definition.specs.Sheet.{Sheet, firstLevel, rootOfUnity, sheetOf}
-use Rattle.definition.specs.Verdict.{Verdict, accepted, refused}
+use Rattle.definition.specs.Verdict.{Verdict, accepted, refuseAt, refused, thenVerdict}
 use Rattle.domain.specs.Powers.{Powers}
 use Rattle.outcome.specs.declared.Found.{Found}
 use Rattle.outcome.specs.declared.Found.the-variants.{At, Nothing}
 use Rattle.outcome.specs.Meaning.{placeOf}
 use Rattle.polynomial.specs.Newton.{newton}
+use Rattle.powers.specs.Root.{root, root-of-sheet}
 use Rattle.samples.specs.declared.Gathered.{Gathered}
 use Rattle.samples.specs.declared.Gathered.the-variants.{Clash, From}
 use Rattle.samples.specs.Samples.{Room, kept}
@@ -25,10 +28,11 @@ use Rattle.rounds.specs.declared.Function.{Function}
 use Rattle.rounds.specs.Round.{Below, Fits}
 use Rattle.rounds.specs.RoundLaws.{Answered, Compared, Serves}
 use Rattle.deciding.specs.declared.Stand.{Stand}
-use Rattle.deciding.specs.First.{first-step, same-powers, served-first, standing-first}
+use Rattle.deciding.specs.First.{first-step, placed-first, same-powers, served-first, standing-first}
 use Rattle.deciding.specs.Inside.{final-inside, round-inside, standing-next}
+use Rattle.deciding.specs.Outs.{Scaled, outs-first, outsFrom, scaled-first}
 use Rattle.deciding.specs.Stand.{coefficientsOf, finalsOf, firstFunction, firstStand, nextFunction, nextStand, outsOf, repliesOf, shiftsOf, tableOf}
-use Rattle.deciding.specs.Standing.{Decided, Differing, Served, Sifted, Standing}
+use Rattle.deciding.specs.Standing.{Decided, Differing, Placed, Served, Sifted, Standing}
 use Rattle.deciding.specs.Steps.{clash-step, next-step, part-length, served-next}
 
 -- the first k of 16 places are k
@@ -37,6 +41,9 @@ first-k k l e h = length-take-le k l (omega arith)
 
 pub not-last : (level last : ℕ) → level ≤ last → (level ≡ last → ⊥) → level < last
 not-last level last h d = omega arith
+
+pub scale-some : (scale level : ℕ) → scale ≡ 2 ^ level → 0 < 2 * scale
+scale-some scale level e = omega (arith, e, pow-pos level)
 
 -- ---- parts of the words, by another name
 
@@ -56,13 +63,13 @@ module _ (w pw xs cs : List ℕ) (st : Stand) (how : Function) (table : List ℕ
 module _ (w : List ℕ) {points samples coefficients : ℕ} (st : Stand) (how : Function) (ok : Standing w points samples coefficients st how) where
   fits-table : (table : List ℕ) → table ≡ tableOf w st → Fits points (length table) how (getD w 3 0)
   unfolding tableOf
-  fits-table table e = subst (λ (n : ℕ). Fits points n how (getD w 3 0)) (sym (ap length e ∙ part-length w (st .table) (st .size) (ok .table))) (ok .fits)
+  fits-table table e = subst (λ (n : ℕ). Fits points n how (getD w 3 0)) (sym (ap length e ∙ part-length w (st .table) (st .size) (ok .place .table))) (ok .fits)
 
   pub answer-ready : st .level < getD w 4 0 → (table shifts outs replies : List ℕ) → table ≡ tableOf w st → shifts ≡ shiftsOf w st → outs ≡ outsOf w st → replies ≡ repliesOf w st →
       Fits points (length table) how (getD w 3 0) × (Below (how .step) shifts × ((length replies ≡ length outs) × (length outs + length shifts ≤ 66)))
   unfolding shiftsOf outsOf repliesOf
   answer-ready more table shifts outs replies et es eo er =
-      let i = round-inside w st how ok more in
+      let i = round-inside w st (ok .place) more in
       let s = getD w 5 0 in
       let t = getD w (6 + st .level) 0 in
       let at = st .at + st .size / 2 in
@@ -73,14 +80,14 @@ module _ (w : List ℕ) {points samples coefficients : ℕ} (st : Stand) (how : 
         fits-table table et,
         (
           subst (λ (n : ℕ). Below n shifts) (sym (ok .step)) (subst (λ (js : List ℕ). Below (st .size / getD w 3 0) js) (sym es) (i .below)),
-          (nr ∙ sym no, omega (arith, ns, no, i .few, ok .sheet .outs)),
+          (nr ∙ sym no, omega (arith, ns, no, i .few, ok .place .sheet .outs)),
         ),
       )
 
   pub final-ready : st .level ≡ getD w 4 0 → (table finals : List ℕ) → table ≡ tableOf w st → finals ≡ finalsOf w st →
       Fits points (length table) how (getD w 3 0) × Below (how .step) finals
   final-ready end table finals et ef =
-      (fits-table table et, subst (λ (n : ℕ). Below n finals) (sym (ok .step)) (subst (λ (js : List ℕ). Below (st .size / getD w 3 0) js) (sym ef) (final-inside w st how ok end .below)))
+      (fits-table table et, subst (λ (n : ℕ). Below n finals) (sym (ok .step)) (subst (λ (js : List ℕ). Below (st .size / getD w 3 0) js) (sym ef) (final-inside w st (ok .place) end .below)))
 
 -- ---- answers
 
@@ -170,3 +177,51 @@ module _ (w pw xs : List ℕ) (passed : sheetTest w ≡ accepted) (ranged : rang
   first-decided {v} d =
       first-step w passed due pw xs xs 66 (same-powers points) empty
       (subst (λ (x : Function). Decided w pw xs xs (firstStand w) x v) eh (subst (λ (x : Stand). Decided w pw xs xs x how v) es d))
+
+module _ (w pw : List ℕ) (passed : sheetTest w ≡ accepted) (ranged : rangeTest (sheetOf w) w ≡ accepted) (due : wordsDue (sheetOf w) ≤ length w)
+    (size : length pw ≡ getD w 1 0) (st : Stand) (es : st ≡ firstStand w) where
+  pub placed-start : Placed w st
+  placed-start = subst (Placed w) (sym es) (placed-first w passed due ranged)
+
+  pub scaled-start : Scaled (length pw) st 1
+  scaled-start = subst (λ (x : Stand). Scaled (length pw) x 1) (sym es) (scaled-first (length pw) w size)
+
+  pub outs-start : {v : Option ℕ} → v ≡ outsFrom w st → v ≡ firstTrue 12 (zipWith (outInDomain (sheetOf w)) (layout (sheetOf w)) (drop 12 w))
+  outs-start h = h ∙ ap (outsFrom w) es ∙ outs-first w passed due ranged
+
+-- ---- refusal 7, then the rest
+
+module _ (w : List ℕ) (f : Found) (first : placeOf f ≡ firstTrue 12 (zipWith (outInDomain (sheetOf w)) (layout (sheetOf w)) (drop 12 w))) where
+  by-place : (o : Option ℕ) → placeOf f ≡ o →
+      deciding w ≡ thenVerdict (refuseAt 7 o) (decide (primeField (sheetOf w .prime)) (rootOfUnity (sheetOf w)) (firstLevel (sheetOf w)) (readTranscript (sheetOf w) (drop 12 w)))
+  unfolding deciding outTest
+  by-place o e =
+      ap (λ (x : Option ℕ). thenVerdict (refuseAt 7 x) (decide (primeField (sheetOf w .prime)) (rootOfUnity (sheetOf w)) (firstLevel (sheetOf w)) (readTranscript (sheetOf w) (drop 12 w))))
+      (sym first ∙ e)
+
+  pub out-refused : {i : ℕ} → f ≡ At i → record { outcome = refused 7 i; reads = 0 } ≡ deciding w
+  unfolding placeOf thenVerdict refuseAt
+  out-refused {i} e = sym (by-place (some i) (ap placeOf e))
+
+  pub out-passed : {v : Verdict} → f ≡ Nothing →
+      v ≡ decide (primeField (sheetOf w .prime)) (rootOfUnity (sheetOf w)) (firstLevel (sheetOf w)) (readTranscript (sheetOf w) (drop 12 w)) → v ≡ deciding w
+  unfolding placeOf thenVerdict refuseAt
+  out-passed e h = h ∙ sym (by-place none (ap placeOf e))
+
+-- ---- the table of points, in the first places of a larger list
+
+pub first-places : (n : ℕ) (l whole : List ℕ) → length l ≡ length (take n whole) → n ≤ length whole → take n (l ++ drop n whole) ≡ l
+first-places n l whole e h = take-at l (drop n whole) n (e ∙ length-take-le n whole h)
+
+pub still-within : (n : ℕ) (l whole : List ℕ) → length l ≡ length (take n whole) → n ≤ length whole → n ≤ length (l ++ drop n whole)
+still-within n l whole e h = omega (arith, length-front whole l n e)
+
+pub points-there : (w l whole : List ℕ) → length l ≡ length (take (getD w 1 0) whole) → getD w 1 0 ≤ length whole → Powers (getD w 0 0) (root (getD w 0 0) (getD w 1 0)) l →
+    Powers (getD w 0 0) (rootOfUnity (sheetOf w)) (take (getD w 1 0) (l ++ drop (getD w 1 0) whole)) × (length (take (getD w 1 0) (l ++ drop (getD w 1 0) whole)) ≡ getD w 1 0)
+points-there w l whole e h p =
+    let n = getD w 1 0 in
+    let t = first-places n l whole e h in
+    (
+      subst (Powers (getD w 0 0) (rootOfUnity (sheetOf w))) (sym t) (subst (λ (ω : ℕ). Powers (getD w 0 0) ω l) (sym (root-of-sheet w)) p),
+      ap length t ∙ e ∙ length-take-le n whole h,
+    )

@@ -9,7 +9,7 @@ use lib.Dec.{leb}
 use lib.ListN.{length, getD, take, drop, replicate, length-append, length-drop, length-replicate}
 use lib.Seq.{drop-cons, drop-drop, getD-drop}
 use borrow.Author.Tests.{leb-true}
-use Rattle.completeness.specs.SheetPassed.{between-true, rules-hold, small-repetitions}
+use Rattle.completeness.specs.SheetPassed.{between-true, exponents, rules-hold, small-repetitions}
 use Rattle.completeness.specs.Tests.{and-true, at-passes}
 use Rattle.definition.specs.Deciding.{Function, decide, decideRest, ownPlace, readsOf, tableFunction}
 use Rattle.definition.specs.Field.{fieldOf, primeField, primeOf}
@@ -26,7 +26,7 @@ use Rattle.rounds.specs.Round.{Fits}
 use Rattle.rounds.specs.RoundLaws.{Serves}
 use Rattle.deciding.specs.Begins.{Begins, begins-after, begins-long, begins-tail, begins-tested}
 use Rattle.deciding.specs.Stand.{firstFunction, firstStand, levelOf, levelsOf, restOf, tableOf}
-use Rattle.deciding.specs.Standing.{Decided, Served, Shaped, Standing}
+use Rattle.deciding.specs.Standing.{Decided, Placed, Served, Shaped, Standing}
 
 -- a table of points, as the two crates below say it
 pub same-powers : {field ω : ℕ} {pw : List ℕ} → domain.Powers field ω pw → Powers field ω pw
@@ -45,6 +45,7 @@ module _ (w : List ℕ) (passed : sheetTest w ≡ accepted) (due : wordsDue (she
       let s₁ = between-true 1 2 (getD w 5 0) (h .1 .1 .1 .1 .1 .0) in
       record {
         long = omega arith;
+        least = n₁ .0;
         size = n₁ .1;
         fold = k₁ .0;
         folds = k₁ .1;
@@ -54,12 +55,18 @@ module _ (w : List ℕ) (passed : sheetTest w ≡ accepted) (due : wordsDue (she
         repetitions = small-repetitions w passed;
       }
 
+  -- the field has a domain of the sheet's size
+  pub fitting : domain.Fitting (getD w 0 0) (getD w 1 0)
+  fitting =
+      let x = exponents w passed in
+      record { log = suc (x .a); two = x .size; least = shaped .least; most = shaped .size; divides = x .divides }
+
   -- the sheet's levels are those of the first place
-  first-level : firstLevel (sheetOf w) ≡ levelOf w (firstStand w)
+  pub first-level : firstLevel (sheetOf w) ≡ levelOf w (firstStand w)
   unfolding sheetOf firstLevel levelOf firstStand
   first-level = rw (drop-cons w 6 0 (omega (arith, shaped .long)))
 
-  later-levels : laterLevels (sheetOf w) ≡ levelsOf w (firstStand w)
+  pub later-levels : laterLevels (sheetOf w) ≡ levelsOf w (firstStand w)
   unfolding sheetOf laterLevels levelsOf firstStand
   later-levels = let e : getD w 4 0 - 0 ≡ getD w 4 0 = omega arith in rw (e, drop-cons w 6 0 (omega (arith, shaped .long)))
 
@@ -106,21 +113,27 @@ module _ (w : List ℕ) (passed : sheetTest w ≡ accepted) (due : wordsDue (she
           small = s .size;
         }
 
+    pub placed-first : Placed w (firstStand w)
+    unfolding firstStand
+    placed-first = record {
+      sheet = shaped;
+      level = omega arith;
+      table = omega (arith, first-room);
+      here = first-room;
+      words = first-begins;
+      reads = omega arith;
+    }
+
     pub standing-first : (points samples coefficients from : ℕ) → points ≡ getD w 1 0 → from ≤ samples → samples ≤ coefficients →
         Standing w points samples coefficients (firstStand w) (firstFunction w from)
     unfolding firstStand firstFunction
     standing-first points samples coefficients from e h g = record {
-      sheet = shaped;
-      level = omega arith;
+      place = placed-first;
       fits = subst (λ (n : ℕ). Fits n (getD w 1 0) (firstFunction w from) (getD w 3 0)) (sym e) (first-fits from);
       from = h;
       enough = g;
-      table = omega (arith, first-room);
-      here = first-room;
-      words = first-begins;
       scale = refl;
       step = refl;
-      reads = omega arith;
     }
 
   first-serves : (pw xs cs : List ℕ) (from : ℕ) → Powers (getD w 0 0) (rootOfUnity (sheetOf w)) pw → drop from xs ≡ [] →

@@ -19,7 +19,7 @@ use Rattle.rounds.specs.Round.{Below, Fits}
 use Rattle.deciding.specs.declared.Stand.{Stand}
 use Rattle.deciding.specs.Begins.{Begins, begins-after, begins-front, begins-long, begins-run, begins-tail}
 use Rattle.deciding.specs.Stand.{finalsOf, levelOf, levelsOf, nextFunction, nextSize, nextStand, outsOf, repliesOf, repetitionsOf, shiftsAt, shiftsOf, tableOf}
-use Rattle.deciding.specs.Standing.{Shaped, Standing}
+use Rattle.deciding.specs.Standing.{Placed, Shaped, Standing}
 use Rattle.deciding.specs.Words.{levels-end, levels-next, third-drop}
 
 -- a run of n indices below c in a list
@@ -57,15 +57,15 @@ pub record RoundInside (w : List ℕ) (st : Stand) : Type 0 where
 pub reads-most : (t k : ℕ) → t ≤ 64 → k ≤ 16 → t * k ≤ 1024
 reads-most t k ht hk = omega (arith, mul-le-mul-right k ht)
 
-module _ (w : List ℕ) {points samples coefficients : ℕ} (st : Stand) (how : Function) (ok : Standing w points samples coefficients st how) where
+module _ (w : List ℕ) (st : Stand) (ok : Placed w st) where
   few-coins : repetitionsOf w st ≤ 64
   few-coins = ok .sheet .repetitions (st .level) (omega (arith, ok .level, ok .sheet .rounds))
 
   few-reads : repetitionsOf w st * getD w 3 0 ≤ 1024
   few-reads = reads-most (repetitionsOf w st) (getD w 3 0) few-coins (ok .sheet .folds)
 
-  pub scale-small : how .scale ≤ 32
-  scale-small = let l : st .level ≤ 5 = omega (arith, ok .level, ok .sheet .rounds) in omega (arith, ok .scale, pow-mono l)
+  pub scale-small : (scale : ℕ) → scale ≡ 2 ^ st .level → scale ≤ 32
+  scale-small scale e = let l : st .level ≤ 5 = omega (arith, ok .level, ok .sheet .rounds) in omega (arith, e, pow-mono l)
 
   module _ (more : st .level < getD w 4 0) where
     whole : Begins (primeOf (getD w 0 0)) (roundLayout (getD w 5 0) (levelOf w st) (levelOf w (nextStand w st)) ++ restLayout (getD w 5 0) (levelOf w (nextStand w st)) (levelsOf w (nextStand w st))) (drop (st .at) w)
@@ -136,7 +136,7 @@ pub record FinalInside (w : List ℕ) (st : Stand) : Type 0 where
   pub fewer : repetitionsOf w st * getD w 3 0 ≤ 1024
   pub reads : st .reads ≤ 8192
 
-module _ (w : List ℕ) {points samples coefficients : ℕ} (st : Stand) (how : Function) (ok : Standing w points samples coefficients st how) (end : st .level ≡ getD w 4 0) where
+module _ (w : List ℕ) (st : Stand) (ok : Placed w st) (end : st .level ≡ getD w 4 0) where
   last-whole : Begins (primeOf (getD w 0 0)) (replicate (st .degree / getD w 3 0) message ++ replicate (repetitionsOf w st) (index (st .size / getD w 3 0))) (drop (st .at) w)
   unfolding restLayout levelOf finalCount shiftCount
   last-whole =
@@ -155,8 +155,8 @@ module _ (w : List ℕ) {points samples coefficients : ℕ} (st : Stand) (how : 
         there = omega (arith, ok .here, begins-long p (ks ++ ks′) (drop (st .at) w) last-whole, length-append ks ks′, length-drop (st .at) w, length-replicate d message, length-replicate t (index c));
         below = subst (λ (js : List ℕ). Below c js) (ap (take t) (drop-drop d (st .at) w))
             (run-below p t c (drop d (drop (st .at) w)) (begins-after p d ks ks′ (drop (st .at) w) (length-replicate d message) last-whole));
-        few = few-coins w st how ok;
-        fewer = few-reads w st how ok;
+        few = few-coins w st ok;
+        fewer = few-reads w st ok;
         reads = omega (arith, ok .reads, ok .level, ok .sheet .rounds);
       }
 
@@ -175,23 +175,32 @@ next-fits points n k from c how f = record {
     go : (s : ℕ) → s * n ≤ points → 2 * s * (n / 2) ≤ points
     go s h = let e : s * (2 * (n / 2)) ≤ s * n = mul-le-mul-left s (omega arith) in omega arith
 
+pub scale-next : (scale level : ℕ) → scale ≡ 2 ^ level → 2 * scale ≡ 2 ^ (level + 1)
+scale-next scale level e = omega (arith, e, pow-suc 2 level, ap (λ (n : ℕ). 2 ^ n) (add-one level))
+
 -- what is known at the next place
+pub placed-next : (w : List ℕ) (st : Stand) → Placed w st → st .level < getD w 4 0 → Placed w (nextStand w st)
+unfolding nextStand
+placed-next w st ok more =
+    let r = round-inside w st ok more in
+    record {
+      sheet = ok .sheet;
+      level = omega arith;
+      table = omega (arith, r .there);
+      here = r .there;
+      words = r .rest;
+      reads = omega (arith, ok .reads, r .fewer);
+    }
+
 pub standing-next : (w : List ℕ) {points samples coefficients : ℕ} (st : Stand) (how : Function) → Standing w points samples coefficients st how →
     st .level < getD w 4 0 → (samples′ coefficients′ j : ℕ) → j ≤ samples′ → samples′ ≤ coefficients′ →
     Standing w points samples′ coefficients′ (nextStand w st) (nextFunction w st (how .scale) j)
 unfolding nextStand nextFunction
-standing-next w st how ok more samples′ coefficients′ j hj hc =
-    let r = round-inside w st how ok more in
-    record {
-      sheet = ok .sheet;
-      level = omega arith;
-      fits = next-fits _ (st .size) (getD w 3 0) j _ how (ok .fits);
-      from = hj;
-      enough = hc;
-      table = omega (arith, r .there);
-      here = r .there;
-      words = r .rest;
-      scale = omega (arith, ok .scale, pow-suc 2 (st .level), ap (λ (n : ℕ). 2 ^ n) (add-one (st .level)));
-      step = refl;
-      reads = omega (arith, ok .reads, r .fewer);
-    }
+standing-next w st how ok more samples′ coefficients′ j hj hc = record {
+  place = placed-next w st (ok .place) more;
+  fits = next-fits _ (st .size) (getD w 3 0) j _ how (ok .fits);
+  from = hj;
+  enough = hc;
+  scale = scale-next (how .scale) (st .level) (ok .scale);
+  step = refl;
+}

@@ -5,3 +5,4 @@ pub mod Standing
 pub mod Inside
 pub mod Steps
 pub mod First
+pub mod Outs

@@ -19,6 +19,7 @@ use Rattle.deciding.specs.Stand.{coefficientsOf, finalsOf, levelOf, leve
 -- the bounds of a sheet's words
 pub record Shaped (w : List ℕ) : Type 0 where
   pub long : 12 ≤ length w
+  pub least : 4 ≤ getD w 1 0
   pub size : getD w 1 0 ≤ 4096
   pub fold : 2 ≤ getD w 3 0
   pub folds : getD w 3 0 ≤ 16
@@ -27,20 +28,25 @@ pub record Shaped (w : List ℕ) : Type 0 where
   pub outs : getD w 5 0 ≤ 2
   pub repetitions : (i : ℕ) → i < 6 → getD w (6 + i) 0 ≤ 64
 
--- At a place: the level is one of the sheet's; the roots of its shift points and their points are in the tables; its own table is in the words; the words
--- still to come are there, each in range; and there are not too many reads to count. The numbers are those of points, samples and coefficients lent.
-pub record Standing (w : List ℕ) (points samples coefficients : ℕ) (st : Stand) (how : Function) : Type 0 where
+-- At a place: the level is one of the sheet's; its table is in the words; the words still to come are there, each in range; and there are not too many reads
+-- to count.
+pub record Placed (w : List ℕ) (st : Stand) : Type 0 where
   pub sheet : Shaped w
   pub level : st .level ≤ getD w 4 0
-  pub fits : Fits points (st .size) how (getD w 3 0)
-  pub from : how .from ≤ samples
-  pub enough : samples ≤ coefficients
   pub table : st .table + st .size ≤ length w
   pub here : st .at ≤ length w
   pub words : Begins (primeOf (getD w 0 0)) (restLayout (getD w 5 0) (levelOf w st) (levelsOf w st)) (drop (st .at) w)
+  pub reads : st .reads ≤ 1024 * st .level
+
+-- At a place with a way to work out the level's function: the roots of shift points and their points are in the tables. The numbers are those of points,
+-- samples and coefficients lent.
+pub record Standing (w : List ℕ) (points samples coefficients : ℕ) (st : Stand) (how : Function) : Type 0 where
+  pub place : Placed w st
+  pub fits : Fits points (st .size) how (getD w 3 0)
+  pub from : how .from ≤ samples
+  pub enough : samples ≤ coefficients
   pub scale : how .scale ≡ 2 ^ st .level
   pub step : how .step ≡ st .size / getD w 3 0
-  pub reads : st .reads ≤ 1024 * st .level
 
 -- the words in hand are those of some function at the level, for some ω
 pub record Served (w pw xs cs : List ℕ) (st : Stand) (how : Function) : Type 0 where

@@ -65,7 +65,7 @@ first-below from (false ∷ bs) i e = let h = first-below (suc from) bs i e in o
 module _ (w pw xs cs : List ℕ) (st : Stand) (how : how.Function) (ok : Standing w (length pw) (length xs) (length cs) st how) (more : st .level < getD w 4 0) where
   shifts-length : length (shiftsOf w st) ≡ repetitionsOf w st
   unfolding shiftsOf
-  shifts-length = part-length w _ (repetitionsOf w st) (round-inside w st how ok more .there)
+  shifts-length = part-length w _ (repetitionsOf w st) (round-inside w st (ok .place) more .there)
 
   reads-next : (used : List Place) → st .reads ≡ readsOf used → nextStand w st .reads ≡ readsOf (used ++ placesOf (levelOf w st) (ownPlace (levelOf w st)) (shiftsOf w st))
   unfolding nextStand levelOf
@@ -74,12 +74,12 @@ module _ (w pw xs cs : List ℕ) (st : Stand) (how : how.Function) (ok : Standin
 
   outs-some : 0 < length (roundOf w st .coins .outs)
   unfolding roundOf outsOf
-  outs-some = omega (arith, ok .sheet .out, part-length w (st .at + st .size / 2) (getD w 5 0) (omega (arith, round-inside w st how ok more .there)))
+  outs-some = omega (arith, ok .place .sheet .out, part-length w (st .at + st .size / 2) (getD w 5 0) (omega (arith, round-inside w st (ok .place) more .there)))
 
   replies-long : length (roundOf w st .replies) ≡ length (roundOf w st .coins .outs)
   unfolding roundOf outsOf repliesOf
   replies-long =
-      let r = round-inside w st how ok more .there in
+      let r = round-inside w st (ok .place) more .there in
       part-length w (st .at + st .size / 2 + getD w 5 0) (getD w 5 0) (omega arith) ∙ sym (part-length w (st .at + st .size / 2) (getD w 5 0) (omega arith))
 
   pub clash-step : Sifted w pw xs cs st how none → Decided w pw xs cs st how (record { outcome = refused 8 (nextStand w st .level); reads = nextStand w st .reads })
@@ -91,7 +91,7 @@ module _ (w pw xs cs : List ℕ) (st : Stand) (how : how.Function) (ok : Standin
       let ρ = roundOf w st in
       let fn : Function ℕ = record { value = f; places = ownPlace b } in
       let c = sifted-none field (answers F ω b f (st .fold) ρ) (a ω b f ρ refl refl refl sv) in
-      sym (ap (decideRest F ω b fn (st .fold) used) (rest-next w st (ok .sheet .long) (ok .sheet .rounds) more)
+      sym (ap (decideRest F ω b fn (st .fold) used) (rest-next w st (ok .place .sheet .long) (ok .place .sheet .rounds) more)
       ∙ round-clash F ω b fn (st .fold) used ρ (restOf w (nextStand w st)) c
       ∙ (λ i. record { outcome = refused 8 (nextStand w st .level); reads = sym (reads-next used e) i }))
 
@@ -109,7 +109,7 @@ module _ (w pw xs cs : List ℕ) (st : Stand) (how : how.Function) (ok : Standin
       let ρ = roundOf w st in
       let e = a ω b f ρ refl refl refl sv in
       let g = sampled field (answers F ω b f (st .fold) ρ) px py pc j (answers-some F ω b f (st .fold) ρ outs-some replies-long) long e newtons in
-      let there = round-inside w st how ok more .there in
+      let there = round-inside w st (ok .place) more .there in
       let n = part-length w (st .at) (st .size / 2) (omega arith) in
       serves-next field ω ρ pw px py pc (nextFunction w st (how .scale) j) g (sv .powers) (next .scale) refl (getD w 3 0) refl refl
       (subst (λ (m : ℕ). Fits (length pw) m (nextFunction w st (how .scale) j) (getD w 3 0)) (sym n) (next .fits))
@@ -134,7 +134,7 @@ module _ (w pw xs cs : List ℕ) (st : Stand) (how : how.Function) (ok : Standin
       let c = sifted-some field (answers F ω b f (st .fold) ρ) (pair (drop j px) (drop j py)) (a ω b f ρ refl refl refl sv) in
       d ω (definition.nextFunction F ω g ρ .value) now (serves-after px py pc j ω f next long a newtons sv) (reads-next used e)
       ∙ ap (λ (h : Function ℕ). decideRest F ω (levelOf w (nextStand w st)) h (nextStand w st .fold) now (restOf w (nextStand w st))) (next-places F ω g ρ)
-      ∙ sym (ap (decideRest F ω b fn (st .fold) used) (rest-next w st (ok .sheet .long) (ok .sheet .rounds) more)
+      ∙ sym (ap (decideRest F ω b fn (st .fold) used) (rest-next w st (ok .place .sheet .long) (ok .place .sheet .rounds) more)
       ∙ round-on F ω b fn (st .fold) used ρ (restOf w (nextStand w st)) (c .0))
 
 -- ---- the final comparison from a place
@@ -142,7 +142,7 @@ module _ (w pw xs cs : List ℕ) (st : Stand) (how : how.Function) (ok : Standin
 module _ (w pw xs cs : List ℕ) (st : Stand) (how : how.Function) (ok : Standing w (length pw) (length xs) (length cs) st how) (end : st .level ≡ getD w 4 0) where
   finals-length : length (finalsOf w st) ≡ repetitionsOf w st
   unfolding finalsOf
-  finals-length = part-length w _ (repetitionsOf w st) (final-inside w st how ok end .there)
+  finals-length = part-length w _ (repetitionsOf w st) (final-inside w st (ok .place) end .there)
 
   -- the place of a difference is that of a final index
   pub place-few : (place : ℕ) → Differing w pw xs cs st how (some place) →
@@ -151,7 +151,7 @@ module _ (w pw xs cs : List ℕ) (st : Stand) (how : how.Function) (ok : Standin
   place-few place a s =
       let F = fieldOf (getD w 0 0) in
       let b = levelOf w st in
-      let i = final-inside w st how ok end in
+      let i = final-inside w st (ok .place) end in
       omega (
         arith,
         i .few,

@@ -8,11 +8,13 @@ use outcome::Verdict;
 use rounds::Function;
 use samples::Gathered;
 ghost use mathlib.Core.Path.{_≡_};
+ghost use mathlib.Core.List.{zipWith};
 ghost use Prim.Native.Nat.{_+_, _*_, _/_, _≤_, _<_};
 ghost use lib.ListN.{length, getD, take, drop};
-ghost use Rattle.definition.specs.Deciding.{decide as decideBy};
+ghost use Rattle.definition.specs.Deciding.{decide as decideBy, deciding as decidingOf, outInDomain};
 ghost use Rattle.definition.specs.Field.{primeField};
-ghost use Rattle.definition.specs.Layout.{readTranscript, wordsDue};
+ghost use Rattle.definition.specs.Layout.{layout, readTranscript, wordsDue};
+ghost use Rattle.definition.specs.Lists.{firstTrue};
 ghost use Rattle.definition.specs.Reading.{rangeTest, sheetTest};
 ghost use Rattle.definition.specs.Sheet.{Sheet, firstLevel, rootOfUnity, sheetOf};
 ghost use Rattle.definition.specs.Verdict.{accepted};
@@ -22,8 +24,9 @@ ghost use Rattle.rounds.specs.Round.{Fits, Below};
 ghost use Rattle.rounds.specs.RoundLaws.{Answered, Compared};
 ghost use Rattle.samples.specs.Samples.{kept, Room};
 ghost use Rattle.deciding.specs.Stand.{firstFunction, firstStand, nextFunction, nextStand};
-ghost use Rattle.deciding.specs.Standing.{Decided, Differing, Served, Shaped, Sifted, Standing};
+ghost use Rattle.deciding.specs.Standing.{Decided, Differing, Placed, Served, Shaped, Sifted, Standing};
 ghost use Rattle.deciding.specs.Inside.{RoundInside};
+ghost use Rattle.deciding.specs.Outs.{FirstInside, Scaled, outsFrom};
 
 // Where deciding stands, before a round or the final comparison: the level's number, domain size and degree bound, where its table begins, where the words
 // after its fold coin begin, the fold coin, and the reads so far.
@@ -321,4 +324,81 @@ pub fn decide(w: &[u32], pw: &[u32]) -> Verdict
 {
     let none = room();
     rest(w, pw, first_stand(w), first_function(w), &none, &none)
+}
+
+// The first of `count` words from number `at` on that lies in the domain whose points stand at every scale-th place of the table.
+fn first_inside(w: &[u32], pw: &[u32], scale: usize, at: usize, count: usize) -> Found
+    requires { ⌜ (0 < scale) × (at + count ≤ length (now w)) ⌝ }
+    ensures { λ r. ⌜ FirstInside (now (w .entry)) (now (pw .entry)) scale at count (placeOf r) ⌝ }
+{
+    let mut j = 0;
+    while j < count {
+        if domain::inside(pw, scale, w[at + j]) {
+            return Found::At(at + j);
+        }
+        j += 1;
+    }
+    Found::Nothing
+}
+
+// The first out coin after a place that lies in the domain of its round.
+fn outs(w: &[u32], pw: &[u32], stand: Stand, scale: usize) -> Found
+    requires { ⌜ (Placed (now w) stand) × (Scaled (length (now pw)) stand scale) ⌝ }
+    requires { ⌜ Powers (getD (now w) 0 0) (rootOfUnity (sheetOf (now w))) (now pw) ⌝ }
+    ensures { λ r. ⌜ placeOf r ≡ outsFrom (now (w .entry)) stand ⌝ }
+{
+    if stand.level == w[4] as usize {
+        return Found::Nothing;
+    }
+    let f = first_inside(w, pw, 2 * scale, stand.at + stand.size / 2, w[5] as usize);
+    if let Found::At(i) = f {
+        return Found::At(i);
+    }
+    outs(w, pw, next_stand(w, stand), 2 * scale)
+}
+
+// Refusal 7: the first out coin of a round that lies in the round's domain, by its number in the stream. All rounds are tested before any refusal 8.
+pub fn out_in_domain(w: &[u32], pw: &[u32]) -> Found
+    requires { ⌜ (sheetTest (now w) ≡ accepted) × (rangeTest (sheetOf (now w)) (now w) ≡ accepted) ⌝ }
+    requires { ⌜ wordsDue (sheetOf (now w)) ≤ length (now w) ⌝ }
+    requires { ⌜ (Powers (getD (now w) 0 0) (rootOfUnity (sheetOf (now w))) (now pw)) × (length (now pw) ≡ getD (now w) 1 0) ⌝ }
+    ensures { λ r. ⌜ placeOf r ≡ firstTrue 12 (zipWith (outInDomain (sheetOf (now (w .entry)))) (layout (sheetOf (now (w .entry)))) (drop 12 (now (w .entry)))) ⌝ }
+{
+    outs(w, pw, first_stand(w), 1)
+}
+
+// Refusal 7, then 8 and 9, by the table of points.
+fn decide_by(w: &[u32], pw: &[u32]) -> Verdict
+    requires { ⌜ (sheetTest (now w) ≡ accepted) × (rangeTest (sheetOf (now w)) (now w) ≡ accepted) ⌝ }
+    requires { ⌜ wordsDue (sheetOf (now w)) ≤ length (now w) ⌝ }
+    requires { ⌜ (Powers (getD (now w) 0 0) (rootOfUnity (sheetOf (now w))) (now pw)) × (length (now pw) ≡ getD (now w) 1 0) ⌝ }
+    ensures { λ v. ⌜ verdictOf v ≡ decidingOf (now (w .entry)) ⌝ }
+{
+    let f = out_in_domain(w, pw);
+    if let Found::At(i) = f {
+        return Verdict {
+            outcome: Outcome::Refused(7, i),
+            reads: 0,
+        };
+    }
+    decide(w, pw)
+}
+
+// Places for the points of domain 0, at most 4,096.
+fn points_room() -> [u32; 4096]
+    ensures { λ r. ⌜ length r ≡ 4096 ⌝ }
+{
+    [0u32; 4096]
+}
+
+// Deciding, of the words of a stream that passes reading.
+pub fn deciding(w: &[u32]) -> Verdict
+    requires { ⌜ (sheetTest (now w) ≡ accepted) × (rangeTest (sheetOf (now w)) (now w) ≡ accepted) ⌝ }
+    requires { ⌜ wordsDue (sheetOf (now w)) ≤ length (now w) ⌝ }
+    ensures { λ v. ⌜ verdictOf v ≡ decidingOf (now (w .entry)) ⌝ }
+{
+    let size = w[1] as usize;
+    let mut pw = points_room();
+    domain::points(w[0], size, &mut pw[..size]);
+    decide_by(w, &pw[..size])
 }

@@ -64,7 +64,7 @@ rest-next-stand-requires : (t : ℕ) → rest-lts.Need-next-stand-requires (call
 rest-next-stand-requires t c κs =
     let s = c .before .before .before .before .before .before .before in
     let a = s .args in
-    round-inside (a .w .now) (a .stand) (a .how) (s .pre .1 .0) (not-last (a .stand .level) (getD (a .w .now) 4 0) (s .pre .1 .0 .level) (c .if1 .left))
+    round-inside (a .w .now) (a .stand) (s .pre .1 .0 .place) (not-last (a .stand .level) (getD (a .w .now) 4 0) (s .pre .1 .0 .place .level) (c .if1 .left))
 
 rest-room-requires : (t : ℕ) → rest-lts.Need-room-requires (calls t) (rest-at t) rest.Post
 rest-room-requires t c κs = search needs
@@ -82,7 +82,7 @@ rest-round-at-requires : (t : ℕ) → rest-lts.Need-round-at-requires (calls t)
 rest-round-at-requires t c κs =
     let s = c .before .before .before .before .before .before .before .before .before .before .before .before in
     let a = s .args in
-    (s .pre .1 .0, (not-last (a .stand .level) (getD (a .w .now) 4 0) (s .pre .1 .0 .level) (c .before .before .before .before .before .if1 .left), (c .before .before .before .room .ensures, c .before .before .room2 .ensures)))
+    (s .pre .1 .0, (not-last (a .stand .level) (getD (a .w .now) 4 0) (s .pre .1 .0 .place .level) (c .before .before .before .before .before .if1 .left), (c .before .before .before .room .ensures, c .before .before .room2 .ensures)))
 
 rest-enum-known-g : (t : ℕ) → rest-lts.Need-enum-known-g (calls t) (rest-at t) rest.Post
 rest-enum-known-g t c = search needs
@@ -96,7 +96,7 @@ rest-returns-2 t c =
     let s = c .before .before .before .before .before .before .before .before .before .before .before .before .before .before .before .before .before in
     let a = s .args in
     let q = c .before .before .before .before .round-at in
-    clash-ready (a .w .now) (a .pw .now) (a .xs .now) (a .cs .now) (a .stand) (a .how) (s .pre .1 .0) (not-last (a .stand .level) (getD (a .w .now) 4 0) (s .pre .1 .0 .level) (c .before .before .before .before .before .before .before .before .before .before .if1 .left)) (c .before .before .before .before .before .before .before .before .before .next-stand .result) (c .before .before .before .before .before .before .before .before .before .next-stand .ensures) (q .result)
+    clash-ready (a .w .now) (a .pw .now) (a .xs .now) (a .cs .now) (a .stand) (a .how) (s .pre .1 .0) (not-last (a .stand .level) (getD (a .w .now) 4 0) (s .pre .1 .0 .place .level) (c .before .before .before .before .before .before .before .before .before .before .if1 .left)) (c .before .before .before .before .before .before .before .before .before .next-stand .result) (c .before .before .before .before .before .before .before .before .before .next-stand .ensures) (q .result)
     (q .last .1 .1 .1 .1 .1 .1 .0) (q .last .1 .1 .1 .1 .1 .1 .1 .0) (c .enum-told .given .1) (q .ensures .0)
 
 rest-room-requires-3 : (t : ℕ) → rest-lts.Need-room-requires-3 (calls t) (rest-at t) rest.Post
@@ -106,7 +106,7 @@ rest-shared-slice-read-coefficients : (t : ℕ) → rest-lts.Need-shared-slice-r
 rest-shared-slice-read-coefficients t c =
     let s = c .before .before .before .before .before .before .before .before .before .before .before .before .before .before .before .before .before .before .before .before in
     let a = s .args in
-    omega (arith, s .pre .1 .0 .sheet .long)
+    omega (arith, s .pre .1 .0 .place .sheet .long)
 
 rest-slice-aggregate-coefficients : (t : ℕ) → rest-lts.Need-slice-aggregate-coefficients (calls t) (rest-at t) rest.Post
 rest-slice-aggregate-coefficients t c = sym (c .before .before .before .before .before .before .before .before .round-at .kept .1 .1 .1 .1 .1 .1 .0 ∙ c .before .before .before .before .before .before .before .before .before .before .before .before .room .ensures)
@@ -129,7 +129,7 @@ rest-next-function-requires : (t : ℕ) → rest-lts.Need-next-function-requires
 rest-next-function-requires t c κs =
     let s = c .before .before .before .before .before .before .before .before .before .before .before .before .before .before .before .before .before .before .before .before .before .before .before .before .before in
     let a = s .args in
-    (round-inside (a .w .now) (a .stand) (a .how) (s .pre .1 .0) (not-last (a .stand .level) (getD (a .w .now) 4 0) (s .pre .1 .0 .level) (c .before .before .before .before .before .before .before .before .before .before .before .before .before .before .before .before .before .before .if1 .left)), omega (arith, scale-small (a .w .now) (a .stand) (a .how) (s .pre .1 .0)))
+    (round-inside (a .w .now) (a .stand) (s .pre .1 .0 .place) (not-last (a .stand .level) (getD (a .w .now) 4 0) (s .pre .1 .0 .place .level) (c .before .before .before .before .before .before .before .before .before .before .before .before .before .before .before .before .before .before .if1 .left)), omega (arith, scale-small (a .w .now) (a .stand) (s .pre .1 .0 .place) (a .how .scale) (s .pre .1 .0 .scale)))
 
 rest-slice-aggregate-rest : (t : ℕ) → rest-lts.Need-slice-aggregate-rest (calls t) (rest-at t) rest.Post
 rest-slice-aggregate-rest t c = sym (c .before .before .before .before .before .before .before .before .before .before .before .before .before .before .round-at .kept .1 .1 .1 .1 .1 .1 .0 ∙ c .before .before .before .before .before .before .before .before .before .before .before .before .before .before .before .before .before .before .room .ensures)
@@ -148,15 +148,15 @@ rest-rest-requires t c κs =
     let lc = k .kept .1 .1 .1 .1 .0 ∙ c .before .before .before .before .before .before .before .before .before .room3 .ensures in
     let g = c .before .before .before .before .before .before .before .before .before .before .before .g .given in
     let inside : g .0 .0 ≤ length (q .last .1 .1 .1 .1 .1 .1 .0) = omega (arith, lx, room-in (q .result) (g .0 .0) (g .1) (q .ensures .1)) in
-    let more = not-last (a .stand .level) (getD (a .w .now) 4 0) (s .pre .1 .0 .level) (c .before .before .before .before .before .before .before .before .before .before .before .before .before .before .before .before .before .before .before .before .before .if1 .left) in
+    let more = not-last (a .stand .level) (getD (a .w .now) 4 0) (s .pre .1 .0 .place .level) (c .before .before .before .before .before .before .before .before .before .before .before .before .before .before .before .before .before .before .before .before .before .if1 .left) in
     let up = level-next (a .w .now) (a .stand) (c .before .before .before .before .before .before .before .before .before .before .before .before .before .before .before .before .before .before .before .before .next-stand .result) (c .before .before .before .before .before .before .before .before .before .before .before .before .before .before .before .before .before .before .before .before .next-stand .ensures) in
     (
-      omega (arith, s .pre .0, up, more, s .pre .1 .0 .sheet .rounds),
+      omega (arith, s .pre .0, up, more, s .pre .1 .0 .place .sheet .rounds),
       (
-        next-standing (a .w .now) (a .pw .now) (a .xs .now) (a .cs .now) (a .stand) (a .how) (s .pre .1 .0) (not-last (a .stand .level) (getD (a .w .now) 4 0) (s .pre .1 .0 .level) (c .before .before .before .before .before .before .before .before .before .before .before .before .before .before .before .before .before .before .before .before .before .if1 .left)) (c .before .before .before .before .before .before .before .before .before .before .before .before .before .before .before .before .before .before .before .before .next-stand .result) (c .before .before .before .before .before .before .before .before .before .before .before .before .before .before .before .before .before .before .before .before .next-stand .ensures) (q .result)
+        next-standing (a .w .now) (a .pw .now) (a .xs .now) (a .cs .now) (a .stand) (a .how) (s .pre .1 .0) (not-last (a .stand .level) (getD (a .w .now) 4 0) (s .pre .1 .0 .place .level) (c .before .before .before .before .before .before .before .before .before .before .before .before .before .before .before .before .before .before .before .before .before .if1 .left)) (c .before .before .before .before .before .before .before .before .before .before .before .before .before .before .before .before .before .before .before .before .next-stand .result) (c .before .before .before .before .before .before .before .before .before .before .before .before .before .before .before .before .before .before .before .before .next-stand .ensures) (q .result)
     (g .0 .0) (c .before .before .next-function .result) (c .before .before .next-function .ensures) (q .last .1 .1 .1 .1 .1 .1 .0) (q .last .1 .1 .1 .1 .1 .1 .1 .0) (k .last .1 .1 .1 .1 .0) (g .1) (q .ensures .0) inside
     (ly ∙ sym lx) (lc ∙ sym lx) (k .ensures),
-        next-served (a .w .now) (a .pw .now) (a .xs .now) (a .cs .now) (a .stand) (a .how) (s .pre .1 .0) (not-last (a .stand .level) (getD (a .w .now) 4 0) (s .pre .1 .0 .level) (c .before .before .before .before .before .before .before .before .before .before .before .before .before .before .before .before .before .before .before .before .before .if1 .left)) (c .before .before .before .before .before .before .before .before .before .before .before .before .before .before .before .before .before .before .before .before .next-stand .result) (c .before .before .before .before .before .before .before .before .before .before .before .before .before .before .before .before .before .before .before .before .next-stand .ensures) (q .result)
+        next-served (a .w .now) (a .pw .now) (a .xs .now) (a .cs .now) (a .stand) (a .how) (s .pre .1 .0) (not-last (a .stand .level) (getD (a .w .now) 4 0) (s .pre .1 .0 .place .level) (c .before .before .before .before .before .before .before .before .before .before .before .before .before .before .before .before .before .before .before .before .before .if1 .left)) (c .before .before .before .before .before .before .before .before .before .before .before .before .before .before .before .before .before .before .before .before .next-stand .result) (c .before .before .before .before .before .before .before .before .before .before .before .before .before .before .before .before .before .before .before .before .next-stand .ensures) (q .result)
     (g .0 .0) (c .before .before .next-function .result) (c .before .before .next-function .ensures) (q .last .1 .1 .1 .1 .1 .1 .0) (q .last .1 .1 .1 .1 .1 .1 .1 .0) (k .last .1 .1 .1 .1 .0) (g .1) (q .ensures .0) inside
     (ly ∙ sym lx) (lc ∙ sym lx) (k .ensures) (s .pre .1 .1),
       ),
@@ -173,7 +173,7 @@ rest-returns-3 t c =
     let lc = k .kept .1 .1 .1 .1 .0 ∙ c .before .before .before .before .before .before .before .before .before .before .room3 .ensures in
     let g = c .before .before .before .before .before .before .before .before .before .before .before .before .g .given in
     let inside : g .0 .0 ≤ length (q .last .1 .1 .1 .1 .1 .1 .0) = omega (arith, lx, room-in (q .result) (g .0 .0) (g .1) (q .ensures .1)) in
-    next-decided (a .w .now) (a .pw .now) (a .xs .now) (a .cs .now) (a .stand) (a .how) (s .pre .1 .0) (not-last (a .stand .level) (getD (a .w .now) 4 0) (s .pre .1 .0 .level) (c .before .before .before .before .before .before .before .before .before .before .before .before .before .before .before .before .before .before .before .before .before .before .if1 .left)) (c .before .before .before .before .before .before .before .before .before .before .before .before .before .before .before .before .before .before .before .before .before .next-stand .result) (c .before .before .before .before .before .before .before .before .before .before .before .before .before .before .before .before .before .before .before .before .before .next-stand .ensures) (q .result)
+    next-decided (a .w .now) (a .pw .now) (a .xs .now) (a .cs .now) (a .stand) (a .how) (s .pre .1 .0) (not-last (a .stand .level) (getD (a .w .now) 4 0) (s .pre .1 .0 .place .level) (c .before .before .before .before .before .before .before .before .before .before .before .before .before .before .before .before .before .before .before .before .before .before .if1 .left)) (c .before .before .before .before .before .before .before .before .before .before .before .before .before .before .before .before .before .before .before .before .before .next-stand .result) (c .before .before .before .before .before .before .before .before .before .before .before .before .before .before .before .before .before .before .before .before .before .next-stand .ensures) (q .result)
     (g .0 .0) (c .before .before .before .next-function .result) (c .before .before .before .next-function .ensures) (q .last .1 .1 .1 .1 .1 .1 .0) (q .last .1 .1 .1 .1 .1 .1 .1 .0) (k .last .1 .1 .1 .1 .0) (g .1) (q .ensures .0) inside
     (ly ∙ sym lx) (lc ∙ sym lx) (k .ensures) (c .rest .ensures)
 

@@ -38,19 +38,19 @@ part-requires c κs = search needs
 part-requires-2 : tie.Need-part-requires-2
 part-requires-2 c κs = 
     let s = c .before .before .before .before .before .before .before .before .before .before in
-    let i = final-inside (s .args .w .now) (s .args .stand) (s .args .how) (s .pre .0) (s .pre .1) in
+    let i = final-inside (s .args .w .now) (s .args .stand) (s .pre .0 .place) (s .pre .1) in
     omega (arith, i .there)
 
 add-part : tie.Need-add-part
 add-part c = 
     let s = c .before .before .before .before .before .before .before .before .before .before .before .before in
-    let i = final-inside (s .args .w .now) (s .args .stand) (s .args .how) (s .pre .0) (s .pre .1) in
+    let i = final-inside (s .args .w .now) (s .args .stand) (s .pre .0 .place) (s .pre .1) in
     omega (arith, i .there)
 
 part-requires-3 : tie.Need-part-requires-3
 part-requires-3 c κs = 
     let s = c .before .before .before .before .before .before .before .before .before .before .before .before in
-    let i = final-inside (s .args .w .now) (s .args .stand) (s .args .how) (s .pre .0) (s .pre .1) in
+    let i = final-inside (s .args .w .now) (s .args .stand) (s .pre .0 .place) (s .pre .1) in
     omega (arith, i .there)
 
 difference-requires : tie.Need-difference-requires

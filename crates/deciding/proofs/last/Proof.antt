@@ -38,7 +38,7 @@ mul-t14 c =
     let q = c .before .before .before .before .final-at in
     let e = differing-at (a .w .now) (a .pw .now) (a .xs .now) (a .cs .now) (a .stand) (a .how) (c .before .f .given .1) (q .ensures) in
     let few = place-few (a .w .now) (a .pw .now) (a .xs .now) (a .cs .now) (a .stand) (a .how) (s .pre .0) (s .pre .1 .1) _ e (s .pre .1 .0) in
-    omega (arith, reads-most (c .before .f .given .0 .0 + 1) (getD (a .w .now) 3 0) (omega (arith, few)) (s .pre .0 .sheet .folds))
+    omega (arith, reads-most (c .before .f .given .0 .0 + 1) (getD (a .w .now) 3 0) (omega (arith, few)) (s .pre .0 .place .sheet .folds))
 
 add-t15 : tie.Need-add-t15
 add-t15 c = 
@@ -47,8 +47,8 @@ add-t15 c =
     let q = c .before .before .before .before .before .final-at in
     let e = differing-at (a .w .now) (a .pw .now) (a .xs .now) (a .cs .now) (a .stand) (a .how) (c .before .before .f .given .1) (q .ensures) in
     let few = place-few (a .w .now) (a .pw .now) (a .xs .now) (a .cs .now) (a .stand) (a .how) (s .pre .0) (s .pre .1 .1) _ e (s .pre .1 .0) in
-    let i = final-inside (a .w .now) (a .stand) (a .how) (s .pre .0) (s .pre .1 .1) in
-    omega (arith, i .reads, reads-most (c .before .before .f .given .0 .0 + 1) (getD (a .w .now) 3 0) (omega (arith, few)) (s .pre .0 .sheet .folds))
+    let i = final-inside (a .w .now) (a .stand) (s .pre .0 .place) (s .pre .1 .1) in
+    omega (arith, i .reads, reads-most (c .before .before .f .given .0 .0 + 1) (getD (a .w .now) 3 0) (omega (arith, few)) (s .pre .0 .place .sheet .folds))
 
 returns : tie.Need-returns
 unfolding verdictOf outcomeOf
@@ -76,13 +76,13 @@ cast-t20 c = omega (arith, c .shared-slice-known6 .given (6 + c .before .before 
 mul-t21 : tie.Need-mul-t21
 mul-t21 c = 
     let s = c .before .before .before .before .before .before .before .before .before .before in
-    let i = final-inside (s .args .w .now) (s .args .stand) (s .args .how) (s .pre .0) (s .pre .1 .1) in
+    let i = final-inside (s .args .w .now) (s .args .stand) (s .pre .0 .place) (s .pre .1 .1) in
     omega (arith, i .fewer, i .reads)
 
 add-t22 : tie.Need-add-t22
 add-t22 c = 
     let s = c .before .before .before .before .before .before .before .before .before .before .before in
-    let i = final-inside (s .args .w .now) (s .args .stand) (s .args .how) (s .pre .0) (s .pre .1 .1) in
+    let i = final-inside (s .args .w .now) (s .args .stand) (s .pre .0 .place) (s .pre .1 .1) in
     omega (arith, i .fewer, i .reads)
 
 returns-2 : tie.Need-returns-2

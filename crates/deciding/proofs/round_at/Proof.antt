@@ -54,19 +54,19 @@ add-part-2 c = search needs
 part-requires-2 : tie.Need-part-requires-2
 part-requires-2 c κs = 
     let s = c .before .before .before .before .before .before .before .before .before .before .before .before .before .before in
-    let i = round-inside (s .args .w .now) (s .args .stand) (s .args .how) (s .pre .0) (s .pre .1 .0) in
+    let i = round-inside (s .args .w .now) (s .args .stand) (s .pre .0 .place) (s .pre .1 .0) in
     omega (arith, i .there)
 
 part-requires-3 : tie.Need-part-requires-3
 part-requires-3 c κs = 
     let s = c .before .before .before .before .before .before .before .before .before .before .before .before .before .before .before in
-    let i = round-inside (s .args .w .now) (s .args .stand) (s .args .how) (s .pre .0) (s .pre .1 .0) in
+    let i = round-inside (s .args .w .now) (s .args .stand) (s .pre .0 .place) (s .pre .1 .0) in
     omega (arith, i .there)
 
 part-requires-4 : tie.Need-part-requires-4
 part-requires-4 c κs = 
     let s = c .before .before .before .before .before .before .before .before .before .before .before .before .before .before .before .before in
-    let i = round-inside (s .args .w .now) (s .args .stand) (s .args .how) (s .pre .0) (s .pre .1 .0) in
+    let i = round-inside (s .args .w .now) (s .args .stand) (s .pre .0 .place) (s .pre .1 .0) in
     omega (arith, i .there)
 
 answer-requires : tie.Need-answer-requires
