@@ -1,0 +1,207 @@
+-- `deciding::rest` meets its contract, by recursion over the rounds: the measure is what is left of 6 levels. Assumes nothing.
+use Prim.Native.Nat.{ℕ, _+_, _-_, _≤_, _<_}
+use mathlib.Core.Path.{_∙_, sym}
+use native.Mathlib.Omega.{arith}
+use lib.ListN.{length, getD}
+use borrow.Author.Needs.{needs}
+use Rattle.outcome.specs.Meaning.{outcomeOf, verdictOf}
+use Rattle.deciding.specs.Inside.{round-inside, scale-small}
+use Rattle.deciding.proofs.Ready.{clash-ready, level-next, next-decided, next-served, next-standing, not-last, room-in}
+use borrow.Fn.Kinds.{In}
+use borrow.Fn.PlainCycle.{Measures, is, falls, and}
+use Rattle.deciding.proofs.rest.Reads as rest
+use Rattle.deciding.proofs.rest.Kinds as rest-kinds
+use Rattle.deciding.proofs.+rest.Lts-rest as rest-lts
+use Rattle.deciding.proofs.last.Reads as last-reads
+use Rattle.deciding.proofs.next_function.Reads as next-function-reads
+use Rattle.deciding.proofs.next_stand.Reads as next-stand-reads
+use Rattle.deciding.proofs.room.Reads as room-reads
+use Rattle.deciding.proofs.round_at.Reads as round-at-reads
+use Rattle.polynomial.proofs.coefficients.Reads as coefficients-reads
+use Rattle.deciding.proofs.+rest.{statement}
+use Rattle.deciding.proofs.+rest.Tie.{close}
+
+abbrev μ-rest : Measures 4 rest-kinds.ps ℕ
+μ-rest κs a = 6 - a .1 .1 .0 .level
+
+abbrev rest-at : ℕ → In 4 rest-kinds.ps
+rest-at t = and 4 rest-kinds.ps (is 4 rest-kinds.ps μ-rest t) rest.Pre
+
+abbrev rest-below : ℕ → In 4 rest-kinds.ps
+rest-below t = and 4 rest-kinds.ps (falls 4 rest-kinds.ps _<_ μ-rest t) rest.Pre
+
+abbrev calls : ℕ → rest-lts.Claims
+calls t = (
+  last-reads.Asked,
+  last-reads.Learnt,
+  next-stand-reads.Asked,
+  next-stand-reads.Learnt,
+  room-reads.Asked,
+  room-reads.Learnt,
+  round-at-reads.Asked,
+  round-at-reads.Learnt,
+  coefficients-reads.Asked,
+  coefficients-reads.Learnt,
+  next-function-reads.Asked,
+  next-function-reads.Learnt,
+  rest-below t,
+  rest.Post,
+)
+
+rest-shared-slice-read-if1 : (t : ℕ) → rest-lts.Need-shared-slice-read-if1 (calls t) (rest-at t) rest.Post
+rest-shared-slice-read-if1 t c = omega arith
+
+rest-cast-if1 : (t : ℕ) → rest-lts.Need-cast-if1 (calls t) (rest-at t) rest.Post
+rest-cast-if1 t c = omega (arith, c .shared-slice-known5 .given 4)
+
+rest-last-requires : (t : ℕ) → rest-lts.Need-last-requires (calls t) (rest-at t) rest.Post
+rest-last-requires t c κs = let s = c .before .before .before .before .before .before .before in (s .pre .1 .0, (s .pre .1 .1, c .if1 .taken))
+
+rest-returns : (t : ℕ) → rest-lts.Need-returns (calls t) (rest-at t) rest.Post
+rest-returns t c = c .last .ensures
+
+rest-next-stand-requires : (t : ℕ) → rest-lts.Need-next-stand-requires (calls t) (rest-at t) rest.Post
+rest-next-stand-requires t c κs =
+    let s = c .before .before .before .before .before .before .before in
+    let a = s .args in
+    round-inside (a .w .now) (a .stand) (s .pre .1 .0 .place) (not-last (a .stand .level) (getD (a .w .now) 4 0) (s .pre .1 .0 .place .level) (c .if1 .left))
+
+rest-room-requires : (t : ℕ) → rest-lts.Need-room-requires (calls t) (rest-at t) rest.Post
+rest-room-requires t c κs = search needs
+
+rest-room-requires-2 : (t : ℕ) → rest-lts.Need-room-requires-2 (calls t) (rest-at t) rest.Post
+rest-room-requires-2 t c κs = search needs
+
+rest-slice-aggregate-round-at : (t : ℕ) → rest-lts.Need-slice-aggregate-round-at (calls t) (rest-at t) rest.Post
+rest-slice-aggregate-round-at t c = sym (c .before .before .room .ensures)
+
+rest-slice-aggregate-round-at-2 : (t : ℕ) → rest-lts.Need-slice-aggregate-round-at-2 (calls t) (rest-at t) rest.Post
+rest-slice-aggregate-round-at-2 t c = sym (c .before .before .room2 .ensures)
+
+rest-round-at-requires : (t : ℕ) → rest-lts.Need-round-at-requires (calls t) (rest-at t) rest.Post
+rest-round-at-requires t c κs =
+    let s = c .before .before .before .before .before .before .before .before .before .before .before .before in
+    let a = s .args in
+    (s .pre .1 .0, (not-last (a .stand .level) (getD (a .w .now) 4 0) (s .pre .1 .0 .place .level) (c .before .before .before .before .before .if1 .left), (c .before .before .before .room .ensures, c .before .before .room2 .ensures)))
+
+rest-enum-known-g : (t : ℕ) → rest-lts.Need-enum-known-g (calls t) (rest-at t) rest.Post
+rest-enum-known-g t c = search needs
+
+rest-enum-told : (t : ℕ) → rest-lts.Need-enum-told (calls t) (rest-at t) rest.Post
+rest-enum-told t c = search needs
+
+rest-returns-2 : (t : ℕ) → rest-lts.Need-returns-2 (calls t) (rest-at t) rest.Post
+unfolding verdictOf outcomeOf
+rest-returns-2 t c =
+    let s = c .before .before .before .before .before .before .before .before .before .before .before .before .before .before .before .before .before in
+    let a = s .args in
+    let q = c .before .before .before .before .round-at in
+    clash-ready (a .w .now) (a .pw .now) (a .xs .now) (a .cs .now) (a .stand) (a .how) (s .pre .1 .0) (not-last (a .stand .level) (getD (a .w .now) 4 0) (s .pre .1 .0 .place .level) (c .before .before .before .before .before .before .before .before .before .before .if1 .left)) (c .before .before .before .before .before .before .before .before .before .next-stand .result) (c .before .before .before .before .before .before .before .before .before .next-stand .ensures) (q .result)
+    (q .last .1 .1 .1 .1 .1 .1 .0) (q .last .1 .1 .1 .1 .1 .1 .1 .0) (c .enum-told .given .1) (q .ensures .0)
+
+rest-room-requires-3 : (t : ℕ) → rest-lts.Need-room-requires-3 (calls t) (rest-at t) rest.Post
+rest-room-requires-3 t c κs = search needs
+
+rest-shared-slice-read-coefficients : (t : ℕ) → rest-lts.Need-shared-slice-read-coefficients (calls t) (rest-at t) rest.Post
+rest-shared-slice-read-coefficients t c =
+    let s = c .before .before .before .before .before .before .before .before .before .before .before .before .before .before .before .before .before .before .before .before in
+    let a = s .args in
+    omega (arith, s .pre .1 .0 .place .sheet .long)
+
+rest-slice-aggregate-coefficients : (t : ℕ) → rest-lts.Need-slice-aggregate-coefficients (calls t) (rest-at t) rest.Post
+rest-slice-aggregate-coefficients t c = sym (c .before .before .before .before .before .before .before .before .round-at .kept .1 .1 .1 .1 .1 .1 .0 ∙ c .before .before .before .before .before .before .before .before .before .before .before .before .room .ensures)
+
+rest-slice-aggregate-coefficients-2 : (t : ℕ) → rest-lts.Need-slice-aggregate-coefficients-2 (calls t) (rest-at t) rest.Post
+rest-slice-aggregate-coefficients-2 t c = sym (c .before .before .before .before .before .before .before .before .before .round-at .kept .1 .1 .1 .1 .1 .1 .1 .0 ∙ c .before .before .before .before .before .before .before .before .before .before .before .before .room2 .ensures)
+
+rest-slice-aggregate-coefficients-3 : (t : ℕ) → rest-lts.Need-slice-aggregate-coefficients-3 (calls t) (rest-at t) rest.Post
+rest-slice-aggregate-coefficients-3 t c = sym (c .before .before .before .before .room3 .ensures)
+
+rest-coefficients-requires : (t : ℕ) → rest-lts.Need-coefficients-requires (calls t) (rest-at t) rest.Post
+rest-coefficients-requires t c κs =
+    let q = c .before .before .before .before .before .before .before .before .before .before .round-at in
+    let lx = q .kept .1 .1 .1 .1 .1 .1 .0 ∙ c .before .before .before .before .before .before .before .before .before .before .before .before .before .before .room .ensures in
+    let ly = q .kept .1 .1 .1 .1 .1 .1 .1 .0 ∙ c .before .before .before .before .before .before .before .before .before .before .before .before .before .room2 .ensures in
+    let g = c .before .before .before .before .before .before .g .given in
+    (omega (arith, lx, room-in (q .result) (g .0 .0) (g .1) (q .ensures .1)), (ly ∙ sym lx, c .before .before .before .before .room3 .ensures ∙ sym lx))
+
+rest-next-function-requires : (t : ℕ) → rest-lts.Need-next-function-requires (calls t) (rest-at t) rest.Post
+rest-next-function-requires t c κs =
+    let s = c .before .before .before .before .before .before .before .before .before .before .before .before .before .before .before .before .before .before .before .before .before .before .before .before .before in
+    let a = s .args in
+    (round-inside (a .w .now) (a .stand) (s .pre .1 .0 .place) (not-last (a .stand .level) (getD (a .w .now) 4 0) (s .pre .1 .0 .place .level) (c .before .before .before .before .before .before .before .before .before .before .before .before .before .before .before .before .before .before .if1 .left)), omega (arith, scale-small (a .w .now) (a .stand) (s .pre .1 .0 .place) (a .how .scale) (s .pre .1 .0 .scale)))
+
+rest-slice-aggregate-rest : (t : ℕ) → rest-lts.Need-slice-aggregate-rest (calls t) (rest-at t) rest.Post
+rest-slice-aggregate-rest t c = sym (c .before .before .before .before .before .before .before .before .before .before .before .before .before .before .round-at .kept .1 .1 .1 .1 .1 .1 .0 ∙ c .before .before .before .before .before .before .before .before .before .before .before .before .before .before .before .before .before .before .room .ensures)
+
+rest-slice-aggregate-rest-2 : (t : ℕ) → rest-lts.Need-slice-aggregate-rest-2 (calls t) (rest-at t) rest.Post
+rest-slice-aggregate-rest-2 t c = sym (c .before .before .before .before .coefficients .kept .1 .1 .1 .1 .0 ∙ c .before .before .before .before .before .before .before .before .before .room3 .ensures)
+
+rest-rest-requires : (t : ℕ) → rest-lts.Need-rest-requires (calls t) (rest-at t) rest.Post
+rest-rest-requires t c κs =
+    let s = c .before .before .before .before .before .before .before .before .before .before .before .before .before .before .before .before .before .before .before .before .before .before .before .before .before .before .before .before in
+    let a = s .args in
+    let q = c .before .before .before .before .before .before .before .before .before .before .before .before .before .before .before .round-at in
+    let lx = q .kept .1 .1 .1 .1 .1 .1 .0 ∙ c .before .before .before .before .before .before .before .before .before .before .before .before .before .before .before .before .before .before .before .room .ensures in
+    let ly = q .kept .1 .1 .1 .1 .1 .1 .1 .0 ∙ c .before .before .before .before .before .before .before .before .before .before .before .before .before .before .before .before .before .before .room2 .ensures in
+    let k = c .before .before .before .before .coefficients in
+    let lc = k .kept .1 .1 .1 .1 .0 ∙ c .before .before .before .before .before .before .before .before .before .room3 .ensures in
+    let g = c .before .before .before .before .before .before .before .before .before .before .before .g .given in
+    let inside : g .0 .0 ≤ length (q .last .1 .1 .1 .1 .1 .1 .0) = omega (arith, lx, room-in (q .result) (g .0 .0) (g .1) (q .ensures .1)) in
+    let more = not-last (a .stand .level) (getD (a .w .now) 4 0) (s .pre .1 .0 .place .level) (c .before .before .before .before .before .before .before .before .before .before .before .before .before .before .before .before .before .before .before .before .before .if1 .left) in
+    let up = level-next (a .w .now) (a .stand) (c .before .before .before .before .before .before .before .before .before .before .before .before .before .before .before .before .before .before .before .before .next-stand .result) (c .before .before .before .before .before .before .before .before .before .before .before .before .before .before .before .before .before .before .before .before .next-stand .ensures) in
+    (
+      omega (arith, s .pre .0, up, more, s .pre .1 .0 .place .sheet .rounds),
+      (
+        next-standing (a .w .now) (a .pw .now) (a .xs .now) (a .cs .now) (a .stand) (a .how) (s .pre .1 .0) (not-last (a .stand .level) (getD (a .w .now) 4 0) (s .pre .1 .0 .place .level) (c .before .before .before .before .before .before .before .before .before .before .before .before .before .before .before .before .before .before .before .before .before .if1 .left)) (c .before .before .before .before .before .before .before .before .before .before .before .before .before .before .before .before .before .before .before .before .next-stand .result) (c .before .before .before .before .before .before .before .before .before .before .before .before .before .before .before .before .before .before .before .before .next-stand .ensures) (q .result)
+    (g .0 .0) (c .before .before .next-function .result) (c .before .before .next-function .ensures) (q .last .1 .1 .1 .1 .1 .1 .0) (q .last .1 .1 .1 .1 .1 .1 .1 .0) (k .last .1 .1 .1 .1 .0) (g .1) (q .ensures .0) inside
+    (ly ∙ sym lx) (lc ∙ sym lx) (k .ensures),
+        next-served (a .w .now) (a .pw .now) (a .xs .now) (a .cs .now) (a .stand) (a .how) (s .pre .1 .0) (not-last (a .stand .level) (getD (a .w .now) 4 0) (s .pre .1 .0 .place .level) (c .before .before .before .before .before .before .before .before .before .before .before .before .before .before .before .before .before .before .before .before .before .if1 .left)) (c .before .before .before .before .before .before .before .before .before .before .before .before .before .before .before .before .before .before .before .before .next-stand .result) (c .before .before .before .before .before .before .before .before .before .before .before .before .before .before .before .before .before .before .before .before .next-stand .ensures) (q .result)
+    (g .0 .0) (c .before .before .next-function .result) (c .before .before .next-function .ensures) (q .last .1 .1 .1 .1 .1 .1 .0) (q .last .1 .1 .1 .1 .1 .1 .1 .0) (k .last .1 .1 .1 .1 .0) (g .1) (q .ensures .0) inside
+    (ly ∙ sym lx) (lc ∙ sym lx) (k .ensures) (s .pre .1 .1),
+      ),
+    )
+
+rest-returns-3 : (t : ℕ) → rest-lts.Need-returns-3 (calls t) (rest-at t) rest.Post
+rest-returns-3 t c =
+    let s = c .before .before .before .before .before .before .before .before .before .before .before .before .before .before .before .before .before .before .before .before .before .before .before .before .before .before .before .before .before in
+    let a = s .args in
+    let q = c .before .before .before .before .before .before .before .before .before .before .before .before .before .before .before .before .round-at in
+    let lx = q .kept .1 .1 .1 .1 .1 .1 .0 ∙ c .before .before .before .before .before .before .before .before .before .before .before .before .before .before .before .before .before .before .before .before .room .ensures in
+    let ly = q .kept .1 .1 .1 .1 .1 .1 .1 .0 ∙ c .before .before .before .before .before .before .before .before .before .before .before .before .before .before .before .before .before .before .before .room2 .ensures in
+    let k = c .before .before .before .before .before .coefficients in
+    let lc = k .kept .1 .1 .1 .1 .0 ∙ c .before .before .before .before .before .before .before .before .before .before .room3 .ensures in
+    let g = c .before .before .before .before .before .before .before .before .before .before .before .before .g .given in
+    let inside : g .0 .0 ≤ length (q .last .1 .1 .1 .1 .1 .1 .0) = omega (arith, lx, room-in (q .result) (g .0 .0) (g .1) (q .ensures .1)) in
+    next-decided (a .w .now) (a .pw .now) (a .xs .now) (a .cs .now) (a .stand) (a .how) (s .pre .1 .0) (not-last (a .stand .level) (getD (a .w .now) 4 0) (s .pre .1 .0 .place .level) (c .before .before .before .before .before .before .before .before .before .before .before .before .before .before .before .before .before .before .before .before .before .before .if1 .left)) (c .before .before .before .before .before .before .before .before .before .before .before .before .before .before .before .before .before .before .before .before .before .next-stand .result) (c .before .before .before .before .before .before .before .before .before .before .before .before .before .before .before .before .before .before .before .before .before .next-stand .ensures) (q .result)
+    (g .0 .0) (c .before .before .before .next-function .result) (c .before .before .before .next-function .ensures) (q .last .1 .1 .1 .1 .1 .1 .0) (q .last .1 .1 .1 .1 .1 .1 .1 .0) (k .last .1 .1 .1 .1 .0) (g .1) (q .ensures .0) inside
+    (ly ∙ sym lx) (lc ∙ sym lx) (k .ensures) (c .rest .ensures)
+
+pub +rest-spec : {M : Type 1} → statement M
++rest-spec = close μ-rest λ t. rest-lts.spec (calls t)
+    (rest-at t)
+    rest.Post
+    (rest-shared-slice-read-if1 t)
+    (rest-cast-if1 t)
+    (rest-last-requires t)
+    (rest-returns t)
+    (rest-next-stand-requires t)
+    (rest-room-requires t)
+    (rest-room-requires-2 t)
+    (rest-slice-aggregate-round-at t)
+    (rest-slice-aggregate-round-at-2 t)
+    (rest-round-at-requires t)
+    (rest-enum-known-g t)
+    (rest-enum-told t)
+    (rest-returns-2 t)
+    (rest-room-requires-3 t)
+    (rest-shared-slice-read-coefficients t)
+    (rest-slice-aggregate-coefficients t)
+    (rest-slice-aggregate-coefficients-2 t)
+    (rest-slice-aggregate-coefficients-3 t)
+    (rest-coefficients-requires t)
+    (rest-next-function-requires t)
+    (rest-slice-aggregate-rest t)
+    (rest-slice-aggregate-rest-2 t)
+    (rest-rest-requires t)
+    (rest-returns-3 t)

@@ -1,0 +1,227 @@
+-- What the functions hand to each other, over plain numbers and lists: what a call requires, and what it gives, in the words of the stream.
+use Prim.Native.Nat.{ℕ, _+_, _-_, _*_, _/_, _^_, _≤_, _<_}
+use native.Mathlib.Omega.{arith}
+use mathlib.Core.Path.{_≡_, refl, sym, ap, _∙_, subst}
+use mathlib.Core.List.{List, [], _++_, zipWith}
+use mathlib.Core.Option.{Option, none, some}
+use lib.ListN.{length, getD, take, drop, drop-of-length-le}
+use lib.Pow.{pow-pos}
+use lib.Seq.{length-front, length-take-le, take-at}
+use Rattle.definition.specs.Deciding.{decide, deciding, outInDomain, outTest}
+use Rattle.definition.specs.Field.{fieldOf, primeField}
+use Rattle.definition.specs.Layout.{layout, readTranscript, wordsDue}
+use Rattle.definition.specs.Lists.{firstTrue}
+use Rattle.definition.specs.Polynomial.{Sample, pair}
+use Rattle.definition.specs.Reading.{rangeTest, sheetTest}
+use Rattle.definition.specs.Sheet.{Sheet, firstLevel, rootOfUnity, sheetOf}
+use Rattle.definition.specs.Verdict.{Verdict, accepted, refuseAt, refused, thenVerdict}
+use Rattle.domain.specs.Powers.{Powers}
+use Rattle.outcome.specs.declared.Found.{Found}
+use Rattle.outcome.specs.declared.Found.the-variants.{At, Nothing}
+use Rattle.outcome.specs.Meaning.{placeOf}
+use Rattle.polynomial.specs.Newton.{newton}
+use Rattle.powers.specs.Root.{root, root-of-sheet}
+use Rattle.samples.specs.declared.Gathered.{Gathered}
+use Rattle.samples.specs.declared.Gathered.the-variants.{Clash, From}
+use Rattle.samples.specs.Samples.{Room, kept}
+use Rattle.rounds.specs.declared.Function.{Function}
+use Rattle.rounds.specs.Round.{Below, Fits}
+use Rattle.rounds.specs.RoundLaws.{Answered, Compared, Serves}
+use Rattle.deciding.specs.declared.Stand.{Stand}
+use Rattle.deciding.specs.First.{first-step, placed-first, same-powers, served-first, standing-first}
+use Rattle.deciding.specs.Inside.{final-inside, round-inside, standing-next}
+use Rattle.deciding.specs.Outs.{Scaled, outs-first, outsFrom, scaled-first}
+use Rattle.deciding.specs.Stand.{coefficientsOf, finalsOf, firstFunction, firstStand, nextFunction, nextStand, outsOf, repliesOf, shiftsOf, tableOf}
+use Rattle.deciding.specs.Standing.{Decided, Differing, Placed, Served, Sifted, Standing}
+use Rattle.deciding.specs.Steps.{clash-step, next-step, part-length, served-next}
+
+-- the first k of 16 places are k
+pub first-k : (k : ℕ) (l : List ℕ) → length l ≡ 16 → k ≤ 16 → length (take k l) ≡ k
+first-k k l e h = length-take-le k l (omega arith)
+
+pub not-last : (level last : ℕ) → level ≤ last → (level ≡ last → ⊥) → level < last
+not-last level last h d = omega arith
+
+pub scale-some : (scale level : ℕ) → scale ≡ 2 ^ level → 0 < 2 * scale
+scale-some scale level e = omega (arith, e, pow-pos level)
+
+-- ---- parts of the words, by another name
+
+module _ (w pw xs cs : List ℕ) (st : Stand) (how : Function) (table : List ℕ) (et : table ≡ tableOf w st) where
+  pub sifted-parts : (shifts outs replies : List ℕ) {v : Option (List (Sample ℕ))} → shifts ≡ shiftsOf w st → outs ≡ outsOf w st → replies ≡ repliesOf w st →
+      Answered (getD w 0 0) pw table xs cs how (getD w 3 0) (st .fold) shifts outs replies v → Sifted w pw xs cs st how v
+  sifted-parts shifts outs replies es eo er a = λ ω b f ρ fo fr fs sv.
+      a ω b f ρ (fo ∙ sym eo) (fr ∙ sym er) (fs ∙ sym es) (subst (λ (t : List ℕ). Serves (getD w 0 0) ω b f pw t xs cs how (getD w 3 0)) (sym et) sv)
+
+  pub differing-parts : (coefficients finals : List ℕ) {v : Option ℕ} → coefficients ≡ coefficientsOf w st → finals ≡ finalsOf w st →
+      Compared (getD w 0 0) pw table xs cs how (getD w 3 0) (st .fold) coefficients finals v → Differing w pw xs cs st how v
+  differing-parts coefficients finals {v} ec ef a =
+      subst (λ (t : List ℕ). Compared (getD w 0 0) pw t xs cs how (getD w 3 0) (st .fold) (coefficientsOf w st) (finalsOf w st) v) et
+      (subst (λ (t : List ℕ). Compared (getD w 0 0) pw table xs cs how (getD w 3 0) (st .fold) t (finalsOf w st) v) ec
+      (subst (λ (t : List ℕ). Compared (getD w 0 0) pw table xs cs how (getD w 3 0) (st .fold) coefficients t v) ef a))
+
+module _ (w : List ℕ) {points samples coefficients : ℕ} (st : Stand) (how : Function) (ok : Standing w points samples coefficients st how) where
+  fits-table : (table : List ℕ) → table ≡ tableOf w st → Fits points (length table) how (getD w 3 0)
+  unfolding tableOf
+  fits-table table e = subst (λ (n : ℕ). Fits points n how (getD w 3 0)) (sym (ap length e ∙ part-length w (st .table) (st .size) (ok .place .table))) (ok .fits)
+
+  pub answer-ready : st .level < getD w 4 0 → (table shifts outs replies : List ℕ) → table ≡ tableOf w st → shifts ≡ shiftsOf w st → outs ≡ outsOf w st → replies ≡ repliesOf w st →
+      Fits points (length table) how (getD w 3 0) × (Below (how .step) shifts × ((length replies ≡ length outs) × (length outs + length shifts ≤ 66)))
+  unfolding shiftsOf outsOf repliesOf
+  answer-ready more table shifts outs replies et es eo er =
+      let i = round-inside w st (ok .place) more in
+      let s = getD w 5 0 in
+      let t = getD w (6 + st .level) 0 in
+      let at = st .at + st .size / 2 in
+      let ns = ap length es ∙ part-length w (at + s + s + 2) t (i .there) in
+      let no = ap length eo ∙ part-length w at s (omega (arith, i .there)) in
+      let nr = ap length er ∙ part-length w (at + s) s (omega (arith, i .there)) in
+      (
+        fits-table table et,
+        (
+          subst (λ (n : ℕ). Below n shifts) (sym (ok .step)) (subst (λ (js : List ℕ). Below (st .size / getD w 3 0) js) (sym es) (i .below)),
+          (nr ∙ sym no, omega (arith, ns, no, i .few, ok .place .sheet .outs)),
+        ),
+      )
+
+  pub final-ready : st .level ≡ getD w 4 0 → (table finals : List ℕ) → table ≡ tableOf w st → finals ≡ finalsOf w st →
+      Fits points (length table) how (getD w 3 0) × Below (how .step) finals
+  final-ready end table finals et ef =
+      (fits-table table et, subst (λ (n : ℕ). Below n finals) (sym (ok .step)) (subst (λ (js : List ℕ). Below (st .size / getD w 3 0) js) (sym ef) (final-inside w st (ok .place) end .below)))
+
+-- ---- answers
+
+pub room-most : (n t : ℕ) (g : Gathered) → n ≡ 66 → t ≤ 66 → Room n t g → Room 66 66 g
+room-most n t Clash e h r = tt
+room-most n t (From k) e h r = (omega arith, omega arith)
+
+pub room-in : (g : Gathered) (j : ℕ) → g ≡ From j → Room 66 66 g → j ≤ 66
+room-in g j e r = let q = subst (Room 66 66) e r in q .1
+
+kept-from : (g : Gathered) (j : ℕ) (xs ys : List ℕ) → g ≡ From j → kept g xs ys ≡ some (pair (drop j xs) (drop j ys))
+unfolding kept
+kept-from g j xs ys e = ap (λ (x : Gathered). kept x xs ys) e
+
+kept-clash : (g : Gathered) (xs ys : List ℕ) → g ≡ Clash → kept g xs ys ≡ none
+unfolding kept
+kept-clash g xs ys e = ap (λ (x : Gathered). kept x xs ys) e
+
+module _ (w pw xs cs : List ℕ) (st : Stand) (how : Function) {f : Found} where
+  pub differing-at : {i : ℕ} → f ≡ At i → Differing w pw xs cs st how (placeOf f) → Differing w pw xs cs st how (some i)
+  unfolding placeOf
+  differing-at e a = λ ω b h sv. ap placeOf (sym e) ∙ a ω b h sv
+
+  pub differing-nowhere : f ≡ Nothing → Differing w pw xs cs st how (placeOf f) → Differing w pw xs cs st how none
+  unfolding placeOf
+  differing-nowhere e a = λ ω b h sv. ap placeOf (sym e) ∙ a ω b h sv
+
+-- ---- from a place to the next
+
+pub level-next : (w : List ℕ) (st next : Stand) → next ≡ nextStand w st → next .level ≡ st .level + 1
+unfolding nextStand
+level-next w st next e = ap (λ (x : Stand). x .level) e
+
+module _ (w pw xs cs : List ℕ) (st : Stand) (how : Function) (ok : Standing w (length pw) (length xs) (length cs) st how) (more : st .level < getD w 4 0)
+    (next : Stand) (en : next ≡ nextStand w st) (g : Gathered) where
+  pub clash-ready : (px py : List ℕ) → g ≡ Clash → Sifted w pw xs cs st how (kept g px py) →
+      Decided w pw xs cs st how (record { outcome = refused 8 (next .level); reads = next .reads })
+  clash-ready px py e a =
+      subst (λ (x : Stand). Decided w pw xs cs st how (record { outcome = refused 8 (x .level); reads = x .reads })) (sym en)
+      (clash-step w pw xs cs st how ok more (subst (Sifted w pw xs cs st how) (kept-clash g px py e) a))
+
+  module _ (j : ℕ) (how′ : Function) (eh : how′ ≡ nextFunction w st (how .scale) j) (px py pc : List ℕ) (ej : g ≡ From j)
+      (a : Sifted w pw xs cs st how (kept g px py)) (inside : j ≤ length px) (ly : length py ≡ length px) (lc : length pc ≡ length px)
+      (newtons : drop j pc ≡ newton (fieldOf (getD w 0 0)) (drop j px) (drop j py)) where
+    after : Standing w (length pw) (length px) (length pc) (nextStand w st) (nextFunction w st (how .scale) j)
+    after = standing-next w st how ok more (length px) (length pc) j inside (omega arith)
+
+    found : Sifted w pw xs cs st how (some (pair (drop j px) (drop j py)))
+    found = subst (Sifted w pw xs cs st how) (kept-from g j px py ej) a
+
+    pub next-standing : Standing w (length pw) (length px) (length pc) next how′
+    next-standing =
+        subst (λ (x : Stand). Standing w (length pw) (length px) (length pc) x how′) (sym en)
+        (subst (Standing w (length pw) (length px) (length pc) (nextStand w st)) (sym eh) after)
+
+    pub next-served : Served w pw xs cs st how → Served w pw px pc next how′
+    next-served s =
+        subst (λ (x : Stand). Served w pw px pc x how′) (sym en)
+        (subst (Served w pw px pc (nextStand w st)) (sym eh) (served-next w pw xs cs st how ok more px py pc j after ly found newtons s))
+
+    pub next-decided : {v : Verdict} → Decided w pw px pc next how′ v → Decided w pw xs cs st how v
+    next-decided {v} d =
+        next-step w pw xs cs st how ok more px py pc j after ly found newtons
+        (subst (λ (x : Function). Decided w pw px pc (nextStand w st) x v) eh (subst (λ (x : Stand). Decided w pw px pc x how′ v) en d))
+
+-- ---- before round 1
+
+module _ (w pw xs : List ℕ) (passed : sheetTest w ≡ accepted) (ranged : rangeTest (sheetOf w) w ≡ accepted) (due : wordsDue (sheetOf w) ≤ length w)
+    (points : Powers (getD w 0 0) (rootOfUnity (sheetOf w)) pw) (size : length pw ≡ getD w 1 0) (none : length xs ≡ 66)
+    (st : Stand) (es : st ≡ firstStand w) (how : Function) (eh : how ≡ firstFunction w 66) where
+  empty : drop 66 xs ≡ []
+  empty = drop-of-length-le xs {i = 66} (omega arith)
+
+  pub first-standing : Standing w (length pw) (length xs) (length xs) st how
+  first-standing =
+      subst (λ (x : Stand). Standing w (length pw) (length xs) (length xs) x how) (sym es)
+      (subst (Standing w (length pw) (length xs) (length xs) (firstStand w)) (sym eh)
+      (standing-first w passed due ranged (length pw) (length xs) (length xs) 66 size (omega arith) (omega arith)))
+
+  pub first-served : Served w pw xs xs st how
+  first-served =
+      subst (λ (x : Stand). Served w pw xs xs x how) (sym es)
+      (subst (Served w pw xs xs (firstStand w)) (sym eh) (served-first w passed due pw xs xs 66 (same-powers points) empty))
+
+  pub first-decided : {v : Verdict} → Decided w pw xs xs st how v →
+      v ≡ decide (primeField (sheetOf w .prime)) (rootOfUnity (sheetOf w)) (firstLevel (sheetOf w)) (readTranscript (sheetOf w) (drop 12 w))
+  first-decided {v} d =
+      first-step w passed due pw xs xs 66 (same-powers points) empty
+      (subst (λ (x : Function). Decided w pw xs xs (firstStand w) x v) eh (subst (λ (x : Stand). Decided w pw xs xs x how v) es d))
+
+module _ (w pw : List ℕ) (passed : sheetTest w ≡ accepted) (ranged : rangeTest (sheetOf w) w ≡ accepted) (due : wordsDue (sheetOf w) ≤ length w)
+    (size : length pw ≡ getD w 1 0) (st : Stand) (es : st ≡ firstStand w) where
+  pub placed-start : Placed w st
+  placed-start = subst (Placed w) (sym es) (placed-first w passed due ranged)
+
+  pub scaled-start : Scaled (length pw) st 1
+  scaled-start = subst (λ (x : Stand). Scaled (length pw) x 1) (sym es) (scaled-first (length pw) w size)
+
+  pub outs-start : {v : Option ℕ} → v ≡ outsFrom w st → v ≡ firstTrue 12 (zipWith (outInDomain (sheetOf w)) (layout (sheetOf w)) (drop 12 w))
+  outs-start h = h ∙ ap (outsFrom w) es ∙ outs-first w passed due ranged
+
+-- ---- refusal 7, then the rest
+
+module _ (w : List ℕ) (f : Found) (first : placeOf f ≡ firstTrue 12 (zipWith (outInDomain (sheetOf w)) (layout (sheetOf w)) (drop 12 w))) where
+  by-place : (o : Option ℕ) → placeOf f ≡ o →
+      deciding w ≡ thenVerdict (refuseAt 7 o) (decide (primeField (sheetOf w .prime)) (rootOfUnity (sheetOf w)) (firstLevel (sheetOf w)) (readTranscript (sheetOf w) (drop 12 w)))
+  unfolding deciding outTest
+  by-place o e =
+      ap (λ (x : Option ℕ). thenVerdict (refuseAt 7 x) (decide (primeField (sheetOf w .prime)) (rootOfUnity (sheetOf w)) (firstLevel (sheetOf w)) (readTranscript (sheetOf w) (drop 12 w))))
+      (sym first ∙ e)
+
+  pub out-refused : {i : ℕ} → f ≡ At i → record { outcome = refused 7 i; reads = 0 } ≡ deciding w
+  unfolding placeOf thenVerdict refuseAt
+  out-refused {i} e = sym (by-place (some i) (ap placeOf e))
+
+  pub out-passed : {v : Verdict} → f ≡ Nothing →
+      v ≡ decide (primeField (sheetOf w .prime)) (rootOfUnity (sheetOf w)) (firstLevel (sheetOf w)) (readTranscript (sheetOf w) (drop 12 w)) → v ≡ deciding w
+  unfolding placeOf thenVerdict refuseAt
+  out-passed e h = h ∙ sym (by-place none (ap placeOf e))
+
+-- ---- the table of points, in the first places of a larger list
+
+pub first-places : (n : ℕ) (l whole : List ℕ) → length l ≡ length (take n whole) → n ≤ length whole → take n (l ++ drop n whole) ≡ l
+first-places n l whole e h = take-at l (drop n whole) n (e ∙ length-take-le n whole h)
+
+pub still-within : (n : ℕ) (l whole : List ℕ) → length l ≡ length (take n whole) → n ≤ length whole → n ≤ length (l ++ drop n whole)
+still-within n l whole e h = omega (arith, length-front whole l n e)
+
+pub points-there : (w l whole : List ℕ) → length l ≡ length (take (getD w 1 0) whole) → getD w 1 0 ≤ length whole → Powers (getD w 0 0) (root (getD w 0 0) (getD w 1 0)) l →
+    Powers (getD w 0 0) (rootOfUnity (sheetOf w)) (take (getD w 1 0) (l ++ drop (getD w 1 0) whole)) × (length (take (getD w 1 0) (l ++ drop (getD w 1 0) whole)) ≡ getD w 1 0)
+points-there w l whole e h p =
+    let n = getD w 1 0 in
+    let t = first-places n l whole e h in
+    (
+      subst (Powers (getD w 0 0) (rootOfUnity (sheetOf w))) (sym t) (subst (λ (ω : ℕ). Powers (getD w 0 0) ω l) (sym (root-of-sheet w)) p),
+      ap length t ∙ e ∙ length-take-le n whole h,
+    )

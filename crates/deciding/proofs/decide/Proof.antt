@@ -1,0 +1,55 @@
+-- `deciding::decide` meets its contract. Assumes nothing.
+use Rattle.deciding.specs.First.{first-room, shaped}
+use Rattle.deciding.proofs.Ready.{first-decided, first-served, first-standing}
+use borrow.Author.Needs.{needs}
+use Rattle.deciding.proofs.decide.Statement.{statement}
+use Rattle.deciding.proofs.decide.Tie as tie
+
+room-requires : tie.Need-room-requires
+room-requires c κs = search needs
+
+first-stand-requires : tie.Need-first-stand-requires
+first-stand-requires c κs =
+    let s = c .before .before .before in
+    let w = s .args .w .now in
+    (shaped w (s .pre .0 .0) (s .pre .1 .0), first-room w (s .pre .0 .0) (s .pre .1 .0) (s .pre .0 .1))
+
+first-function-requires : tie.Need-first-function-requires
+first-function-requires c κs = let s = c .before .before .before .before in shaped (s .args .w .now) (s .pre .0 .0) (s .pre .1 .0)
+
+slice-aggregate-rest : tie.Need-slice-aggregate-rest
+slice-aggregate-rest c = search needs
+
+slice-aggregate-rest-2 : tie.Need-slice-aggregate-rest-2
+slice-aggregate-rest-2 c = search needs
+
+rest-requires : tie.Need-rest-requires
+rest-requires c κs =
+    let s = c .before .before .before .before .before .before .before in
+    let a = s .args in
+    (
+      first-standing (a .w .now) (a .pw .now) (c .before .before .before .before .room .result) (s .pre .0 .0) (s .pre .0 .1) (s .pre .1 .0) (s .pre .1 .1 .0) (s .pre .1 .1 .1) (c .before .before .before .before .room .ensures)
+    (c .before .before .before .first-stand .result) (c .before .before .before .first-stand .ensures) (c .before .before .first-function .result) (c .before .before .first-function .ensures),
+      first-served (a .w .now) (a .pw .now) (c .before .before .before .before .room .result) (s .pre .0 .0) (s .pre .0 .1) (s .pre .1 .0) (s .pre .1 .1 .0) (s .pre .1 .1 .1) (c .before .before .before .before .room .ensures)
+    (c .before .before .before .first-stand .result) (c .before .before .before .first-stand .ensures) (c .before .before .first-function .result) (c .before .before .first-function .ensures),
+    )
+
+returns : tie.Need-returns
+returns c =
+    let s = c .before .before .before .before .before .before .before .before in
+    let a = s .args in
+    first-decided (a .w .now) (a .pw .now) (c .before .before .before .before .before .room .result) (s .pre .0 .0) (s .pre .0 .1) (s .pre .1 .0) (s .pre .1 .1 .0) (s .pre .1 .1 .1) (c .before .before .before .before .before .room .ensures)
+    (c .before .before .before .before .first-stand .result) (c .before .before .before .before .first-stand .ensures) (c .before .before .before .first-function .result) (c .before .before .before .first-function .ensures)
+    (c .rest .ensures)
+
+pub decide-spec : {M : Type 1} → statement M
+decide-spec =
+    tie.close
+    (tie.spec
+    room-requires
+    first-stand-requires
+    first-function-requires
+    slice-aggregate-rest
+    slice-aggregate-rest-2
+    rest-requires
+    returns)

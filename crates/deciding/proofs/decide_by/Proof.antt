@@ -1,0 +1,34 @@
+-- `deciding::decide_by` meets its contract. Assumes nothing.
+use Rattle.outcome.specs.Meaning.{outcomeOf, verdictOf}
+use Rattle.deciding.proofs.Ready.{out-passed, out-refused}
+use borrow.Author.Needs.{needs}
+use Rattle.deciding.proofs.decide_by.Statement.{statement}
+use Rattle.deciding.proofs.decide_by.Tie as tie
+
+out-in-domain-requires : tie.Need-out-in-domain-requires
+out-in-domain-requires c κs = search needs
+
+enum-known-f : tie.Need-enum-known-f
+enum-known-f c = search needs
+
+returns : tie.Need-returns
+unfolding verdictOf outcomeOf
+returns c =
+    let q = c .before .before .before .out-in-domain in
+    out-refused (c .before .before .before .before .before .before .args .w .now) (q .result) (q .ensures) (c .before .f .given .1)
+
+enum-told : tie.Need-enum-told
+enum-told c = search needs
+
+decide-requires : tie.Need-decide-requires
+decide-requires c κs = search needs
+
+returns-2 : tie.Need-returns-2
+returns-2 c =
+    let q = c .before .before .before .out-in-domain in
+    out-passed (c .before .before .before .before .before .before .args .w .now) (q .result) (q .ensures) (c .before .enum-told .given .1) (c .decide .ensures)
+
+pub decide-by-spec : {M : Type 1} → statement M
+decide-by-spec =
+    tie.close
+    (tie.spec out-in-domain-requires enum-known-f returns enum-told decide-requires returns-2)

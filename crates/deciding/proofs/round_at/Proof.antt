@@ -1,0 +1,135 @@
+-- `deciding::round_at` meets its contract. Assumes nothing.
+use Prim.Native.Nat.{_+_}
+use native.Mathlib.Omega.{arith}
+use lib.ListN.{length}
+use Rattle.deciding.specs.Inside.{round-inside}
+use Rattle.deciding.specs.Stand.{outsOf, repliesOf, shiftsOf, tableOf}
+use Rattle.deciding.proofs.Ready.{answer-ready, room-most, sifted-parts}
+use borrow.Author.Needs.{needs}
+use Rattle.deciding.proofs.round_at.Statement.{statement}
+use Rattle.deciding.proofs.round_at.Tie as tie
+
+shared-slice-read-s : tie.Need-shared-slice-read-s
+shared-slice-read-s c = search needs
+
+cast-s : tie.Need-cast-s
+cast-s c = search needs
+
+add-t : tie.Need-add-t
+add-t c = search needs
+
+mul-t : tie.Need-mul-t
+mul-t c = search needs
+
+shared-slice-read-t : tie.Need-shared-slice-read-t
+shared-slice-read-t c = search needs
+
+cast-t : tie.Need-cast-t
+cast-t c = omega (arith, c .shared-slice-known6 .given (6 + c .before .before .before .before .before .before .before .before .before .args .stand .level))
+
+add-outs : tie.Need-add-outs
+add-outs c = search needs
+
+add-replies : tie.Need-add-replies
+add-replies c = search needs
+
+shared-slice-read-answer : tie.Need-shared-slice-read-answer
+shared-slice-read-answer c = search needs
+
+part-requires : tie.Need-part-requires
+part-requires c κs = search needs
+
+shared-slice-read-answer-2 : tie.Need-shared-slice-read-answer-2
+shared-slice-read-answer-2 c = search needs
+
+cast-answer : tie.Need-cast-answer
+cast-answer c = search needs
+
+add-part : tie.Need-add-part
+add-part c = search needs
+
+add-part-2 : tie.Need-add-part-2
+add-part-2 c = search needs
+
+part-requires-2 : tie.Need-part-requires-2
+part-requires-2 c κs = 
+    let s = c .before .before .before .before .before .before .before .before .before .before .before .before .before .before in
+    let i = round-inside (s .args .w .now) (s .args .stand) (s .pre .0 .place) (s .pre .1 .0) in
+    omega (arith, i .there)
+
+part-requires-3 : tie.Need-part-requires-3
+part-requires-3 c κs = 
+    let s = c .before .before .before .before .before .before .before .before .before .before .before .before .before .before .before in
+    let i = round-inside (s .args .w .now) (s .args .stand) (s .pre .0 .place) (s .pre .1 .0) in
+    omega (arith, i .there)
+
+part-requires-4 : tie.Need-part-requires-4
+part-requires-4 c κs = 
+    let s = c .before .before .before .before .before .before .before .before .before .before .before .before .before .before .before .before in
+    let i = round-inside (s .args .w .now) (s .args .stand) (s .pre .0 .place) (s .pre .1 .0) in
+    omega (arith, i .there)
+
+answer-requires : tie.Need-answer-requires
+unfolding tableOf shiftsOf outsOf repliesOf
+answer-requires c κs = 
+    let s = c .before .before .before .before .before .before .before .before .before .before .before .before .before .before .before .before .before .before .before in
+    let a = s .args in
+    let ok = s .pre .0 in
+    let p₁ = c .before .before .before .before .before .before .part in
+    let p₂ = c .before .before .before .before .part2 in
+    let p₃ = c .before .before .before .part3 in
+    let p₄ = c .before .before .part4 in
+    let r = answer-ready (a .w .now) (a .stand) (a .how) ok (s .pre .1 .0) (p₁ .result .now) (p₂ .result .now) (p₃ .result .now) (p₄ .result .now)
+    (p₁ .ensures) (p₂ .ensures) (p₃ .ensures) (p₄ .ensures) in
+    ((ok .from, ok .enough), (r .0, (r .1 .0, (omega (arith, s .pre .1 .1), (r .1 .1 .0, omega (arith, s .pre .1 .1, r .1 .1 .1))))))
+
+same-length : tie.Need-same-length
+same-length c = search needs
+
+same-length-2 : tie.Need-same-length-2
+same-length-2 c = search needs
+
+returns : tie.Need-returns
+unfolding tableOf shiftsOf outsOf repliesOf
+returns c = 
+    let s = c .before .before .before .before .before .before .before .before .before .before .before .before .before .before .before .before .before .before .before .before .before .before .before .before in
+    let a = s .args in
+    let ok = s .pre .0 in
+    let p₁ = c .before .before .before .before .before .before .before .before .before .before .before .part in
+    let p₂ = c .before .before .before .before .before .before .before .before .before .part2 in
+    let p₃ = c .before .before .before .before .before .before .before .before .part3 in
+    let p₄ = c .before .before .before .before .before .before .before .part4 in
+    let q = c .before .before .before .before .answer in
+    let r = answer-ready (a .w .now) (a .stand) (a .how) ok (s .pre .1 .0) (p₁ .result .now) (p₂ .result .now) (p₃ .result .now) (p₄ .result .now)
+    (p₁ .ensures) (p₂ .ensures) (p₃ .ensures) (p₄ .ensures) in
+    (
+      sifted-parts (a .w .now) (a .pw .now) (a .xs .now) (a .cs .now) (a .stand) (a .how) (p₁ .result .now) (p₁ .ensures)
+          (p₂ .result .now) (p₃ .result .now) (p₄ .result .now) (p₂ .ensures) (p₃ .ensures) (p₄ .ensures) (q .ensures .0),
+      room-most (length (a .px .now)) (length (p₃ .result .now) + length (p₂ .result .now)) (q .result) (s .pre .1 .1 .0) (r .1 .1 .1) (q .ensures .1),
+    )
+
+pub round-at-spec : {M : Type 1} → statement M
+round-at-spec =
+    tie.close
+    (tie.spec
+    shared-slice-read-s
+    cast-s
+    add-t
+    mul-t
+    shared-slice-read-t
+    cast-t
+    add-outs
+    add-replies
+    shared-slice-read-answer
+    part-requires
+    shared-slice-read-answer-2
+    cast-answer
+    add-part
+    add-part-2
+    part-requires-2
+    part-requires-3
+    part-requires-4
+    answer-requires
+    same-length
+    same-length-2
+    returns)

@@ -1,0 +1,61 @@
+-- Words that begin with given kinds, in range, whatever follows them.
+use Prim.Native.Nat.{ℕ, zero, suc, _+_, _≤_, _<_}
+use native.Mathlib.Omega.{arith}
+use mathlib.Core.Path.{_≡_, refl, ap, subst}
+use mathlib.Core.Bool.{Bool, true, false}
+use mathlib.Core.List.{List, [], _∷_, _++_, zipWith}
+use mathlib.Core.Option.{Option, none, some}
+use lib.Dec.{leb}
+use lib.ListN.{length, getD, take, drop, replicate}
+use borrow.Author.Tests.{leb-false}
+use Rattle.algebra.specs.ListFacts.{All}
+use Rattle.definition.specs.Layout.{Kind, limit}
+use Rattle.definition.specs.Lists.{firstTrue}
+use Rattle.definition.specs.Reading.{outOfRange}
+use Rattle.definition.specs.Sheet.{Sheet}
+
+-- the words begin with one word below its limit for each kind
+abbrev pub Begins : ℕ → List Kind → List ℕ → Type 0
+Begins p [] w = Unit {0}
+Begins p (k ∷ ks) [] = ⊥
+Begins p (k ∷ ks) (x ∷ w) = (x < limit p k) × Begins p ks w
+
+pub begins-long : (p : ℕ) (ks : List Kind) (w : List ℕ) → Begins p ks w → length ks ≤ length w
+begins-long p [] w h = omega arith
+begins-long p (k ∷ ks) [] h = absurd h
+begins-long p (k ∷ ks) (x ∷ w) h = omega (arith, begins-long p ks w (h .1))
+
+pub begins-after : (p n : ℕ) (ks ks′ : List Kind) (w : List ℕ) → length ks ≡ n → Begins p (ks ++ ks′) w → Begins p ks′ (drop n w)
+begins-after p n ks ks′ w e h = subst (λ (m : ℕ). Begins p ks′ (drop m w)) e (go ks w h)
+  where
+    go : (ks : List Kind) (w : List ℕ) → Begins p (ks ++ ks′) w → Begins p ks′ (drop (length ks) w)
+    go [] w h = h
+    go (k ∷ ks) [] h = absurd h
+    go (k ∷ ks) (x ∷ w) h = go ks w (h .1)
+
+pub begins-front : (p : ℕ) (ks ks′ : List Kind) (w : List ℕ) → Begins p (ks ++ ks′) w → Begins p ks w
+begins-front p [] ks′ w h = tt
+begins-front p (k ∷ ks) ks′ [] h = absurd h
+begins-front p (k ∷ ks) ks′ (x ∷ w) h = (h .0, begins-front p ks ks′ w (h .1))
+
+pub begins-tail : (p : ℕ) (k : Kind) (ks : List Kind) (w : List ℕ) → Begins p (k ∷ ks) w → Begins p ks (drop 1 w)
+begins-tail p k ks [] h = absurd h
+begins-tail p k ks (x ∷ w) h = h .1
+
+-- a run of one kind
+pub begins-run : (p n : ℕ) (k : Kind) (w : List ℕ) → Begins p (replicate n k) w → All (λ x. x < limit p k) (take n w)
+begins-run p zero k w h = tt
+begins-run p (suc n) k [] h = absurd h
+begins-run p (suc n) k (x ∷ w) h = (h .0, begins-run p n k w (h .1))
+
+-- the test of ranges finds nothing
+pub begins-tested : (h : Sheet) (from : ℕ) (ks : List Kind) (w : List ℕ) → length ks ≤ length w → firstTrue from (zipWith (outOfRange h) ks w) ≡ none → Begins (h .prime) ks w
+unfolding zipWith firstTrue outOfRange
+begins-tested h from [] w l e = tt
+begins-tested h from (k ∷ ks) [] l e = absurd (omega arith)
+begins-tested h from (k ∷ ks) (x ∷ w) l e = go (leb (limit (h .prime) k) x) refl e (begins-tested h (suc from) ks w (omega arith))
+  where
+    go : (b : Bool) → leb (limit (h .prime) k) x ≡ b → firstTrue from (b ∷ zipWith (outOfRange h) ks w) ≡ none →
+        (firstTrue (suc from) (zipWith (outOfRange h) ks w) ≡ none → Begins (h .prime) ks w) → (x < limit (h .prime) k) × Begins (h .prime) ks w
+    go true q f r = let z : _≡_ {A = ℕ} 0 1 = cc in absurd (omega arith)
+    go false q f r = (leb-false (limit (h .prime) k) x q, r f)

@@ -1,0 +1,160 @@
+-- Before round 1: what the tests of reading say of the first place, and that the verdict from there on is the definition's.
+use Prim.Native.Nat.{ℕ, suc, _+_, _-_, _*_, _/_, _^_, _≤_, _<_}
+use native.Mathlib.Nat.{mul-div-le}
+use native.Mathlib.Omega.{arith}
+use mathlib.Core.Path.{_≡_, refl, sym, ap, _∙_, subst}
+use mathlib.Core.Bool.{Bool, _&&_}
+use mathlib.Core.List.{List, [], _∷_, _++_, tail, zipWith}
+use lib.Dec.{leb}
+use lib.ListN.{length, getD, take, drop, replicate, length-append, length-drop, length-replicate}
+use lib.Seq.{drop-cons, drop-drop, getD-drop}
+use borrow.Author.Tests.{leb-true}
+use Rattle.completeness.specs.SheetRules.{between-true, exponents, rules-hold, small-repetitions}
+use Rattle.completeness.specs.Tests.{and-true, at-passes}
+use Rattle.definition.specs.Deciding.{Function, decide, decideRest, ownPlace, readsOf, tableFunction}
+use Rattle.definition.specs.Field.{fieldOf, primeField, primeOf}
+use Rattle.definition.specs.Layout.{Kind, coin, layout, message, readRest, readTranscript, restLayout, wordsDue}
+use Rattle.definition.specs.Lists.{firstTrue}
+use Rattle.definition.specs.Reading.{outOfRange, rangeTest, sheetTest}
+use Rattle.definition.specs.Sheet.{Level, between, degreeRule, firstLevel, foldRule, laterLevels, levelsFrom, outCoinsRule, powerOfTwo, roundsRule, rootOfUnity, sheetOf, sheetRules, shiftCount, sizeRule}
+use Rattle.definition.specs.Transcript.{Rest}
+use Rattle.definition.specs.Verdict.{Verdict, accepted}
+use Rattle.domain.specs.Powers as domain
+use Rattle.rounds.specs.NextRound.{serves-first}
+use Rattle.rounds.specs.Powers.{Powers}
+use Rattle.rounds.specs.Round.{Fits}
+use Rattle.rounds.specs.RoundLaws.{Serves}
+use Rattle.deciding.specs.Begins.{Begins, begins-after, begins-long, begins-tail, begins-tested}
+use Rattle.deciding.specs.Stand.{firstFunction, firstStand, levelOf, levelsOf, restOf, tableOf}
+use Rattle.deciding.specs.Standing.{Decided, Placed, Served, Shaped, Standing}
+
+-- a table of points, as the two crates below say it
+pub same-powers : {field ω : ℕ} {pw : List ℕ} → domain.Powers field ω pw → Powers field ω pw
+same-powers p = record { entry = p .entry; round = p .round }
+
+module _ (w : List ℕ) (passed : sheetTest w ≡ accepted) (due : wordsDue (sheetOf w) ≤ length w) where
+  pub shaped : Shaped w
+  unfolding wordsDue sheetRules sizeRule foldRule roundsRule outCoinsRule
+  shaped =
+      let h = rules-hold w passed in
+      let n = getD w 1 0 in
+      let k = getD w 3 0 in
+      let n₁ = between-true 4 4096 n (and-true (powerOfTwo n) _ (and-true (powerOfTwo n && between 4 4096 n) _ (h .1 .0) .0) .1) in
+      let k₁ = between-true 2 16 k (and-true (powerOfTwo k) _ (and-true (powerOfTwo k && between 2 16 k) _ (h .1 .1 .1 .0) .0) .1) in
+      let m₁ = and-true (leb (getD w 4 0) 5) (leb (k ^ suc (getD w 4 0)) (getD w 2 0)) (h .1 .1 .1 .1 .0) in
+      let s₁ = between-true 1 2 (getD w 5 0) (h .1 .1 .1 .1 .1 .0) in
+      record {
+        long = omega arith;
+        least = n₁ .0;
+        size = n₁ .1;
+        fold = k₁ .0;
+        folds = k₁ .1;
+        rounds = leb-true (getD w 4 0) 5 (m₁ .0);
+        out = s₁ .0;
+        outs = s₁ .1;
+        repetitions = small-repetitions w passed;
+      }
+
+  -- the field has a domain of the sheet's size
+  pub fitting : domain.Fitting (getD w 0 0) (getD w 1 0)
+  fitting =
+      let x = exponents w passed in
+      record { log = suc (x .a); two = x .size; least = shaped .least; most = shaped .size; divides = x .divides }
+
+  -- the sheet's levels are those of the first place
+  pub first-level : firstLevel (sheetOf w) ≡ levelOf w (firstStand w)
+  unfolding sheetOf firstLevel levelOf firstStand
+  first-level = rw (drop-cons w 6 0 (omega (arith, shaped .long)))
+
+  pub later-levels : laterLevels (sheetOf w) ≡ levelsOf w (firstStand w)
+  unfolding sheetOf laterLevels levelsOf firstStand
+  later-levels = let e : getD w 4 0 - 0 ≡ getD w 4 0 = omega arith in rw (e, drop-cons w 6 0 (omega (arith, shaped .long)))
+
+  first-words : drop 1 (drop (getD w 1 0) (drop 12 w)) ≡ drop (12 + getD w 1 0 + 1) w
+  first-words = ap (drop 1) (drop-drop (getD w 1 0) 12 w) ∙ drop-drop 1 (12 + getD w 1 0) w
+
+  first-fold : getD (drop (getD w 1 0) (drop 12 w)) 0 0 ≡ getD w (12 + getD w 1 0) 0
+  first-fold =
+      let e : 12 + getD w 1 0 + 0 ≡ 12 + getD w 1 0 = omega arith in
+      ap (λ (l : List ℕ). getD l 0 0) (drop-drop (getD w 1 0) 12 w) ∙ getD-drop (12 + getD w 1 0) w 0 0 ∙ ap (λ (m : ℕ). getD w m 0) e
+
+  -- the layout's words are there and in range
+  module _ (ranged : rangeTest (sheetOf w) w ≡ accepted) where
+    first-begins : Begins (primeOf (getD w 0 0)) (restLayout (getD w 5 0) (levelOf w (firstStand w)) (levelsOf w (firstStand w))) (drop (12 + getD w 1 0 + 1) w)
+    unfolding rangeTest wordsDue layout sheetOf
+    first-begins =
+        let h = sheetOf w in
+        let p = primeOf (getD w 0 0) in
+        let n = getD w 1 0 in
+        let rest = restLayout (getD w 5 0) (firstLevel h) (laterLevels h) in
+        let e = at-passes 5 (firstTrue 12 (zipWith (outOfRange h) (layout h) (drop 12 w))) ranged in
+        let b = begins-tested h 12 (layout h) (drop 12 w) (omega (arith, length-drop 12 w)) e in
+        let r = begins-tail p coin rest (drop n (drop 12 w)) (begins-after p n (replicate n message) (coin ∷ rest) (drop 12 w) (length-replicate n message) b) in
+        subst (λ (l : List ℕ). Begins p (restLayout (getD w 5 0) (levelOf w (firstStand w)) (levelsOf w (firstStand w))) l) first-words
+        (subst (λ (ls : List Level). Begins p (restLayout (getD w 5 0) (levelOf w (firstStand w)) ls) (drop 1 (drop n (drop 12 w)))) later-levels
+        (subst (λ (b : Level). Begins p (restLayout (getD w 5 0) b (laterLevels h)) (drop 1 (drop n (drop 12 w)))) first-level r))
+
+    pub first-room : 12 + getD w 1 0 + 1 ≤ length w
+    unfolding wordsDue layout sheetOf
+    first-room =
+        let h = sheetOf w in
+        omega (arith, length-append (replicate (getD w 1 0) message) (coin ∷ restLayout (getD w 5 0) (firstLevel h) (laterLevels h)), length-replicate (getD w 1 0) message)
+
+    first-fits : (from : ℕ) → Fits (getD w 1 0) (getD w 1 0) (firstFunction w from) (getD w 3 0)
+    unfolding firstFunction
+    first-fits from =
+        let s = shaped in
+        record {
+          folded = omega arith;
+          few = s .folds;
+          spaced = omega arith;
+          roots = mul-div-le (getD w 1 0) (getD w 3 0);
+          room = omega arith;
+          small = s .size;
+        }
+
+    pub placed-first : Placed w (firstStand w)
+    unfolding firstStand
+    placed-first = record {
+      sheet = shaped;
+      level = omega arith;
+      table = omega (arith, first-room);
+      here = first-room;
+      words = first-begins;
+      reads = omega arith;
+    }
+
+    pub standing-first : (points samples coefficients from : ℕ) → points ≡ getD w 1 0 → from ≤ samples → samples ≤ coefficients →
+        Standing w points samples coefficients (firstStand w) (firstFunction w from)
+    unfolding firstStand firstFunction
+    standing-first points samples coefficients from e h g = record {
+      place = placed-first;
+      fits = subst (λ (n : ℕ). Fits n (getD w 1 0) (firstFunction w from) (getD w 3 0)) (sym e) (first-fits from);
+      from = h;
+      enough = g;
+      scale = refl;
+      step = refl;
+    }
+
+  first-serves : (pw xs cs : List ℕ) (from : ℕ) → Powers (getD w 0 0) (rootOfUnity (sheetOf w)) pw → drop from xs ≡ [] →
+      Serves (getD w 0 0) (rootOfUnity (sheetOf w)) (levelOf w (firstStand w))
+      (tableFunction (fieldOf (getD w 0 0)) (rootOfUnity (sheetOf w)) (levelOf w (firstStand w)) (tableOf w (firstStand w)) .value) pw (tableOf w (firstStand w)) xs cs (firstFunction w from) (getD w 3 0)
+  unfolding firstFunction firstStand levelOf shiftCount
+  first-serves pw xs cs from p e =
+      serves-first (getD w 0 0) (rootOfUnity (sheetOf w)) (levelOf w (firstStand w)) pw (tableOf w (firstStand w)) xs cs (firstFunction w from) (getD w 3 0) p refl refl refl e
+
+  pub served-first : (pw xs cs : List ℕ) (from : ℕ) → Powers (getD w 0 0) (rootOfUnity (sheetOf w)) pw → drop from xs ≡ [] → Served w pw xs cs (firstStand w) (firstFunction w from)
+  served-first pw xs cs from p e = record { ω = _; f = _; serves = first-serves pw xs cs from p e }
+
+  -- the definition's deciding is that from the first place on
+  pub first-step : (pw xs cs : List ℕ) (from : ℕ) {v : Verdict} → Powers (getD w 0 0) (rootOfUnity (sheetOf w)) pw → drop from xs ≡ [] →
+      Decided w pw xs cs (firstStand w) (firstFunction w from) v →
+      v ≡ decide (primeField (sheetOf w .prime)) (rootOfUnity (sheetOf w)) (firstLevel (sheetOf w)) (readTranscript (sheetOf w) (drop 12 w))
+  unfolding decide readTranscript sheetOf fieldOf tableFunction restOf firstStand tableOf readsOf
+  first-step pw xs cs from p e d =
+      let ω = rootOfUnity (sheetOf w) in
+      let F = fieldOf (getD w 0 0) in
+      let n = getD w 1 0 in
+      d ω _ [] (first-serves pw xs cs from p e) refl
+      ∙ (λ i. decideRest F ω (sym first-level i) (tableFunction F ω (sym first-level i) (take n (drop 12 w))) (sym first-fold i) []
+      (readRest (getD w 5 0) (sym first-level i) (sym later-levels i) (sym first-words i)))

@@ -1,0 +1,195 @@
+-- One step of the definition's deciding from a place: a clash, a round and what follows it, and the final comparison.
+use Prim.Native.Nat.{ℕ, suc, _+_, _-_, _*_, _/_, _^_, _≤_, _<_}
+use native.Mathlib.Numerals.{add-one}
+use native.Mathlib.Omega.{arith}
+use mathlib.Core.Path.{_≡_, refl, sym, ap, _∙_, subst}
+use mathlib.Core.Bool.{Bool, true, false, not}
+use mathlib.Core.List.{List, [], _∷_, _++_}
+use mathlib.Core.Option.{Option, none, some}
+use lib.ListN.{length, getD, take, drop, length-drop, length-map}
+use lib.Seq.{length-take-le}
+use Rattle.definition.specs.Deciding as definition
+use Rattle.definition.specs.Deciding.{Function, Place, answers, decideFinal, decideRest, differences, ownPlace, placesOf, readsOf, treated}
+use Rattle.definition.specs.Domain.{foldAt, shiftPoint}
+use Rattle.definition.specs.Field.{Field, fieldOf}
+use Rattle.definition.specs.Lists.{firstTrue}
+use Rattle.definition.specs.Polynomial.{Sample, clash, distinct, evaluate, pair}
+use Rattle.definition.specs.Sheet.{Level, shiftCount}
+use Rattle.definition.specs.Transcript.{Rest, Round, final, round}
+use Rattle.definition.specs.Verdict.{Verdict, accepted, refuseAt, refused}
+use Rattle.polynomial.specs.Newton.{newton}
+use Rattle.samples.specs.SampleLaws.{sifted-none, sifted-some}
+use Rattle.rounds.specs.declared.Function as how
+use Rattle.rounds.specs.NextRound.{answers-some, sampled, serves-next}
+use Rattle.rounds.specs.Reads.{reads-add, reads-all, reads-are, reads-until}
+use Rattle.rounds.specs.Round.{Fits}
+use Rattle.rounds.specs.RoundLaws.{Serves}
+use Rattle.deciding.specs.declared.Stand.{Stand}
+use Rattle.deciding.specs.Inside.{final-inside, round-inside}
+use Rattle.deciding.specs.Stand.{coefficientsOf, finalsOf, levelOf, nextFunction, nextStand, outsOf, repetitionsOf, repliesOf, restOf, roundOf, shiftsOf, tableOf}
+use Rattle.deciding.specs.Standing.{Decided, Differing, Served, Sifted, Standing}
+use Rattle.deciding.specs.Words.{rest-end, rest-next}
+
+-- ---- the definition's steps
+
+module _ (F : Field ℕ) (ω : ℕ) (b : Level) (f : Function ℕ) (r : ℕ) (used : List Place) (ρ : Round ℕ) (rest : Rest ℕ) where
+  round-clash : clash F (answers F ω b (f .value) r ρ) ≡ true →
+      decideRest F ω b f r used (round ρ rest)
+      ≡ record { outcome = refused 8 (ρ .coins .level .number); reads = readsOf (used ++ placesOf b (f .places) (ρ .coins .shifts)) }
+  unfolding decideRest
+  round-clash e = rw e
+
+  round-on : clash F (answers F ω b (f .value) r ρ) ≡ false →
+      decideRest F ω b f r used (round ρ rest)
+      ≡ decideRest F ω (ρ .coins .level) (definition.nextFunction F ω (distinct F (answers F ω b (f .value) r ρ)) ρ) (ρ .coins .fold) (used ++ placesOf b (f .places) (ρ .coins .shifts)) rest
+  unfolding decideRest
+  round-on e = rw e
+
+next-places : (F : Field ℕ) (ω : ℕ) (g : List (Sample ℕ)) (ρ : Round ℕ) →
+    record { value = definition.nextFunction F ω g ρ .value; places = ownPlace (ρ .coins .level) } ≡ definition.nextFunction F ω g ρ
+unfolding definition.nextFunction
+next-places F ω g ρ = refl
+
+-- a part of the words has the length asked for
+pub part-length : (w : List ℕ) (at n : ℕ) → at + n ≤ length w → length (take n (drop at w)) ≡ n
+part-length w at n h = length-take-le n (drop at w) (rw length-drop (omega arith))
+
+first-below : (from : ℕ) (bs : List Bool) (i : ℕ) → firstTrue from bs ≡ some i → i < from + length bs
+unfolding firstTrue
+first-below from [] i e = let z : _≡_ {A = ℕ} 0 1 = cc in absurd (omega arith)
+first-below from (true ∷ bs) i e = let z : from ≡ i = cc in omega arith
+first-below from (false ∷ bs) i e = let h = first-below (suc from) bs i e in omega arith
+
+-- ---- a round from a place
+
+module _ (w pw xs cs : List ℕ) (st : Stand) (how : how.Function) (ok : Standing w (length pw) (length xs) (length cs) st how) (more : st .level < getD w 4 0) where
+  shifts-length : length (shiftsOf w st) ≡ repetitionsOf w st
+  unfolding shiftsOf
+  shifts-length = part-length w _ (repetitionsOf w st) (round-inside w st (ok .place) more .there)
+
+  reads-next : (used : List Place) → st .reads ≡ readsOf used → nextStand w st .reads ≡ readsOf (used ++ placesOf (levelOf w st) (ownPlace (levelOf w st)) (shiftsOf w st))
+  unfolding nextStand levelOf
+  reads-next used e =
+      sym (reads-add used _ ∙ (λ i. sym e i + (reads-are (levelOf w st) (levelOf w st) (shiftsOf w st) ∙ ap (λ (n : ℕ). n * getD w 3 0) shifts-length) i))
+
+  outs-some : 0 < length (roundOf w st .coins .outs)
+  unfolding roundOf outsOf
+  outs-some = omega (arith, ok .place .sheet .out, part-length w (st .at + st .size / 2) (getD w 5 0) (omega (arith, round-inside w st (ok .place) more .there)))
+
+  replies-long : length (roundOf w st .replies) ≡ length (roundOf w st .coins .outs)
+  unfolding roundOf outsOf repliesOf
+  replies-long =
+      let r = round-inside w st (ok .place) more .there in
+      part-length w (st .at + st .size / 2 + getD w 5 0) (getD w 5 0) (omega arith) ∙ sym (part-length w (st .at + st .size / 2) (getD w 5 0) (omega arith))
+
+  pub clash-step : Sifted w pw xs cs st how none → Decided w pw xs cs st how (record { outcome = refused 8 (nextStand w st .level); reads = nextStand w st .reads })
+  unfolding roundOf levelOf
+  clash-step a = λ ω f used sv e.
+      let field = getD w 0 0 in
+      let F = fieldOf field in
+      let b = levelOf w st in
+      let ρ = roundOf w st in
+      let fn : Function ℕ = record { value = f; places = ownPlace b } in
+      let c = sifted-none field (answers F ω b f (st .fold) ρ) (a ω b f ρ refl refl refl sv) in
+      sym (ap (decideRest F ω b fn (st .fold) used) (rest-next w st (ok .place .sheet .long) (ok .place .sheet .rounds) more)
+      ∙ round-clash F ω b fn (st .fold) used ρ (restOf w (nextStand w st)) c
+      ∙ (λ i. record { outcome = refused 8 (nextStand w st .level); reads = sym (reads-next used e) i }))
+
+  serves-after : (px py pc : List ℕ) (j ω : ℕ) (f : ℕ → ℕ) → Standing w (length pw) (length px) (length pc) (nextStand w st) (nextFunction w st (how .scale) j) →
+      length py ≡ length px → Sifted w pw xs cs st how (some (pair (drop j px) (drop j py))) → drop j pc ≡ newton (fieldOf (getD w 0 0)) (drop j px) (drop j py) →
+      Serves (getD w 0 0) ω (levelOf w st) f pw (tableOf w st) xs cs how (getD w 3 0) →
+      Serves (getD w 0 0) ω (levelOf w (nextStand w st))
+      (definition.nextFunction (fieldOf (getD w 0 0)) ω (distinct (fieldOf (getD w 0 0)) (answers (fieldOf (getD w 0 0)) ω (levelOf w st) f (st .fold) (roundOf w st))) (roundOf w st) .value)
+      pw (tableOf w (nextStand w st)) px pc (nextFunction w st (how .scale) j) (getD w 3 0)
+  unfolding roundOf levelOf nextStand nextFunction tableOf shiftCount
+  serves-after px py pc j ω f next long a newtons sv =
+      let field = getD w 0 0 in
+      let F = fieldOf field in
+      let b = levelOf w st in
+      let ρ = roundOf w st in
+      let e = a ω b f ρ refl refl refl sv in
+      let g = sampled field (answers F ω b f (st .fold) ρ) px py pc j (answers-some F ω b f (st .fold) ρ outs-some replies-long) long e newtons in
+      let there = round-inside w st (ok .place) more .there in
+      let n = part-length w (st .at) (st .size / 2) (omega arith) in
+      serves-next field ω ρ pw px py pc (nextFunction w st (how .scale) j) g (sv .powers) (next .scale) refl (getD w 3 0) refl refl
+      (subst (λ (m : ℕ). Fits (length pw) m (nextFunction w st (how .scale) j) (getD w 3 0)) (sym n) (next .fits))
+
+  pub served-next : (px py pc : List ℕ) (j : ℕ) → Standing w (length pw) (length px) (length pc) (nextStand w st) (nextFunction w st (how .scale) j) →
+      length py ≡ length px → Sifted w pw xs cs st how (some (pair (drop j px) (drop j py))) → drop j pc ≡ newton (fieldOf (getD w 0 0)) (drop j px) (drop j py) →
+      Served w pw xs cs st how → Served w pw px pc (nextStand w st) (nextFunction w st (how .scale) j)
+  served-next px py pc j next long a newtons s = record { ω = s .ω; f = _; serves = serves-after px py pc j (s .ω) (s .f) next long a newtons (s .serves) }
+
+  pub next-step : (px py pc : List ℕ) (j : ℕ) {v : Verdict} → Standing w (length pw) (length px) (length pc) (nextStand w st) (nextFunction w st (how .scale) j) →
+      length py ≡ length px → Sifted w pw xs cs st how (some (pair (drop j px) (drop j py))) → drop j pc ≡ newton (fieldOf (getD w 0 0)) (drop j px) (drop j py) →
+      Decided w pw px pc (nextStand w st) (nextFunction w st (how .scale) j) v → Decided w pw xs cs st how v
+  unfolding roundOf levelOf nextStand
+  next-step px py pc j next long a newtons d = λ ω f used sv e.
+      let field = getD w 0 0 in
+      let F = fieldOf field in
+      let b = levelOf w st in
+      let ρ = roundOf w st in
+      let fn : Function ℕ = record { value = f; places = ownPlace b } in
+      let g = distinct F (answers F ω b f (st .fold) ρ) in
+      let now = used ++ placesOf b (ownPlace b) (shiftsOf w st) in
+      let c = sifted-some field (answers F ω b f (st .fold) ρ) (pair (drop j px) (drop j py)) (a ω b f ρ refl refl refl sv) in
+      d ω (definition.nextFunction F ω g ρ .value) now (serves-after px py pc j ω f next long a newtons sv) (reads-next used e)
+      ∙ ap (λ (h : Function ℕ). decideRest F ω (levelOf w (nextStand w st)) h (nextStand w st .fold) now (restOf w (nextStand w st))) (next-places F ω g ρ)
+      ∙ sym (ap (decideRest F ω b fn (st .fold) used) (rest-next w st (ok .place .sheet .long) (ok .place .sheet .rounds) more)
+      ∙ round-on F ω b fn (st .fold) used ρ (restOf w (nextStand w st)) (c .0))
+
+-- ---- the final comparison from a place
+
+module _ (w pw xs cs : List ℕ) (st : Stand) (how : how.Function) (ok : Standing w (length pw) (length xs) (length cs) st how) (end : st .level ≡ getD w 4 0) where
+  finals-length : length (finalsOf w st) ≡ repetitionsOf w st
+  unfolding finalsOf
+  finals-length = part-length w _ (repetitionsOf w st) (final-inside w st (ok .place) end .there)
+
+  -- the place of a difference is that of a final index
+  pub place-few : (place : ℕ) → Differing w pw xs cs st how (some place) →
+      Served w pw xs cs st how → place < 64
+  unfolding differences
+  place-few place a s =
+      let F = fieldOf (getD w 0 0) in
+      let b = levelOf w st in
+      let i = final-inside w st (ok .place) end in
+      omega (
+        arith,
+        i .few,
+        finals-length,
+        first-below 0 (differences F (s .ω) b (s .f) (st .fold) (coefficientsOf w st) (finalsOf w st)) place (sym (a (s .ω) b (s .f) (s .serves))),
+        length-map (finalsOf w st) (λ j. not (F .equal (evaluate F (coefficientsOf w st) (shiftPoint F (s .ω) b j)) (foldAt F (s .ω) b (s .f) (st .fold) j))),
+      )
+
+  -- the reads of the final comparison are k for each index treated
+  pub same-step : Differing w pw xs cs st how none →
+      Decided w pw xs cs st how (record { outcome = accepted; reads = st .reads + repetitionsOf w st * getD w 3 0 })
+  unfolding decideRest decideFinal levelOf refuseAt
+  same-step a = λ ω f used sv e.
+      let F = fieldOf (getD w 0 0) in
+      let b = levelOf w st in
+      let js = finalsOf w st in
+      let fn : Function ℕ = record { value = f; places = ownPlace b } in
+      let fault = firstTrue 0 (differences F ω b f (st .fold) (coefficientsOf w st) js) in
+      let z : none ≡ fault = a ω b f sv in
+      let reads : readsOf (used ++ placesOf b (ownPlace b) (treated js none)) ≡ st .reads + repetitionsOf w st * getD w 3 0 =
+      reads-add used _ ∙ (λ i. sym e i + (reads-all b b js ∙ ap (λ (n : ℕ). n * getD w 3 0) finals-length) i) in
+      sym (ap (decideRest F ω b fn (st .fold) used) (rest-end w st end)
+      ∙ (λ i. record { outcome = refuseAt 9 (sym z i); reads = readsOf (used ++ placesOf b (ownPlace b) (treated js (sym z i))) })
+      ∙ (λ i. record { outcome = accepted; reads = reads i }))
+
+  pub differ-step : (place : ℕ) → Differing w pw xs cs st how (some place) →
+      Decided w pw xs cs st how (record { outcome = refused 9 place; reads = st .reads + (place + 1) * getD w 3 0 })
+  unfolding decideRest decideFinal levelOf refuseAt
+  differ-step place a = λ ω f used sv e.
+      let F = fieldOf (getD w 0 0) in
+      let b = levelOf w st in
+      let js = finalsOf w st in
+      let fn : Function ℕ = record { value = f; places = ownPlace b } in
+      let fault = firstTrue 0 (differences F ω b f (st .fold) (coefficientsOf w st) js) in
+      let z : some place ≡ fault = a ω b f sv in
+      let reads : readsOf (used ++ placesOf b (ownPlace b) (treated js (some place))) ≡ st .reads + (place + 1) * getD w 3 0 =
+      reads-add used _
+      ∙ (λ i. sym e i + (reads-until b b js F ω f (st .fold) (coefficientsOf w st) place (sym z) ∙ ap (λ (n : ℕ). n * getD w 3 0) (sym (add-one place))) i) in
+      sym (ap (decideRest F ω b fn (st .fold) used) (rest-end w st end)
+      ∙ (λ i. record { outcome = refuseAt 9 (sym z i); reads = readsOf (used ++ placesOf b (ownPlace b) (treated js (sym z i))) })
+      ∙ (λ i. record { outcome = refused 9 place; reads = reads i }))

@@ -1,0 +1,404 @@
+// Deciding, of a stream that passes reading: refusals 7 to 9, and the reads.
+//
+// The words w are those of the stream: the sheet's 12, table 0, fold coin 0, the rounds, and the final coefficients and indices. pw is the table of the
+// points of domain 0. Deciding goes from level to level as the definition does: each round's samples make the function of the next level.
+use outcome::Found;
+use outcome::Outcome;
+use outcome::Verdict;
+use rounds::Function;
+use samples::Gathered;
+ghost use mathlib.Core.Path.{_≡_};
+ghost use mathlib.Core.List.{zipWith};
+ghost use Prim.Native.Nat.{_+_, _*_, _/_, _≤_, _<_};
+ghost use lib.ListN.{length, getD, take, drop};
+ghost use Rattle.definition.specs.Deciding.{decide as decideBy, deciding as decidingOf, outInDomain};
+ghost use Rattle.definition.specs.Field.{primeField};
+ghost use Rattle.definition.specs.Layout.{layout, readTranscript, wordsDue};
+ghost use Rattle.definition.specs.Lists.{firstTrue};
+ghost use Rattle.definition.specs.Reading.{rangeTest, sheetTest};
+ghost use Rattle.definition.specs.Sheet.{Sheet, firstLevel, rootOfUnity, sheetOf};
+ghost use Rattle.definition.specs.Verdict.{accepted};
+ghost use Rattle.domain.specs.Powers.{Powers};
+ghost use Rattle.outcome.specs.Meaning.{placeOf, verdictOf};
+ghost use Rattle.rounds.specs.Round.{Fits, Below};
+ghost use Rattle.rounds.specs.RoundLaws.{Answered, Compared};
+ghost use Rattle.samples.specs.Samples.{kept, Room};
+ghost use Rattle.deciding.specs.Stand.{firstFunction, firstStand, nextFunction, nextStand};
+ghost use Rattle.deciding.specs.Standing.{Decided, Differing, Placed, Served, Shaped, Sifted, Standing};
+ghost use Rattle.deciding.specs.Inside.{RoundInside};
+ghost use Rattle.deciding.specs.Outs.{FirstInside, Scaled, outsFrom};
+
+// Where deciding stands, before a round or the final comparison: the level's number, domain size and degree bound, where its table begins, where the words
+// after its fold coin begin, the fold coin, and the reads so far.
+pub struct Stand {
+    pub level: usize,
+    pub size: usize,
+    pub degree: usize,
+    pub table: usize,
+    pub at: usize,
+    pub fold: u32,
+    pub reads: usize,
+}
+
+// Places for the samples of a round, at most 64 + 2.
+fn room() -> [u32; 66]
+    ensures { λ r. ⌜ length r ≡ 66 ⌝ }
+{
+    [0u32; 66]
+}
+
+// Places for the roots of a shift point, at most 16.
+fn roots() -> [u32; 16]
+    ensures { λ r. ⌜ length r ≡ 16 ⌝ }
+{
+    [0u32; 16]
+}
+
+// So many of the words, from a number on.
+fn part(w: &[u32], at: usize, count: usize) -> &[u32]
+    requires { ⌜ at + count ≤ length (now w) ⌝ }
+    ensures { λ r. ⌜ now r ≡ take count (drop at (now (w .entry))) ⌝ }
+{
+    &w[at..at + count]
+}
+
+// The first place: at level 0, after fold coin 0.
+fn first_stand(w: &[u32]) -> Stand
+    requires { ⌜ (Shaped (now w)) × (12 + getD (now w) 1 0 + 1 ≤ length (now w)) ⌝ }
+    ensures { λ r. ⌜ r ≡ firstStand (now (w .entry)) ⌝ }
+{
+    let size = w[1] as usize;
+    Stand {
+        level: 0,
+        size: size,
+        degree: w[2] as usize,
+        table: 12,
+        at: 12 + size + 1,
+        fold: w[12 + size],
+        reads: 0,
+    }
+}
+
+// How table 0 is read: as it is, with no samples.
+fn first_function(w: &[u32]) -> Function
+    requires { ⌜ Shaped (now w) ⌝ }
+    ensures { λ r. ⌜ r ≡ firstFunction (now (w .entry)) 66 ⌝ }
+{
+    Function {
+        scale: 1,
+        step: w[1] as usize / w[3] as usize,
+        from: 66,
+        coin: 0,
+    }
+}
+
+// The place after the next round: table, out coins, replies, combination coin, fold coin and shift indices are behind it.
+fn next_stand(w: &[u32], stand: Stand) -> Stand
+    requires { ⌜ RoundInside (now w) stand ⌝ }
+    ensures { λ r. ⌜ r ≡ nextStand (now (w .entry)) stand ⌝ }
+{
+    let k = w[3] as usize;
+    let s = w[5] as usize;
+    let t = w[6 + stand.level] as usize;
+    let coins = stand.at + stand.size / 2 + s + s;
+    Stand {
+        level: stand.level + 1,
+        size: stand.size / 2,
+        degree: stand.degree / k,
+        table: stand.at,
+        at: coins + 2 + t,
+        fold: w[coins + 1],
+        reads: stand.reads + t * k,
+    }
+}
+
+// How the function of the next level is worked out, with the round's samples from number `from` on.
+fn next_function(w: &[u32], stand: Stand, scale: usize, from: usize) -> Function
+    requires { ⌜ (RoundInside (now w) stand) × (scale ≤ 4096) ⌝ }
+    ensures { λ r. ⌜ r ≡ nextFunction (now (w .entry)) stand scale from ⌝ }
+{
+    let s = w[5] as usize;
+    Function {
+        scale: 2 * scale,
+        step: stand.size / 2 / w[3] as usize,
+        from: from,
+        coin: w[stand.at + stand.size / 2 + s + s],
+    }
+}
+
+// G of a round in the last places of px and py, with places of its own for k roots.
+fn answer(
+    field: u32,
+    pw: &[u32],
+    table: &[u32],
+    xs: &[u32],
+    cs: &[u32],
+    how: Function,
+    k: usize,
+    r: u32,
+    shifts: &[u32],
+    outs: &[u32],
+    replies: &[u32],
+    px: &mut [u32],
+    py: &mut [u32],
+) -> Gathered
+    requires { ⌜ (how .from ≤ length (now xs)) × (length (now xs) ≤ length (now cs)) ⌝ }
+    requires { ⌜ Fits (length (now pw)) (length (now table)) how k ⌝ }
+    requires { ⌜ Below (how .step) (now shifts) ⌝ }
+    requires { ⌜ (length (now py) ≡ length (now px)) × ((length (now replies) ≡ length (now outs)) × (length (now outs) + length (now shifts) ≤ length (now px))) ⌝ }
+    ensures { λ v. ⌜ Answered field (now (pw .entry)) (now (table .entry)) (now (xs .entry)) (now (cs .entry)) how k r (now (shifts .entry)) (now (outs .entry)) (now (replies .entry)) (kept v (now (px .exit)) (now (py .exit))) ⌝ }
+    ensures { λ v. ⌜ Room (length (now (px .entry))) (length (now (outs .entry)) + length (now (shifts .entry))) v ⌝ }
+{
+    let mut rx = roots();
+    let mut ry = roots();
+    let mut rc = roots();
+    rounds::answer(
+        field,
+        pw,
+        table,
+        xs,
+        cs,
+        how,
+        r,
+        shifts,
+        outs,
+        replies,
+        &mut rx[..k],
+        &mut ry[..k],
+        &mut rc[..k],
+        px,
+        py,
+    )
+}
+
+// G of the next round, from the words.
+fn round_at(
+    w: &[u32],
+    pw: &[u32],
+    stand: Stand,
+    how: Function,
+    xs: &[u32],
+    cs: &[u32],
+    px: &mut [u32],
+    py: &mut [u32],
+) -> Gathered
+    requires { ⌜ Standing (now w) (length (now pw)) (length (now xs)) (length (now cs)) stand how ⌝ }
+    requires { ⌜ stand .level < getD (now w) 4 0 ⌝ }
+    requires { ⌜ (length (now px) ≡ 66) × (length (now py) ≡ 66) ⌝ }
+    ensures { λ v. ⌜ Sifted (now (w .entry)) (now (pw .entry)) (now (xs .entry)) (now (cs .entry)) stand how (kept v (now (px .exit)) (now (py .exit))) ⌝ }
+    ensures { λ v. ⌜ Room 66 66 v ⌝ }
+{
+    let s = w[5] as usize;
+    let t = w[6 + stand.level] as usize;
+    let outs = stand.at + stand.size / 2;
+    let replies = outs + s;
+    answer(
+        w[0],
+        pw,
+        part(w, stand.table, stand.size),
+        xs,
+        cs,
+        how,
+        w[3] as usize,
+        stand.fold,
+        part(w, replies + s + 2, t),
+        part(w, outs, s),
+        part(w, replies, s),
+        px,
+        py,
+    )
+}
+
+// The first final index at which the final polynomial differs, with places of its own for k roots.
+fn difference(
+    field: u32,
+    pw: &[u32],
+    table: &[u32],
+    xs: &[u32],
+    cs: &[u32],
+    how: Function,
+    k: usize,
+    r: u32,
+    coefficients: &[u32],
+    finals: &[u32],
+) -> Found
+    requires { ⌜ (how .from ≤ length (now xs)) × (length (now xs) ≤ length (now cs)) ⌝ }
+    requires { ⌜ Fits (length (now pw)) (length (now table)) how k ⌝ }
+    requires { ⌜ Below (how .step) (now finals) ⌝ }
+    ensures { λ v. ⌜ Compared field (now (pw .entry)) (now (table .entry)) (now (xs .entry)) (now (cs .entry)) how k r (now (coefficients .entry)) (now (finals .entry)) (placeOf v) ⌝ }
+{
+    let mut rx = roots();
+    let mut ry = roots();
+    let mut rc = roots();
+    rounds::first_difference(
+        field,
+        pw,
+        table,
+        xs,
+        cs,
+        how,
+        r,
+        coefficients,
+        finals,
+        &mut rx[..k],
+        &mut ry[..k],
+        &mut rc[..k],
+    )
+}
+
+// The first final index at which the final polynomial differs, from the words.
+fn final_at(w: &[u32], pw: &[u32], stand: Stand, how: Function, xs: &[u32], cs: &[u32]) -> Found
+    requires { ⌜ Standing (now w) (length (now pw)) (length (now xs)) (length (now cs)) stand how ⌝ }
+    requires { ⌜ stand .level ≡ getD (now w) 4 0 ⌝ }
+    ensures { λ v. ⌜ Differing (now (w .entry)) (now (pw .entry)) (now (xs .entry)) (now (cs .entry)) stand how (placeOf v) ⌝ }
+{
+    let k = w[3] as usize;
+    let t = w[6 + stand.level] as usize;
+    let d = stand.degree / k;
+    difference(
+        w[0],
+        pw,
+        part(w, stand.table, stand.size),
+        xs,
+        cs,
+        how,
+        k,
+        stand.fold,
+        part(w, stand.at, d),
+        part(w, stand.at + d, t),
+    )
+}
+
+// The final comparison. All final coins are treated, or those up to and with the failing one.
+fn last(w: &[u32], pw: &[u32], stand: Stand, how: Function, xs: &[u32], cs: &[u32]) -> Verdict
+    requires { ⌜ Standing (now w) (length (now pw)) (length (now xs)) (length (now cs)) stand how ⌝ }
+    requires { ⌜ Served (now w) (now pw) (now xs) (now cs) stand how ⌝ }
+    requires { ⌜ stand .level ≡ getD (now w) 4 0 ⌝ }
+    ensures { λ v. ⌜ Decided (now (w .entry)) (now (pw .entry)) (now (xs .entry)) (now (cs .entry)) stand how (verdictOf v) ⌝ }
+{
+    let f = final_at(w, pw, stand, how, xs, cs);
+    let k = w[3] as usize;
+    if let Found::At(i) = f {
+        return Verdict {
+            outcome: Outcome::Refused(9, i),
+            reads: stand.reads + (i + 1) * k,
+        };
+    }
+    Verdict {
+        outcome: Outcome::Accepted,
+        reads: stand.reads + w[6 + stand.level] as usize * k,
+    }
+}
+
+// The rounds after a place and the final comparison. The first round whose samples clash refuses.
+fn rest(w: &[u32], pw: &[u32], stand: Stand, how: Function, xs: &[u32], cs: &[u32]) -> Verdict
+    requires { ⌜ Standing (now w) (length (now pw)) (length (now xs)) (length (now cs)) stand how ⌝ }
+    requires { ⌜ Served (now w) (now pw) (now xs) (now cs) stand how ⌝ }
+    ensures { λ v. ⌜ Decided (now (w .entry)) (now (pw .entry)) (now (xs .entry)) (now (cs .entry)) stand how (verdictOf v) ⌝ }
+{
+    if stand.level == w[4] as usize {
+        return last(w, pw, stand, how, xs, cs);
+    }
+    let next = next_stand(w, stand);
+    let mut px = room();
+    let mut py = room();
+    let g = round_at(w, pw, stand, how, xs, cs, &mut px, &mut py);
+    let Gathered::From(j) = g else {
+        return Verdict {
+            outcome: Outcome::Refused(8, next.level),
+            reads: next.reads,
+        };
+    };
+    let mut pc = room();
+    polynomial::coefficients(w[0], &px, &py, j, &mut pc);
+    rest(w, pw, next, next_function(w, stand, how.scale, j), &px, &pc)
+}
+
+// Deciding from table 0 on, by the table of points: refusals 8 and 9.
+pub fn decide(w: &[u32], pw: &[u32]) -> Verdict
+    requires { ⌜ (sheetTest (now w) ≡ accepted) × (rangeTest (sheetOf (now w)) (now w) ≡ accepted) ⌝ }
+    requires { ⌜ wordsDue (sheetOf (now w)) ≤ length (now w) ⌝ }
+    requires { ⌜ (Powers (getD (now w) 0 0) (rootOfUnity (sheetOf (now w))) (now pw)) × (length (now pw) ≡ getD (now w) 1 0) ⌝ }
+    ensures { λ v.
+        ⌜ verdictOf v ≡ decideBy (primeField (sheetOf (now (w .entry)) .prime)) (rootOfUnity (sheetOf (now (w .entry)))) (firstLevel (sheetOf (now (w .entry)))) (readTranscript (sheetOf (now (w .entry))) (drop 12 (now (w .entry)))) ⌝ }
+{
+    let none = room();
+    rest(w, pw, first_stand(w), first_function(w), &none, &none)
+}
+
+// The first of `count` words from number `at` on that lies in the domain whose points stand at every scale-th place of the table.
+fn first_inside(w: &[u32], pw: &[u32], scale: usize, at: usize, count: usize) -> Found
+    requires { ⌜ (0 < scale) × (at + count ≤ length (now w)) ⌝ }
+    ensures { λ r. ⌜ FirstInside (now (w .entry)) (now (pw .entry)) scale at count (placeOf r) ⌝ }
+{
+    let mut j = 0;
+    while j < count {
+        if domain::inside(pw, scale, w[at + j]) {
+            return Found::At(at + j);
+        }
+        j += 1;
+    }
+    Found::Nothing
+}
+
+// The first out coin after a place that lies in the domain of its round.
+fn outs(w: &[u32], pw: &[u32], stand: Stand, scale: usize) -> Found
+    requires { ⌜ (Placed (now w) stand) × (Scaled (length (now pw)) stand scale) ⌝ }
+    requires { ⌜ Powers (getD (now w) 0 0) (rootOfUnity (sheetOf (now w))) (now pw) ⌝ }
+    ensures { λ r. ⌜ placeOf r ≡ outsFrom (now (w .entry)) stand ⌝ }
+{
+    if stand.level == w[4] as usize {
+        return Found::Nothing;
+    }
+    let f = first_inside(w, pw, 2 * scale, stand.at + stand.size / 2, w[5] as usize);
+    if let Found::At(i) = f {
+        return Found::At(i);
+    }
+    outs(w, pw, next_stand(w, stand), 2 * scale)
+}
+
+// Refusal 7: the first out coin of a round that lies in the round's domain, by its number in the stream. All rounds are tested before any refusal 8.
+pub fn out_in_domain(w: &[u32], pw: &[u32]) -> Found
+    requires { ⌜ (sheetTest (now w) ≡ accepted) × (rangeTest (sheetOf (now w)) (now w) ≡ accepted) ⌝ }
+    requires { ⌜ wordsDue (sheetOf (now w)) ≤ length (now w) ⌝ }
+    requires { ⌜ (Powers (getD (now w) 0 0) (rootOfUnity (sheetOf (now w))) (now pw)) × (length (now pw) ≡ getD (now w) 1 0) ⌝ }
+    ensures { λ r. ⌜ placeOf r ≡ firstTrue 12 (zipWith (outInDomain (sheetOf (now (w .entry)))) (layout (sheetOf (now (w .entry)))) (drop 12 (now (w .entry)))) ⌝ }
+{
+    outs(w, pw, first_stand(w), 1)
+}
+
+// Refusal 7, then 8 and 9, by the table of points.
+fn decide_by(w: &[u32], pw: &[u32]) -> Verdict
+    requires { ⌜ (sheetTest (now w) ≡ accepted) × (rangeTest (sheetOf (now w)) (now w) ≡ accepted) ⌝ }
+    requires { ⌜ wordsDue (sheetOf (now w)) ≤ length (now w) ⌝ }
+    requires { ⌜ (Powers (getD (now w) 0 0) (rootOfUnity (sheetOf (now w))) (now pw)) × (length (now pw) ≡ getD (now w) 1 0) ⌝ }
+    ensures { λ v. ⌜ verdictOf v ≡ decidingOf (now (w .entry)) ⌝ }
+{
+    let f = out_in_domain(w, pw);
+    if let Found::At(i) = f {
+        return Verdict {
+            outcome: Outcome::Refused(7, i),
+            reads: 0,
+        };
+    }
+    decide(w, pw)
+}
+
+// Places for the points of domain 0, at most 4,096.
+fn points_room() -> [u32; 4096]
+    ensures { λ r. ⌜ length r ≡ 4096 ⌝ }
+{
+    [0u32; 4096]
+}
+
+// Deciding, of the words of a stream that passes reading.
+pub fn deciding(w: &[u32]) -> Verdict
+    requires { ⌜ (sheetTest (now w) ≡ accepted) × (rangeTest (sheetOf (now w)) (now w) ≡ accepted) ⌝ }
+    requires { ⌜ wordsDue (sheetOf (now w)) ≤ length (now w) ⌝ }
+    ensures { λ v. ⌜ verdictOf v ≡ decidingOf (now (w .entry)) ⌝ }
+{
+    let size = w[1] as usize;
+    let mut pw = points_room();
+    domain::points(w[0], size, &mut pw[..size]);
+    decide_by(w, &pw[..size])
+}
