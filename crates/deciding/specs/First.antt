@@ -59,7 +59,7 @@ module _ (w : List ℕ) (passed : sheetTest w ≡ accepted) (due : wordsDue (she
   pub fitting : domain.Fitting (getD w 0 0) (getD w 1 0)
   fitting =
       let x = exponents w passed in
-      record { log = suc (x .a); two = x .size; least = shaped .least; most = shaped .size; divides = x .divides }
+      record { log = x .a; two = x .size; most = shaped .size; divides = x .divides }
 
   -- the sheet's levels are those of the first place
   pub first-level : firstLevel (sheetOf w) ≡ levelOf w (firstStand w)
