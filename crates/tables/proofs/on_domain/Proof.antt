@@ -1,0 +1,44 @@
+-- `tables::on_domain` meets its contract: the coset's table is the definition's. Assumes nothing.
+use native.Mathlib.Omega.{arith}
+use lib.ListN.{length}
+use Rattle.definition.specs.Field.{fieldOf}
+use Rattle.algebra.specs.PrimeField.{laws}
+use Rattle.tables.proofs.Domain.{opposite-on, table-on-domain}
+use borrow.Author.Needs.{needs}
+use Rattle.tables.proofs.on_domain.Statement.{statement}
+use Rattle.tables.proofs.on_domain.Tie as tie
+use Rattle.tables.proofs.on_domain.Reads as reads
+use Rattle.tables.proofs.on_domain.Lts as lts
+use Rattle.field.proofs.pow.Reads as pow-reads
+use Rattle.tables.proofs.table.Reads as table-reads
+
+-- src/lib.rt:72:34
+cast-pow : tie.Need-cast-pow
+cast-pow c = search needs
+
+-- src/lib.rt:72:9
+pow-requires : tie.Need-pow-requires
+pow-requires c κs = search needs
+
+-- src/lib.rt:73:5
+table-requires : tie.Need-table-requires
+table-requires c κs =
+    let s = c .before .before .before .before in
+    let a = s .args in
+    let fits = s .pre .1 in
+    ((omega arith, omega arith), (fits .halves, opposite-on (fieldOf (a .field)) (laws (a .field)) (length (a .f .now)) (a .w) (c .before .pow .result) (a .scale) (length (a .out .now)) (c .before .pow .ensures) fits))
+
+-- src/lib.rt:67:1
+same-length : tie.Need-same-length
+same-length c = search needs
+
+-- src/lib.rt:67:1
+returns : tie.Need-returns
+returns c =
+    let a = c .before .before .before .before .before .before .before .args in
+    let p = c .before .before .before .before .pow in
+    let t = c .before .before .table in
+    table-on-domain (fieldOf (a .field)) (laws (a .field)) (a .f .now) (a .w) (p .result) (a .scale) (length (a .out .now)) (t .last .1 .1 .1 .1 .1 .1 .1 .0) (p .ensures) (t .ensures)
+
+pub on-domain-spec : {M : Type 1} → statement M
+on-domain-spec = tie.close (tie.spec cast-pow pow-requires table-requires same-length returns)
