@@ -14,7 +14,7 @@ use Rattle.definition.specs.Domain.{point, domain}
 use Rattle.definition.specs.Prover.{tableOf}
 use Rattle.algebra.specs.Laws.{FieldLaws}
 use Rattle.algebra.specs.ListFacts.{map-map}
-use Rattle.algebra.specs.RootsOfUnity.{minusOne, power-suc, power-mul}
+use Rattle.algebra.specs.RootsOfUnity.{power-suc, power-mul}
 use Rattle.tables.specs.Halving.{strided, cosetPoint, Opposite, Table}
 use Rattle.tables.specs.OnDomain.{DomainFits, DomainTable}
 

@@ -5,7 +5,7 @@ use mathlib.Core.Logic.{_⊎_, inl, inr, ⊎-elim}
 use Prim.Native.Nat.{ℕ, _+_, _-_, _*_, _%_, _≤_, _<_}
 use native.Mathlib.Nat.{eq-zero-or-pos, mul-zero, add-zero, zero-mod}
 use native.Mathlib.Omega.{arith}
-use lib.ListN.{length, getD, replicate, getD-replicate, length-replicate, length-append, List·getD-append}
+use lib.ListN.{getD, replicate, getD-replicate, length-replicate, length-append, List·getD-append}
 use lib.Seq.{getD-append-add}
 use Rattle.definition.specs.Field.{Field, primeField, primeOf, fieldOf, power}
 use Rattle.definition.specs.Polynomial.{evaluate}

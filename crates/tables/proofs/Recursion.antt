@@ -1,6 +1,6 @@
 -- One level of the recursion: what its two calls ask, and what it answers. Assumes nothing.
 use mathlib.Core.Path.{_≡_, _∙_, sym, ap, subst}
-use mathlib.Core.List.{List, _++_}
+use mathlib.Core.List.{List}
 use Prim.Native.Nat.{ℕ, _+_, _-_, _*_, _/_, _≤_, _<_}
 use native.Mathlib.Omega.{arith}
 use borrow.Rule.Slice.PartMut.{putMid}
@@ -12,7 +12,7 @@ use Rattle.algebra.specs.RootsOfUnity.{minusOne}
 use Rattle.tables.specs.Halving.{strided, Halves, Opposite, Table, Joined}
 use Rattle.tables.proofs.EvenOdd.{power-square}
 use Rattle.tables.proofs.Joining.{same-table, joined-table}
-use Rattle.tables.proofs.Lists.{begun, second, first-length, second-length, Both, both}
+use Rattle.tables.proofs.Lists.{begun, second, first-length, second-length, both}
 use Rattle.tables.proofs.Sizes.{half}
 
 module _ (F : Field ℕ) (L : FieldLaws F) where
@@ -47,8 +47,8 @@ module _ (F : Field ℕ) (L : FieldLaws F) where
       let b = both l l₁ l₂ h n (t₁ .size) (t₂ .size) in
       let turn : power F g h ≡ minusOne F = ap (power F g) eh ∙ ho hc in
       let table = joined-table F L src from stride (count / 2) a g h turn l₁ l₂ out
-          (same-table F t₁ ea eg (first-length l h n))
-          (same-table F t₂ ea eg (second-length l l₁ h n (t₁ .size)))
-          (subst (λ (x : List ℕ). Joined F a g h x out) (b .whole) joined) in
+      (same-table F t₁ ea eg (first-length l h n))
+      (same-table F t₂ ea eg (second-length l l₁ h n (t₁ .size)))
+      (subst (λ (x : List ℕ). Joined F a g h x out) (b .whole) joined) in
       subst (λ (x : ℕ). Table F (strided src from stride x) a g (length l) out) (sym (q .count-is))
       (subst (λ (x : ℕ). Table F (strided src from stride (count / 2 + count / 2)) a g x out) (sym n) table)

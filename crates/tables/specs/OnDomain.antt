@@ -1,5 +1,5 @@
 -- A table over a domain of the definition: domain i is the coset with a = ω and g = ω^(2^i).
-use mathlib.Core.Path.{_≡_, sym, ap, _∙_}
+use mathlib.Core.Path.{_≡_, ap, _∙_}
 use mathlib.Core.List.{List}
 use Prim.Native.Nat.{ℕ, zero, suc, _+_, _-_, _*_, _/_, _^_, _<_, _≤_}
 use native.Mathlib.Nat.{pow-suc, pow-zero, mul-le-mul-left}

@@ -45,7 +45,16 @@ fn join(field: u32, h: usize, a: u32, g: u32, out: &mut [u32])
 }
 
 // The table over a, a·g, a·g², .. of the polynomial whose count coefficients stand in src at from, from + stride, ..
-pub fn table(field: u32, src: &[u32], from: usize, stride: usize, count: usize, a: u32, g: u32, out: &mut [u32])
+pub fn table(
+    field: u32,
+    src: &[u32],
+    from: usize,
+    stride: usize,
+    count: usize,
+    a: u32,
+    g: u32,
+    out: &mut [u32],
+)
     requires { ⌜ (from < stride) × (stride * count ≤ length (now src)) ⌝ }
     requires { ⌜ Halves count (length (now out)) ⌝ }
     requires { ⌜ Opposite (fieldOf field) g count (length (now out)) ⌝ }
@@ -54,11 +63,14 @@ pub fn table(field: u32, src: &[u32], from: usize, stride: usize, count: usize, 
     if count <= 1 {
         fill(field, src[from], out);
     } else {
+        let odd = from + stride;
+        let step = 2 * stride;
+        let half = count / 2;
         let h = out.len() / 2;
         let aa = field::mul(field, a, a);
         let gg = field::mul(field, g, g);
-        table(field, src, from, 2 * stride, count / 2, aa, gg, &mut out[..h]);
-        table(field, src, from + stride, 2 * stride, count / 2, aa, gg, &mut out[h..]);
+        table(field, src, from, step, half, aa, gg, &mut out[..h]);
+        table(field, src, odd, step, half, aa, gg, &mut out[h..]);
         join(field, h, a, g, out);
     }
 }

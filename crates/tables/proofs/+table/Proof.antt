@@ -1,5 +1,5 @@
 -- `tables::table` meets its contract: by recursion on the number of coefficients, which halves. Assumes nothing.
-use mathlib.Core.Path.{_≡_, _∙_, sym, refl}
+use mathlib.Core.Path.{_∙_, sym, refl}
 use native.Mathlib.Nat.{mul-le-mul-left, mul-one, le-of-eq}
 use native.Mathlib.Omega.{arith}
 use lib.ListN.{length}
@@ -53,18 +53,25 @@ table-shared-slice-read-fill t c =
 table-fill-requires : (t : ℕ) → table-lts.Need-fill-requires (called t) (table-at t) table.Post
 table-fill-requires t c κs = search needs
 
+table-add-odd : (t : ℕ) → table-lts.Need-add-odd (called t) (table-at t) table.Post
+table-add-odd t c =
+    let s = c .before .before .before in
+    let a = s .args in
+    let two : 2 ≤ a .count = omega arith in
+    omega (arith, mul-le-mul-left (a .stride) two)
+
+table-mul-step : (t : ℕ) → table-lts.Need-mul-step (called t) (table-at t) table.Post
+table-mul-step t c =
+    let s = c .before .before .before in
+    let a = s .args in
+    let two : 2 ≤ a .count = omega arith in
+    omega (arith, mul-le-mul-left (a .stride) two)
+
 table-mul-requires : (t : ℕ) → table-lts.Need-mul-requires (called t) (table-at t) table.Post
 table-mul-requires t c κs = search needs
 
 table-mul-requires-2 : (t : ℕ) → table-lts.Need-mul-requires-2 (called t) (table-at t) table.Post
 table-mul-requires-2 t c κs = search needs
-
-table-mul-table : (t : ℕ) → table-lts.Need-mul-table (called t) (table-at t) table.Post
-table-mul-table t c =
-    let s = c .before .before .before .before .before in
-    let a = s .args in
-    let two : 2 ≤ a .count = omega arith in
-    omega (arith, mul-le-mul-left (a .stride) two)
 
 table-slice-relend-prefix-table : (t : ℕ) → table-lts.Need-slice-relend-prefix-table (called t) (table-at t) table.Post
 table-slice-relend-prefix-table t c = omega arith
@@ -81,22 +88,8 @@ table-table-requires t c κs =
     (s .pre .0) (omega arith) (s .pre .1 .0 .1) (s .pre .1 .1 .0) (s .pre .1 .1 .1) (c .before .before .before .if1 .left) (c .before .mul2 .ensures)
     (first-length (a .out .now) (length (a .out .now) / 2) (q .size-is))
 
-table-add-table : (t : ℕ) → table-lts.Need-add-table (called t) (table-at t) table.Post
-table-add-table t c =
-    let s = c .before .before .before .before .before .before .before .before .before in
-    let a = s .args in
-    let two : 2 ≤ a .count = omega arith in
-    omega (arith, mul-le-mul-left (a .stride) two)
-
-table-mul-table-2 : (t : ℕ) → table-lts.Need-mul-table-2 (called t) (table-at t) table.Post
-table-mul-table-2 t c =
-    let s = c .before .before .before .before .before .before .before .before .before in
-    let a = s .args in
-    let two : 2 ≤ a .count = omega arith in
-    omega (arith, mul-le-mul-left (a .stride) two)
-
-table-mul-table-3 : (t : ℕ) → table-lts.Need-mul-table-3 (called t) (table-at t) table.Post
-table-mul-table-3 t c = omega arith
+table-mul-table : (t : ℕ) → table-lts.Need-mul-table (called t) (table-at t) table.Post
+table-mul-table t c = omega arith
 
 table-sub-table : (t : ℕ) → table-lts.Need-sub-table (called t) (table-at t) table.Post
 table-sub-table t c =
@@ -174,15 +167,14 @@ pub +table-spec : {M : Type 1} → statement M
     (table-mul-fill t)
     (table-shared-slice-read-fill t)
     (table-fill-requires t)
+    (table-add-odd t)
+    (table-mul-step t)
     (table-mul-requires t)
     (table-mul-requires-2 t)
-    (table-mul-table t)
     (table-slice-relend-prefix-table t)
     (table-slice-aggregate-table t)
     (table-table-requires t)
-    (table-add-table t)
-    (table-mul-table-2 t)
-    (table-mul-table-3 t)
+    (table-mul-table t)
     (table-sub-table t)
     (table-part-table-start t)
     (table-part-table-end t)

@@ -10,10 +10,6 @@ use Rattle.tables.proofs.EvenOdd.{next-point}
 use Rattle.tables.proofs.Turns.{Done, first-point, done-none, done-more, done-all}
 use Rattle.tables.proofs.join.Statement.{statement}
 use Rattle.tables.proofs.join.Tie as tie
-use Rattle.tables.proofs.join.Reads as reads
-use Rattle.tables.proofs.join.Lts as lts
-use Rattle.field.proofs.mul.Reads as mul-reads
-use Rattle.tables.proofs.turn.Reads as turn-reads
 
 abbrev Inv-loop : tie.InvT-loop
 Inv-loop field h a g out₀ x₀ j₀ out x j = (j ≤ h) × ((x ≡ cosetPoint (fieldOf field) a g j) × Done (fieldOf field) a g h out₀ j out)
@@ -21,33 +17,26 @@ Inv-loop field h a g out₀ x₀ j₀ out x j = (j ≤ h) × ((x ≡ cosetPoint 
 abbrev μ-loop : tie.MeasureT-loop
 μ-loop field h a g out₀ x₀ j₀ out x j = h - j
 
--- src/lib.rt:38:9
 mul-requires : tie.Need-mul-requires Inv-loop μ-loop
 mul-requires c κs = search needs
 
--- src/lib.rt:40:5
 loop-holds : tie.Need-loop-holds Inv-loop μ-loop
 loop-holds c =
     let a = c .before .before .args in
     (omega arith, (first-point (a .field) (a .a) (a .g) (c .mul .ensures), done-none (fieldOf (a .field)) (a .a) (a .g) (a .h) (a .out .now)))
 
--- src/lib.rt:41:9
 turn-requires : tie.Need-turn-requires Inv-loop μ-loop
 turn-requires c κs = omega arith
 
--- src/lib.rt:42:9
 mul-requires-2 : tie.Need-mul-requires-2 Inv-loop μ-loop
 mul-requires-2 c κs = search needs
 
--- src/lib.rt:43:9
 add-j : tie.Need-add-j Inv-loop μ-loop
 add-j c = omega arith
 
--- src/lib.rt:40:5
 loop-less : tie.Need-loop-less Inv-loop μ-loop
 loop-less c = omega arith
 
--- src/lib.rt:40:5
 loop-again : tie.Need-loop-again Inv-loop μ-loop
 loop-again c =
     let l = c .before .before .before .before .before .before .loop in
@@ -56,11 +45,9 @@ loop-again c =
     let d = done-more F (a .a) (a .g) (a .h) (a .out .now) (l .out) (l .j) (l .x) (omega arith) (omega arith) (l .inv .1 .0) (l .inv .1 .1) in
     (omega arith, (next-point F (laws (a .field)) (a .a) (a .g) (l .j) (l .inv .1 .0) (c .mul2 .ensures), rw (c .before .before .before .turn .ensures) d))
 
--- src/lib.rt:34:1
 same-length : tie.Need-same-length Inv-loop μ-loop
 same-length c = omega arith
 
--- src/lib.rt:34:1
 returns : tie.Need-returns Inv-loop μ-loop
 returns c =
     let l = c .before .loop in

@@ -7,20 +7,13 @@ use Rattle.tables.proofs.Domain.{opposite-on, table-on-domain}
 use borrow.Author.Needs.{needs}
 use Rattle.tables.proofs.on_domain.Statement.{statement}
 use Rattle.tables.proofs.on_domain.Tie as tie
-use Rattle.tables.proofs.on_domain.Reads as reads
-use Rattle.tables.proofs.on_domain.Lts as lts
-use Rattle.field.proofs.pow.Reads as pow-reads
-use Rattle.tables.proofs.table.Reads as table-reads
 
--- src/lib.rt:72:34
 cast-pow : tie.Need-cast-pow
 cast-pow c = search needs
 
--- src/lib.rt:72:9
 pow-requires : tie.Need-pow-requires
 pow-requires c κs = search needs
 
--- src/lib.rt:73:5
 table-requires : tie.Need-table-requires
 table-requires c κs =
     let s = c .before .before .before .before in
@@ -28,11 +21,9 @@ table-requires c κs =
     let fits = s .pre .1 in
     ((omega arith, omega arith), (fits .halves, opposite-on (fieldOf (a .field)) (laws (a .field)) (length (a .f .now)) (a .w) (c .before .pow .result) (a .scale) (length (a .out .now)) (c .before .pow .ensures) fits))
 
--- src/lib.rt:67:1
 same-length : tie.Need-same-length
 same-length c = search needs
 
--- src/lib.rt:67:1
 returns : tie.Need-returns
 returns c =
     let a = c .before .before .before .before .before .before .before .args in
