@@ -35,7 +35,10 @@ unfolding range
 listed v [] from zero e h = refl
 listed v [] from (suc n) e h = absurd (omega arith)
 listed v (y ∷ ys) from zero e h = absurd (omega arith)
-listed v (y ∷ ys) from (suc n) e h = λ i. (h 0 (omega arith) ∙ ap v (add-zero from)) i ∷ listed v ys (suc from) n (omega arith) (λ j b. h (suc j) (omega arith) ∙ ap v (step j)) i
+listed v (y ∷ ys) from (suc n) e h =
+    let first : y ≡ v from = h 0 (omega arith) ∙ ap v (add-zero from) in
+    let others = listed v ys (suc from) n (omega arith) (λ j b. h (suc j) (omega arith) ∙ ap v (step j)) in
+    λ i. first i ∷ others i
   where
     step : (j : ℕ) → from + suc j ≡ suc from + j
     step j = omega arith
@@ -56,7 +59,8 @@ module _ (F : Field ℕ) (L : FieldLaws F) where
   pub opposite-on : (count ω g scale n : ℕ) → g ≡ power F ω scale → DomainFits F count ω scale n → Opposite F g count n
   opposite-on count ω g scale n eg fits many = ap (λ (y : ℕ). power F y (n / 2)) eg ∙ power-mul F L ω scale (n / 2) ∙ fits .opposite many
 
-  pub table-on-domain : (f : List ℕ) (ω g scale n : ℕ) (out : List ℕ) → g ≡ power F ω scale → Table F (strided f 0 1 (length f)) ω g n out → DomainTable F f ω scale n out
+  pub table-on-domain : (f : List ℕ) (ω g scale n : ℕ) (out : List ℕ) → g ≡ power F ω scale → Table F (strided f 0 1 (length f)) ω g n out
+      → DomainTable F f ω scale n out
   unfolding tableOf domain
   table-on-domain f ω g scale n out eg t l es en =
       listed (λ j. evaluate F f (point F ω l j)) out 0 n (t .size) at ∙ sym (map-map (evaluate F f) (point F ω l) (range 0 n))
@@ -65,4 +69,5 @@ module _ (F : Field ℕ) (L : FieldLaws F) where
       at : (j : ℕ) → j < n → getD out j 0 ≡ evaluate F f (point F ω l (0 + j))
       at j b =
           let z : j ≡ 0 + j = omega arith in
-          t .value j b ∙ ap (λ (cs : List ℕ). evaluate F cs (cosetPoint F ω g j)) (strided-all f) ∙ ap (evaluate F f) (domain-point ω g scale l j eg es ∙ ap (point F ω l) z)
+          t .value j b ∙ ap (λ (cs : List ℕ). evaluate F cs (cosetPoint F ω g j)) (strided-all f)
+          ∙ ap (evaluate F f) (domain-point ω g scale l j eg es ∙ ap (point F ω l) z)

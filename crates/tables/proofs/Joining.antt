@@ -71,10 +71,12 @@ constant : (field c x : ℕ) {cs : List ℕ} → cs ≡ c ∷ [] → c % primeOf
 unfolding evaluate fieldOf primeField
 constant field c x e =
     let p : ℕ = primeOf field in
-    sym (ap (λ (f : List ℕ). evaluate (fieldOf field) f x) e ∙ ap (λ (m : ℕ). (c + m % p) % p) (mul-zero x) ∙ ap (λ (m : ℕ). (c + m) % p) (zero-mod p) ∙ ap (λ (m : ℕ). m % p) (add-zero c))
+    sym (ap (λ (f : List ℕ). evaluate (fieldOf field) f x) e ∙ ap (λ (m : ℕ). (c + m % p) % p) (mul-zero x)
+    ∙ ap (λ (m : ℕ). (c + m) % p) (zero-mod p) ∙ ap (λ (m : ℕ). m % p) (add-zero c))
 
 -- the table of one coefficient
-pub constant-table : (field : ℕ) (s : List ℕ) (from stride a g n : ℕ) → Table (fieldOf field) (strided s from stride 1) a g n (replicate n (getD s from 0 % primeOf field))
+pub constant-table : (field : ℕ) (s : List ℕ) (from stride a g n : ℕ)
+    → Table (fieldOf field) (strided s from stride 1) a g n (replicate n (getD s from 0 % primeOf field))
 unfolding strided
 constant-table field s from stride a g n = record {
   size = length-replicate n (getD s from 0 % primeOf field);

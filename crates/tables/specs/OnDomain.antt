@@ -1,11 +1,12 @@
 -- A table over a domain of the definition: domain i is the coset with a = ω and g = ω^(2^i).
-use mathlib.Core.Path.{_≡_, ap, _∙_}
+use mathlib.Core.Path.{_≡_, refl, ap, _∙_}
 use mathlib.Core.List.{List}
 use Prim.Native.Nat.{ℕ, zero, suc, _+_, _-_, _*_, _/_, _^_, _<_, _≤_}
 use native.Mathlib.Nat.{pow-suc, pow-zero, mul-le-mul-left}
 use native.Mathlib.Omega.{arith}
+use lib.Dec.{lit≤}
 use lib.Pow.{pow-add}
-use Rattle.definition.specs.Field.{Field, power}
+use Rattle.definition.specs.Field.{Field, primeField, primeOf, fieldOf, power}
 use Rattle.definition.specs.Sheet.{Level}
 use Rattle.definition.specs.Prover.{tableOf}
 use Rattle.algebra.specs.RootsOfUnity.{minusOne}
@@ -48,3 +49,8 @@ module _ (F : Field ℕ) where
 -- the scale of a domain of no more than 4,096 points fits a word
 pub scale-fits : {scale n n0 : ℕ} → scale * n ≡ n0 → 0 < n → n0 ≤ 4096 → scale < 2 ^ 32
 scale-fits {scale} {n} whole some few = omega (arith, mul-le-mul-left scale some)
+
+-- The worked transcript's domain 0, as an instance: 8 coefficients, ω = 3 in the field of 17, 16 points.
+pub worked-domain : DomainFits (fieldOf 0) 8 3 1 16
+unfolding fieldOf primeOf primeField power minusOne
+worked-domain = domain-fits (fieldOf 0) 3 3 3 4 refl refl refl refl (lit≤ tt)

@@ -83,9 +83,11 @@ table-table-requires : (t : ℕ) → table-lts.Need-table-requires (called t) (t
 table-table-requires t c κs =
     let s = c .before .before .before .before .before .before in
     let a = s .args in
-    let q = half (a .count) (length (a .out .now)) (s .pre .1 .1 .0) (c .before .before .before .if1 .left) in
-    half-asks (fieldOf (a .field)) (laws (a .field)) t (a .from) (a .stride) (a .count) (a .g) (length (a .out .now)) (c .before .mul2 .result) _ (length (a .src .now))
-    (s .pre .0) (omega arith) (s .pre .1 .0 .1) (s .pre .1 .1 .0) (s .pre .1 .1 .1) (c .before .before .before .if1 .left) (c .before .mul2 .ensures)
+    let more = c .before .before .before .if1 .left in
+    let q = half (a .count) (length (a .out .now)) (s .pre .1 .1 .0) more in
+    let m = c .before in
+    half-asks (fieldOf (a .field)) (laws (a .field)) t (a .from) (a .stride) (a .count) (a .g) (length (a .out .now)) (m .mul2 .result) _
+    (length (a .src .now)) (s .pre .0) (omega arith) (s .pre .1 .0 .1) (s .pre .1 .1 .0) (s .pre .1 .1 .1) (m .before .before .if1 .left) (m .mul2 .ensures)
     (first-length (a .out .now) (length (a .out .now) / 2) (q .size-is))
 
 table-mul-table : (t : ℕ) → table-lts.Need-mul-table (called t) (table-at t) table.Post
@@ -95,7 +97,8 @@ table-sub-table : (t : ℕ) → table-lts.Need-sub-table (called t) (table-at t)
 table-sub-table t c =
     let s = c .before .before .before .before .before .before .before .before .before in
     let a = s .args in
-    let q = half (a .count) (length (a .out .now)) (s .pre .1 .1 .0) (c .before .before .before .before .before .before .if1 .left) in
+    let more = c .before .before .before .before .before .before .if1 .left in
+    let q = half (a .count) (length (a .out .now)) (s .pre .1 .1 .0) more in
     let t₁ = c .before .before .table in
     reaches (a .out .now) (t₁ .last .1 .1 .1 .1 .1 .1 .1 .0) (length (a .out .now) / 2) (q .size-is) (t₁ .ensures .size)
 
@@ -103,7 +106,8 @@ table-part-table-start : (t : ℕ) → table-lts.Need-part-table-start (called t
 table-part-table-start t c =
     let s = c .before .before .before .before .before .before .before .before .before in
     let a = s .args in
-    let q = half (a .count) (length (a .out .now)) (s .pre .1 .1 .0) (c .before .before .before .before .before .before .if1 .left) in
+    let more = c .before .before .before .before .before .before .if1 .left in
+    let q = half (a .count) (length (a .out .now)) (s .pre .1 .1 .0) more in
     let t₁ = c .before .before .table in
     reaches (a .out .now) (t₁ .last .1 .1 .1 .1 .1 .1 .1 .0) (length (a .out .now) / 2) (q .size-is) (t₁ .ensures .size)
 
@@ -114,20 +118,25 @@ table-table-requires-2 : (t : ℕ) → table-lts.Need-table-requires-2 (called t
 table-table-requires-2 t c κs =
     let s = c .before .before .before .before .before .before .before .before .before .before in
     let a = s .args in
-    let q = half (a .count) (length (a .out .now)) (s .pre .1 .1 .0) (c .before .before .before .before .before .before .before .if1 .left) in
+    let more = c .before .before .before .before .before .before .before .if1 .left in
+    let q = half (a .count) (length (a .out .now)) (s .pre .1 .1 .0) more in
     let t₁ = c .before .before .before .table in
-    half-asks (fieldOf (a .field)) (laws (a .field)) t (a .from + a .stride) (a .stride) (a .count) (a .g) (length (a .out .now)) (c .before .before .before .before .before .mul2 .result) _ (length (a .src .now))
-    (s .pre .0) (omega arith) (s .pre .1 .0 .1) (s .pre .1 .1 .0) (s .pre .1 .1 .1) (c .before .before .before .before .before .before .before .if1 .left) (c .before .before .before .before .before .mul2 .ensures)
+    let m = c .before .before .before .before .before in
+    half-asks (fieldOf (a .field)) (laws (a .field)) t (a .from + a .stride) (a .stride) (a .count) (a .g) (length (a .out .now)) (m .mul2 .result) _
+    (length (a .src .now)) (s .pre .0) (omega arith) (s .pre .1 .0 .1) (s .pre .1 .1 .0) (s .pre .1 .1 .1) (m .before .before .if1 .left) (m .mul2 .ensures)
     (second-length (a .out .now) (t₁ .last .1 .1 .1 .1 .1 .1 .1 .0) (length (a .out .now) / 2) (q .size-is) (t₁ .ensures .size))
 
 table-join-requires : (t : ℕ) → table-lts.Need-join-requires (called t) (table-at t) table.Post
 table-join-requires t c κs =
     let s = c .before .before .before .before .before .before .before .before .before .before .before .before .before .before in
     let a = s .args in
-    let q = half (a .count) (length (a .out .now)) (s .pre .1 .1 .0) (c .before .before .before .before .before .before .before .before .before .before .before .if1 .left) in
+    let more = c .before .before .before .before .before .before .before .before .before .before .before .if1 .left in
+    let q = half (a .count) (length (a .out .now)) (s .pre .1 .1 .0) more in
     let t₁ = c .before .before .before .before .before .before .before .table in
     let t₂ = c .before .before .before .table2 in
-    let b = both (a .out .now) (t₁ .last .1 .1 .1 .1 .1 .1 .1 .0) (t₂ .last .1 .1 .1 .1 .1 .1 .1 .0) (length (a .out .now) / 2) (q .size-is) (t₁ .ensures .size) (t₂ .ensures .size) in
+    let l₁ = t₁ .last .1 .1 .1 .1 .1 .1 .1 .0 in
+    let l₂ = t₂ .last .1 .1 .1 .1 .1 .1 .1 .0 in
+    let b = both (a .out .now) l₁ l₂ (length (a .out .now) / 2) (q .size-is) (t₁ .ensures .size) (t₂ .ensures .size) in
     b .size
 
 table-same-length : (t : ℕ) → table-lts.Need-same-length (called t) (table-at t) table.Post
@@ -144,21 +153,27 @@ table-same-length-2 : (t : ℕ) → table-lts.Need-same-length-2 (called t) (tab
 table-same-length-2 t c =
     let s = c .before .before .before .before .before .before .before .before .before .before .before .before .before .before .before .before .before in
     let a = s .args in
-    let q = half (a .count) (length (a .out .now)) (s .pre .1 .1 .0) (c .before .before .before .before .before .before .before .before .before .before .before .before .before .before .if1 .left) in
+    let more = c .before .before .before .before .before .before .before .before .before .before .before .before .before .before .if1 .left in
+    let q = half (a .count) (length (a .out .now)) (s .pre .1 .1 .0) more in
     let t₁ = c .before .before .before .before .before .before .before .before .before .before .table in
     let t₂ = c .before .before .before .before .before .before .table2 in
-    let b = both (a .out .now) (t₁ .last .1 .1 .1 .1 .1 .1 .1 .0) (t₂ .last .1 .1 .1 .1 .1 .1 .1 .0) (length (a .out .now) / 2) (q .size-is) (t₁ .ensures .size) (t₂ .ensures .size) in
+    let l₁ = t₁ .last .1 .1 .1 .1 .1 .1 .1 .0 in
+    let l₂ = t₂ .last .1 .1 .1 .1 .1 .1 .1 .0 in
+    let b = both (a .out .now) l₁ l₂ (length (a .out .now) / 2) (q .size-is) (t₁ .ensures .size) (t₂ .ensures .size) in
     c .before .before .join .kept .1 .1 .1 .1 .0 ∙ b .size ∙ sym (q .size-is)
 
 table-returns-2 : (t : ℕ) → table-lts.Need-returns-2 (called t) (table-at t) table.Post
 table-returns-2 t c =
     let s = c .before .before .before .before .before .before .before .before .before .before .before .before .before .before .before .before .before in
     let a = s .args in
+    let m = c .before .before .before .before .before .before .before .before .before .before .before .before in
     let t₁ = c .before .before .before .before .before .before .before .before .before .before .table in
     let t₂ = c .before .before .before .before .before .before .table2 in
     let j = c .before .before .join in
-    whole-table (fieldOf (a .field)) (laws (a .field)) (a .src .now) (a .from) (a .stride) (a .count) (a .a) (a .g) (length (a .out .now) / 2) (a .out .now) (t₁ .last .1 .1 .1 .1 .1 .1 .1 .0) (t₂ .last .1 .1 .1 .1 .1 .1 .1 .0) (j .last .1 .1 .1 .1 .0)
-    refl (s .pre .1 .1 .0) (s .pre .1 .1 .1) (c .before .before .before .before .before .before .before .before .before .before .before .before .before .before .if1 .left) (c .before .before .before .before .before .before .before .before .before .before .before .before .before .mul .ensures) (c .before .before .before .before .before .before .before .before .before .before .before .before .mul2 .ensures) (t₁ .ensures) (t₂ .ensures) (j .ensures)
+    let l₁ = t₁ .last .1 .1 .1 .1 .1 .1 .1 .0 in
+    let l₂ = t₂ .last .1 .1 .1 .1 .1 .1 .1 .0 in
+    whole-table (fieldOf (a .field)) (laws (a .field)) (a .src .now) (a .from) (a .stride) (a .count) (a .a) (a .g) (length (a .out .now) / 2) (a .out .now) l₁ l₂ (j .last .1 .1 .1 .1 .0)
+    refl (s .pre .1 .1 .0) (s .pre .1 .1 .1) (m .before .before .if1 .left) (m .before .mul .ensures) (m .mul2 .ensures) (t₁ .ensures) (t₂ .ensures) (j .ensures)
 
 pub +table-spec : {M : Type 1} → statement M
 +table-spec = close μ-table λ t. table-lts.spec (called t)

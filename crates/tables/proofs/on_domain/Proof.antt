@@ -18,8 +18,10 @@ table-requires : tie.Need-table-requires
 table-requires c κs =
     let s = c .before .before .before .before in
     let a = s .args in
+    let p = c .before .pow in
     let fits = s .pre .1 in
-    ((omega arith, omega arith), (fits .halves, opposite-on (fieldOf (a .field)) (laws (a .field)) (length (a .f .now)) (a .w) (c .before .pow .result) (a .scale) (length (a .out .now)) (c .before .pow .ensures) fits))
+    let o = opposite-on (fieldOf (a .field)) (laws (a .field)) (length (a .f .now)) (a .w) (p .result) (a .scale) (length (a .out .now)) (p .ensures) fits in
+    ((omega arith, omega arith), (fits .halves, o))
 
 same-length : tie.Need-same-length
 same-length c = search needs
