@@ -1,8 +1,7 @@
 -- The turns of Horner's scheme in place, and of the division by one point after the other.
-use Prim.Native.Nat.{ℕ, zero, suc, _+_, _-_, _≤_, _<_}
+use Prim.Native.Nat.{ℕ, suc, _+_, _-_, _≤_, _<_}
 use mathlib.Core.Path.{_≡_, refl, sym, ap, _∙_}
 use mathlib.Core.List.{List, [], _∷_, _++_, tail}
-use native.Mathlib.Nat.{le-refl}
 use native.Mathlib.Numerals.{add-one}
 use native.Mathlib.Omega.{arith}
 use lib.ListN.{length, take, drop, getD, set, drop-of-length-le}
@@ -25,7 +24,8 @@ module _ (F : Field ℕ) where
   first [] = refl
   first (x ∷ l) = refl
 
-  scheme-cons : (a d : ℕ) (f rest : List ℕ) {v m r : ℕ} → v ∷ rest ≡ scheme a f → m ≡ a ⊗ v → r ≡ d ⊕ m → r ∷ v ∷ rest ≡ scheme a (d ∷ f)
+  scheme-cons : (a d : ℕ) (f rest : List ℕ) {v m r : ℕ} → v ∷ rest ≡ scheme a f → m ≡ a ⊗ v → r ≡ d ⊕ m →
+      r ∷ v ∷ rest ≡ scheme a (d ∷ f)
   unfolding scheme horner
   scheme-cons a d f rest e em er =
       let head = ap (λ (l : List ℕ). getD l 0 𝟘) e ∙ first (horner F a f) in
@@ -37,7 +37,8 @@ module _ (F : Field ℕ) where
       let z : n - n ≡ 0 = omega arith in
       rw z
 
-  pub scheme-turn : (f₀ f : List ℕ) (n i a : ℕ) {v m r : ℕ} → 0 < i → i ≤ n → n ≤ length f → n ≤ length f₀ → getD f (i - 1) 0 ≡ getD f₀ (i - 1) 0 →
+  pub scheme-turn : (f₀ f : List ℕ) (n i a : ℕ) {v m r : ℕ} → 0 < i → i ≤ n → n ≤ length f → n ≤ length f₀ →
+      getD f (i - 1) 0 ≡ getD f₀ (i - 1) 0 →
       v ∷ take (n - i) (drop i f) ≡ scheme a (take (n - i) (drop i f₀)) → m ≡ a ⊗ v → r ≡ getD f (i - 1) 0 ⊕ m →
       r ∷ take (n - (i - 1)) (drop (i - 1) (set f (i - 1) v)) ≡ scheme a (take (n - (i - 1)) (drop (i - 1) f₀))
   scheme-turn f₀ f n i a {v} {m} {r} h k l l₀ same e em er =
@@ -52,7 +53,8 @@ module _ (F : Field ℕ) where
       rw (sub-one (length f))
       (ap (λ (l : List ℕ). take (length f) (tail l)) e ∙ take-at (horner F a f) (𝟘 ∷ []) (length f) (length-horner F a f))
 
-  pub scheme-end : (f₀ f : List ℕ) (n i a : ℕ) {v : ℕ} → i ≡ 0 → n ≤ length f₀ → v ∷ take (n - i) (drop i f) ≡ scheme a (take (n - i) (drop i f₀)) →
+  pub scheme-end : (f₀ f : List ℕ) (n i a : ℕ) {v : ℕ} → i ≡ 0 → n ≤ length f₀ →
+      v ∷ take (n - i) (drop i f) ≡ scheme a (take (n - i) (drop i f₀)) →
       take (n - 1) f ≡ divide F (take n f₀) a
   scheme-end f₀ f n i a {v} z l e =
       let b : n - 0 ≡ n = omega arith in

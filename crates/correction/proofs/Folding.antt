@@ -30,12 +30,13 @@ module _ (F : Field ℕ) where
       let z : n - n ≡ 0 = omega arith in
       rw z (sym (evaluate-nil F x))
 
-  pub value-turn : (f : List ℕ) (from n i x : ℕ) {v m r : ℕ} → 0 < i → i ≤ n → from + n ≤ length f → v ≡ evaluate F (take (n - i) (drop (from + i) f)) x →
-      m ≡ x ⊗ v → r ≡ getD f (from + (i - 1)) 0 ⊕ m → r ≡ evaluate F (take (n - (i - 1)) (drop (from + (i - 1)) f)) x
+  pub value-turn : (f : List ℕ) (from n i x : ℕ) {v m r : ℕ} → 0 < i → i ≤ n → from + n ≤ length f →
+      v ≡ evaluate F (take (n - i) (drop (from + i) f)) x → m ≡ x ⊗ v → r ≡ getD f (from + (i - 1)) 0 ⊕ m → r ≡ evaluate F (take (n - (i - 1)) (drop (from + (i - 1)) f)) x
   value-turn f from n i x h k l ev em er =
       cc (window-back f from n i h k l, evaluate-cons F (getD f (from + (i - 1)) 0) (take (n - i) (drop (from + i) f)) x)
 
-  pub value-end : (f : List ℕ) (from n i x : ℕ) {v : ℕ} → i ≡ 0 → v ≡ evaluate F (take (n - i) (drop (from + i) f)) x → v ≡ evaluate F (take n (drop from f)) x
+  pub value-end : (f : List ℕ) (from n i x : ℕ) {v : ℕ} → i ≡ 0 →
+      v ≡ evaluate F (take (n - i) (drop (from + i) f)) x → v ≡ evaluate F (take n (drop from f)) x
   value-end f from n i x z e =
       let a : n - i ≡ n = omega arith in
       let b : from + i ≡ from = omega arith in
@@ -66,7 +67,8 @@ module _ (F : Field ℕ) where
       let next : drop k (drop ((j - 1) * k) f) ≡ drop (j * k) f = drop-drop k ((j - 1) * k) f ∙ ap (λ (m : ℕ). drop m f) (chunk-before j k h) in
       cc (drop-store out j v h b, one-more n j h l, next, values-next k r (n - j) (drop ((j - 1) * k) f))
 
-  pub fold-end : (f out : List ℕ) (k r n j : ℕ) → j ≡ 0 → 0 < k → length f ≡ k * n → drop j out ≡ chunkValues k r (n - j) (drop (j * k) f) → out ≡ foldPoly F k r f
+  pub fold-end : (f out : List ℕ) (k r n j : ℕ) → j ≡ 0 → 0 < k → length f ≡ k * n →
+      drop j out ≡ chunkValues k r (n - j) (drop (j * k) f) → out ≡ foldPoly F k r f
   unfolding foldPoly chunkValues
   fold-end f out k r n j z h l e =
       let count : length f / k ≡ n = ap (λ (m : ℕ). m / k) l ∙ mul-div-cancel-left n h in

@@ -1,7 +1,7 @@
 -- A list walked from its back to its front, with or without a store at each place.
-use Prim.Native.Nat.{ℕ, zero, suc, _+_, _-_, _*_, _≤_, _<_}
-use mathlib.Core.Path.{_≡_, refl, sym, ap, _∙_}
-use mathlib.Core.List.{List, [], _∷_}
+use Prim.Native.Nat.{ℕ, zero, suc, _+_, _-_, _≤_, _<_}
+use mathlib.Core.Path.{_≡_, sym, ap, _∙_}
+use mathlib.Core.List.{List, _∷_}
 use native.Mathlib.Nat.{not-suc-le-zero}
 use native.Mathlib.Omega.{arith}
 use lib.ListN.{length, take, drop, getD, set, length-set, replicate}
@@ -27,12 +27,14 @@ drop-store l i v h e =
     drop-back (set l (i - 1) v) i h b ∙ rw (getD-set-same l (i - 1) v 0 s, drop-set-lt i l (i - 1) v t)
 
 -- the first n elements, from number i - 1 on
-pub part-back : (l : List ℕ) (n i : ℕ) → 0 < i → i ≤ n → n ≤ length l → take (n - (i - 1)) (drop (i - 1) l) ≡ getD l (i - 1) 0 ∷ take (n - i) (drop i l)
+pub part-back : (l : List ℕ) (n i : ℕ) → 0 < i → i ≤ n → n ≤ length l →
+    take (n - (i - 1)) (drop (i - 1) l) ≡ getD l (i - 1) 0 ∷ take (n - i) (drop i l)
 part-back l n i h k e =
     let b : i ≤ length l = omega arith in
     rw (one-more n i h k, drop-back l i h b)
 
-pub part-store : (l : List ℕ) (n i v : ℕ) → 0 < i → i ≤ n → n ≤ length l → take (n - (i - 1)) (drop (i - 1) (set l (i - 1) v)) ≡ v ∷ take (n - i) (drop i l)
+pub part-store : (l : List ℕ) (n i v : ℕ) → 0 < i → i ≤ n → n ≤ length l →
+    take (n - (i - 1)) (drop (i - 1) (set l (i - 1) v)) ≡ v ∷ take (n - i) (drop i l)
 part-store l n i v h k e =
     let b : i ≤ length l = omega arith in
     rw (one-more n i h k, drop-store l i v h b)

@@ -1,5 +1,5 @@
 -- The turns of a sum with the terms w, cw, c²w, .. and of the product with the geometric polynomial.
-use Prim.Native.Nat.{ℕ, zero, suc, _+_, _-_, _≤_, _<_}
+use Prim.Native.Nat.{ℕ, suc, _+_, _-_, _≤_, _<_}
 use mathlib.Core.Path.{_≡_, refl, sym, ap, _∙_}
 use mathlib.Core.List.{List, [], _∷_, _++_}
 use native.Mathlib.Nat.{not-suc-le-zero}
@@ -28,7 +28,8 @@ module _ (F : Field ℕ) where
   unfolding addPoly multiples
   sum-cons c t n x l = refl
 
-  added-next : (c t n p : ℕ) (out : List ℕ) {v t' : ℕ} → p < length out → v ≡ t ⊕ getD out p 0 → t' ≡ c ⊗ t → added c t' n (set out p v) (suc p) ≡ added c t (suc n) out p
+  added-next : (c t n p : ℕ) (out : List ℕ) {v t' : ℕ} → p < length out → v ≡ t ⊕ getD out p 0 → t' ≡ c ⊗ t →
+      added c t' n (set out p v) (suc p) ≡ added c t (suc n) out p
   unfolding added
   added-next c t n p out {v} {t'} h ev et =
       let s : p < suc p = omega arith in

@@ -1,7 +1,7 @@
 -- `correction::correct` meets its contract. The loop's invariant: from place i on stands the product of the coefficients of q from number i on.
 use Prim.Native.Nat.{_+_, _-_, _≤_, _<_}
 use native.Mathlib.Omega.{arith}
-use mathlib.Core.Path.{_≡_, refl, _∙_}
+use mathlib.Core.Path.{_≡_, _∙_}
 use lib.ListN.{length, drop, length-set}
 use Rattle.definition.specs.Field.{fieldOf, primeField}
 use Rattle.definition.specs.Polynomial.{geometric}
@@ -73,7 +73,8 @@ loop-again c =
     let k : l .i ≤ length (a .q .now) = l .inv .0 in
     let m : l .i ≤ length (l .out) = omega (arith, k, n .0) in
     let r : l .i - 1 ≤ length (a .q .now) = omega (arith, k) in
-    (r, (p .kept .1 .1 .1 .0 ∙ simp length-set (n .0), product-turn (fieldOf (a .field)) (laws (a .field)) (a .q .now) (l .out) (p .last .1 .1 .1 .0) (a .c) (a .e) (l .i) h k m (n .1) (w .ensures) (p .ensures)))
+    let o : length (p .last .1 .1 .1 .0) ≡ length (a .q .now) + a .e = p .kept .1 .1 .1 .0 ∙ simp length-set (n .0) in
+    (r, (o, product-turn (fieldOf (a .field)) (laws (a .field)) (a .q .now) (l .out) (p .last .1 .1 .1 .0) (a .c) (a .e) (l .i) h k m (n .1) (w .ensures) (p .ensures)))
 
 same-length : tie.Need-same-length Inv-loop μ-loop
 same-length c = omega arith

@@ -1,7 +1,7 @@
 -- `correction::corrected` meets its contract: the quotient of f, times the geometric polynomial, is the corrected polynomial.
-use Prim.Native.Nat.{_-_, _≤_}
+use Prim.Native.Nat.{_-_}
 use native.Mathlib.Omega.{arith}
-use mathlib.Core.Path.{_≡_, sym, _∙_}
+use mathlib.Core.Path.{_≡_, sym}
 use lib.ListN.{length, take}
 use lib.Seq.{length-take-le}
 use Rattle.definition.specs.Field.{fieldOf}
@@ -50,8 +50,10 @@ returns : tie.Need-returns
 returns c =
     let a = c .before .before .before .before .before .before .before .before .before .before .before .before .args in
     let p = c .before .before .before .before .before .before .before .quotient in
+    let r = c .before .before .correct in
     let n = a .count - (length (a .xs .now) - a .from) in
-    corrected-end (fieldOf (a .field)) (laws (a .field)) (a .xs .now) (take (a .count) (a .f .now)) (p .last .1 .1 .1 .0) (c .before .before .correct .last .1 .1 .1 .1 .0) (a .from) (a .c) n (p .ensures) (c .before .before .correct .ensures)
+    corrected-end (fieldOf (a .field)) (laws (a .field)) (a .xs .now) (take (a .count) (a .f .now)) (p .last .1 .1 .1 .0) (r .last .1 .1 .1 .1 .0)
+    (a .from) (a .c) n (p .ensures) (r .ensures)
 
 pub corrected-spec : {M : Type 1} → statement M
 corrected-spec =

@@ -34,7 +34,7 @@ value-of-requires c κs =
     let l = c .before .loop in
     let s = c .before .before .before .before in
     let a = s .args in
-    chunk-inside (l .j) (a .k) (length (a .out .now)) (length (a .f .now)) (omega arith) (l .inv .0) (s .pre .1)
+    omega (arith, chunk-inside (l .j) (a .k) (length (a .out .now)) (length (a .f .now)) (omega arith) (l .inv .0) (s .pre .1))
 
 mul-out : tie.Need-mul-out Inv-loop μ-loop
 mul-out c = omega arith
