@@ -53,7 +53,6 @@ add-add-multiples c = omega arith
 add-multiples-requires : tie.Need-add-multiples-requires Inv-loop μ-loop
 add-multiples-requires c κs =
     let l = c .before .before .before .before .loop in
-    let s = c .before .before .before .before .before .before .before .before .before .before .before in
     let t = c .before .before .before .loop-test .taken in
     simp length-set (omega (arith, t, l .inv .0, l .inv .1 .0))
 
