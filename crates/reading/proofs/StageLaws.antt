@@ -20,13 +20,12 @@ use Rattle.outcome.specs.declared.Found.the-variants.{At, Nothing}
 use Rattle.outcome.specs.declared.Outcome.{Outcome as Answered}
 use Rattle.outcome.specs.declared.Outcome.the-variants.{Refused}
 use Rattle.outcome.specs.Meaning.{outcomeOf, placeOf}
-use Rattle.completeness.specs.Tests.{equal-passes, then-passes}
-use Rattle.sheet.specs.Bounds.{blocks-most}
 use Rattle.sheet.specs.Rules.{refusal-of, none-broken}
 use Rattle.sheet.specs.Front.{test-front, sheet-front}
 use Rattle.stream.specs.FileWords.{stream-length}
 use Rattle.stream.specs.Loaded.{Loaded, loaded-all}
 use Rattle.reading.specs.Stages.{Loads, Read}
+use Rattle.reading.specs.Passed.{few-blocks}
 
 -- an answer says where a test fails
 pub at-place : {r : Found} {place : ℕ} {t : Option ℕ} → placeOf r ≡ t → r ≡ At place → some place ≡ t
@@ -169,22 +168,6 @@ never e = let z : _≡_ {A = ℕ} 0 1 = cc in omega arith
 pub read-refused : (file words : List ℕ) {n p : ℕ} → refused n p ≡ reading file → Read file (Refused n p) words
 unfolding outcomeOf
 read-refused file words e = record { outcome = e; stream = λ h. absurd (never (e ∙ h)) }
-
--- no more blocks than are loaded
-few-blocks : (file : List ℕ) → reading file ≡ accepted → length file / 512 ≤ 68
-unfolding reading streamTests bodyTests blocksTest
-few-blocks file e =
-    let w = streamOf file in
-    let a = then-passes (lengthTest file) _ e in
-    let b = then-passes (checkTest file) _ (a .1) in
-    let c = then-passes (sheetTest w) _ (b .1) in
-    let d = then-passes (blocksTest (sheetOf w) (length file / 512)) _ (c .1) in
-    let n : length file / 512 ≡ blockCount (wordsDue (sheetOf w)) = equal-passes 4 (blockCount (wordsDue (sheetOf w))) (length file / 512) (blockCount (wordsDue (sheetOf w))) (d .0) in
-    few (length file / 512) (stream-length file) n (c .0)
-  where
-    few : (blocks : ℕ) → length (streamOf file) ≡ 127 * blocks → blocks ≡ blockCount (wordsDue (sheetOf (streamOf file))) → sheetTest (streamOf file) ≡ accepted → blocks ≤ 68
-    few zero l n p = omega arith
-    few (suc m) l n p = omega (arith, n, blocks-most (streamOf file) (omega arith) p)
 
 pub read-loaded : (file : List ℕ) {found : Found} {r : Answered} {words : List ℕ} → Loaded file found words → found ≡ Nothing → outcomeOf r ≡ reading file → Read file r words
 read-loaded file loaded right e = record { outcome = e; stream = λ h. loaded-all file loaded right (few-blocks file h) }
