@@ -6,6 +6,7 @@
 //! is the thing other code is compared with, so it prefers being obvious to
 //! being fast.
 
+pub mod baseline;
 pub mod domain;
 pub mod field;
 pub mod generate;

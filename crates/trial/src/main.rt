@@ -1,0 +1,23 @@
+// Judges each file that the arguments name, one line each.
+fn one(i: usize) -> bool {
+    let mut path = io::buffer();
+    let length = os::arg(i, &mut path);
+    if os::errno() != 0 {
+        return false;
+    }
+    let fd = os::open_read(&path[..length]);
+    if fd < 0 {
+        return false;
+    }
+    report::judge(fd);
+    libc::close(fd);
+    true
+}
+
+fn main() {
+    for i in 1..100 {
+        if !one(i) {
+            return;
+        }
+    }
+}

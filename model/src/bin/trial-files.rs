@@ -1,0 +1,98 @@
+//! Writes the files that the program over many files is run on, into the folder given, and prints their names, or with `--verdicts`
+//! the lines that the model says.
+
+use std::path::Path;
+use tevrolig_model::generate::{aim, coefficients, coins, honest_file, Rng};
+use tevrolig_model::stream::{to_blocks, write_word};
+use tevrolig_model::{generate, line, verify};
+
+const WORKED: [u32; 45] = [
+    0, 16, 8, 2, 1, 1, 1, 1, 0, 0, 0, 0, // sheet
+    3, 11, 6, 11, 5, 6, 1, 3, 13, 8, 7, 12, 5, 10, 2, 15, // table 0
+    2, // fold coin 0
+    15, 3, 15, 0, 0, 4, 7, 13, // table 1
+    0, 5, 3, 4, 0, // out coin, reply, combination coin, fold coin, shift index
+    14, 11, 1, // final coefficients, final index
+];
+
+fn worked(changes: &[(usize, u32)]) -> Vec<u8> {
+    let mut stream = WORKED;
+    for &(word, value) in changes {
+        stream[word] = value;
+    }
+    to_blocks(&stream)
+}
+
+fn files() -> Vec<(String, Vec<u8>)> {
+    let mut files: Vec<(String, Vec<u8>)> = vec![
+        ("p10".into(), worked(&[])),
+        ("p11".into(), worked(&[(42, 15)])),
+        ("p12".into(), worked(&[(37, 9), (38, 5)])),
+        ("p13".into(), worked(&[(37, 9), (38, 16), (42, 0), (43, 15)])),
+        ("p14".into(), worked(&[(37, 3)])),
+        ("empty".into(), Vec::new()),
+        ("one-byte-less".into(), worked(&[])[..511].to_vec()),
+        ("longer-than-read".into(), vec![0; 70_000]),
+    ];
+
+    // Each refusal on files of every field.
+    let sheets: [[u32; 12]; 3] = [
+        [0, 16, 8, 2, 1, 2, 1, 3, 0, 0, 0, 0],
+        [1, 256, 128, 4, 2, 2, 9, 5, 7, 0, 0, 0],
+        [2, 128, 64, 2, 3, 2, 7, 6, 5, 9, 0, 0],
+    ];
+    for (field, sheet) in sheets.iter().enumerate() {
+        let mut rng = Rng::new(field as u64);
+        let given = coefficients(&mut rng, sheet);
+        let hostile = coins(&mut rng, sheet, true);
+        let file = honest_file(sheet, &given, &hostile);
+        files.push((format!("honest-{field}"), file.clone()));
+        for number in 1..=9 {
+            let mut damaged = file.clone();
+            if aim(&mut rng, &mut damaged, number) {
+                files.push((format!("refused-{number}-field-{field}"), damaged));
+            }
+        }
+    }
+
+    // Edges of the sheet: the smallest; n0 = 32 in field 0; t_0 + s = d_1; t = 65.
+    let smallest = [0, 4, 2, 2, 0, 1, 1, 0, 0, 0, 0, 0];
+    let mut rng = Rng::new(9);
+    let given = coefficients(&mut rng, &smallest);
+    let few = coins(&mut rng, &smallest, false);
+    files.push(("smallest".into(), honest_file(&smallest, &given, &few)));
+    for (name, word, value) in [("n0-32", 1, 32), ("t0-with-s", 6, 3), ("t1-65", 7, 65)] {
+        let mut file = worked(&[]);
+        write_word(&mut file, word, value);
+        generate::rewrite_checks(&mut file);
+        files.push((name.into(), file));
+    }
+
+    // The largest sheets, honest.
+    let largest: [[u32; 12]; 3] = [
+        [2, 4096, 2048, 2, 5, 2, 64, 64, 64, 64, 61, 64],
+        [2, 4096, 2048, 16, 1, 2, 64, 64, 0, 0, 0, 0],
+        [2, 4096, 512, 4, 2, 2, 36, 27, 22, 0, 0, 0],
+    ];
+    for (i, sheet) in largest.iter().enumerate() {
+        let mut rng = Rng::new(100 + i as u64);
+        let given = coefficients(&mut rng, sheet);
+        let drawn = coins(&mut rng, sheet, false);
+        files.push((format!("largest-{i}"), honest_file(sheet, &given, &drawn)));
+    }
+    files
+}
+
+fn main() {
+    let folder = std::env::args().nth(1).expect("a folder");
+    let verdicts = std::env::args().any(|word| word == "--verdicts");
+    for (name, file) in files() {
+        std::fs::write(Path::new(&folder).join(&name), &file).expect("the file is written");
+        if verdicts {
+            let read = &file[..file.len().min(65536)];
+            println!("{}", line(verify(read)));
+        } else {
+            println!("{name}");
+        }
+    }
+}
