@@ -1,24 +1,23 @@
 -- The words of the next round, or of the final comparison, are there and in range; and what is known at a place is known at the next.
-use Prim.Native.Nat.{ℕ, suc, _+_, _-_, _*_, _/_, _^_, _≤_, _<_}
+use Prim.Native.Nat.{ℕ, _+_, _*_, _/_, _^_, _≤_, _<_}
 use native.Mathlib.Nat.{mul-div-le, mul-le-mul-left, mul-le-mul-right, pow-suc}
 use native.Mathlib.Numerals.{add-one}
 use native.Mathlib.Omega.{arith}
 use mathlib.Core.Path.{_≡_, refl, ap, _∙_, subst}
-use mathlib.Core.List.{List, [], _∷_, _++_}
+use mathlib.Core.List.{List, _∷_, _++_}
 use lib.ListN.{length, getD, take, drop, replicate, length-append, length-drop, length-replicate}
 use lib.Pow.{pow-mono}
 use lib.Seq.{drop-drop}
-use Rattle.algebra.specs.ListFacts.{All}
 use Rattle.completeness.specs.ByPlace.{at-place}
 use Rattle.completeness.specs.LayoutFacts.{round-length}
 use Rattle.definition.specs.Field.{primeOf}
-use Rattle.definition.specs.Layout.{Kind, coin, index, laterCount, limit, message, out, restLayout, roundLayout}
+use Rattle.definition.specs.Layout.{coin, index, laterCount, limit, message, out, restLayout, roundLayout}
 use Rattle.definition.specs.Sheet.{Level, finalCount, shiftCount}
 use Rattle.rounds.specs.declared.Function.{Function}
 use Rattle.rounds.specs.Round.{Below, Fits}
 use Rattle.deciding.specs.declared.Stand.{Stand}
 use Rattle.deciding.specs.Begins.{Begins, begins-after, begins-front, begins-long, begins-run, begins-tail}
-use Rattle.deciding.specs.Stand.{finalsOf, levelOf, levelsOf, nextFunction, nextSize, nextStand, outsOf, repliesOf, repetitionsOf, shiftsAt, shiftsOf, tableOf}
+use Rattle.deciding.specs.Stand.{finalsOf, levelOf, levelsOf, nextFunction, nextSize, nextStand, repetitionsOf, shiftsAt, shiftsOf}
 use Rattle.deciding.specs.Standing.{Placed, Shaped, Standing}
 use Rattle.deciding.specs.Words.{levels-end, levels-next, third-drop}
 

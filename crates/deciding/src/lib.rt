@@ -16,7 +16,7 @@ ghost use Rattle.definition.specs.Field.{primeField};
 ghost use Rattle.definition.specs.Layout.{layout, readTranscript, wordsDue};
 ghost use Rattle.definition.specs.Lists.{firstTrue};
 ghost use Rattle.definition.specs.Reading.{rangeTest, sheetTest};
-ghost use Rattle.definition.specs.Sheet.{Sheet, firstLevel, rootOfUnity, sheetOf};
+ghost use Rattle.definition.specs.Sheet.{firstLevel, rootOfUnity, sheetOf};
 ghost use Rattle.definition.specs.Verdict.{accepted};
 ghost use Rattle.domain.specs.Powers.{Powers};
 ghost use Rattle.outcome.specs.Meaning.{placeOf, verdictOf};
