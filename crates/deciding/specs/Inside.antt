@@ -18,7 +18,7 @@ use Rattle.rounds.specs.Round.{Below, Fits}
 use Rattle.deciding.specs.declared.Stand.{Stand}
 use Rattle.deciding.specs.Begins.{Begins, begins-after, begins-front, begins-long, begins-run, begins-tail}
 use Rattle.deciding.specs.Stand.{finalsOf, levelOf, levelsOf, nextFunction, nextSize, nextStand, repetitionsOf, shiftsAt, shiftsOf}
-use Rattle.deciding.specs.Standing.{Placed, Shaped, Standing}
+use Rattle.deciding.specs.Standing.{Placed, RoundInside, Standing}
 use Rattle.deciding.specs.Words.{levels-end, levels-next, third-drop}
 
 -- a run of n indices below c in a list
@@ -40,17 +40,6 @@ shifts-below p s b l w h =
 
 drop-two : (l : List ℕ) → drop 1 (drop 1 l) ≡ drop 2 l
 drop-two l = drop-drop 1 1 l
-
--- The next round's words are there, its shift indices are below the number of shift points, and the words after it are in range.
-pub record RoundInside (w : List ℕ) (st : Stand) : Type 0 where
-  pub there : shiftsAt w st + repetitionsOf w st ≤ length w
-  pub below : Below (st .size / getD w 3 0) (shiftsOf w st)
-  pub rest : Begins (primeOf (getD w 0 0)) (restLayout (getD w 5 0) (levelOf w (nextStand w st)) (levelsOf w (nextStand w st))) (drop (nextStand w st .at) w)
-  pub few : repetitionsOf w st ≤ 64
-  pub sheet : Shaped w
-  pub level : st .level < 5
-  pub fewer : repetitionsOf w st * getD w 3 0 ≤ 1024
-  pub reads : st .reads ≤ 8192
 
 -- a level's reads are at most 64·16
 pub reads-most : (t k : ℕ) → t ≤ 64 → k ≤ 16 → t * k ≤ 1024
