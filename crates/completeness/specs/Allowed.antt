@@ -1,39 +1,38 @@
 -- What the premises say, word by word: a sheet of 12 words, d0 coefficients, and coins each of which passes refusals 5 and 7.
 use Prim.Native.Nat.{ℕ, _+_}
-use native.Mathlib.Omega.{arith}
-use mathlib.Core.Path.{_≡_, refl, sym, ap, _∙_, subst}
-use mathlib.Core.Bool.{Bool, true, false, not}
+use mathlib.Core.Bool.{false}
 use mathlib.Core.List.{List, [], _∷_, _++_}
-use mathlib.Core.Option.{Option, none, some}
-use lib.Dec.{eqb}
+use mathlib.Core.Path.{_≡_, sym, ap, _∙_, subst}
 use lib.ListN.{length, getD, drop, replicate, length-append, length-replicate}
 use lib.Seq.{drop-at}
-use borrow.Author.Tests.{eqb-true, not-false}
-use Rattle.completeness.specs.EachWord.{Each, each-append-at, each-false, each-pair}
-use Rattle.completeness.specs.FairCoins.{Passes}
-use Rattle.completeness.specs.LayoutFacts.{Dealt, coins-append, coins-messages, dealt}
-use Rattle.completeness.specs.Numbered.{Allowed}
-use Rattle.completeness.specs.Tests.{at-passes, equal-passes}
 use Rattle.definition.specs.Deciding.{outInDomain}
 use Rattle.definition.specs.Layout.{Kind, coin, coinKinds, layout, message, restLayout}
 use Rattle.definition.specs.Prove.{coefficientsTest, coinDomainTest, coinsTest, inputRangeTest, sheetLengthTest}
 use Rattle.definition.specs.Reading.{outOfRange}
 use Rattle.definition.specs.Sheet.{Sheet, firstLevel, laterLevels, sheetOf}
-use Rattle.definition.specs.Verdict.{accepted, refuseAt, refuseIf}
+use Rattle.definition.specs.Verdict.{accepted}
+use Rattle.completeness.specs.EachWord.{Each, each-append-at, each-false, each-pair}
+use Rattle.completeness.specs.FairCoins.{Passes}
+use Rattle.completeness.specs.LayoutFacts.{Dealt, coins-append, coins-messages, dealt}
+use Rattle.completeness.specs.Numbered.{Allowed}
+use Rattle.completeness.specs.Tests.{at-passes, equal-passes}
+
+pub sheet-long : (w : List ℕ) → sheetLengthTest w ≡ accepted → length w ≡ 12
+unfolding sheetLengthTest
+sheet-long w e = equal-passes 10 0 (length w) 12 e
 
 head-each : (R : Kind → ℕ → Type 0) (k : Kind) (ks : List Kind) (w : List ℕ) → Each R (k ∷ ks) w → R k (getD w 0 0) × Each R ks (drop 1 w)
 head-each R k ks [] h = absurd h
 head-each R k ks (x ∷ w) h = h
 
 -- fold coin 0 comes first
-pub layout-coins : (h : Sheet) → coinKinds (layout h) ≡ coin ∷ coinKinds (restLayout (h .outCoins) (firstLevel h) (laterLevels h))
+layout-coins : (h : Sheet) → coinKinds (layout h) ≡ coin ∷ coinKinds (restLayout (h .outCoins) (firstLevel h) (laterLevels h))
 unfolding layout coinKinds
 layout-coins h = coins-append (replicate (h .size) message) (coin ∷ restLayout (h .outCoins) (firstLevel h) (laterLevels h)) ∙ rw coins-messages
 
 module _ {w f coins : List ℕ} (ok : Allowed w f coins) where
   pub allowed-long : length w ≡ 12
-  unfolding sheetLengthTest
-  allowed-long = equal-passes 10 0 (length w) 12 (ok .words)
+  allowed-long = sheet-long w (ok .words)
 
   pub allowed-degree : length f ≡ sheetOf w .degree
   unfolding coefficientsTest
@@ -44,13 +43,14 @@ module _ {w f coins : List ℕ} (ok : Allowed w f coins) where
   allowed-count = equal-passes 10 2 (length coins) (length (coinKinds (layout (sheetOf w)))) (ok .full)
 
   -- each coin passes refusals 5 and 7
-  pub allowed-coins : Each (Passes (sheetOf w)) (coinKinds (layout (sheetOf w))) coins
+  allowed-coins : Each (Passes (sheetOf w)) (coinKinds (layout (sheetOf w))) coins
   unfolding inputRangeTest coinDomainTest
   allowed-coins =
       let h = sheetOf w in
       let ks = coinKinds (layout h) in
       let count : length (f ++ coins) ≡ length (replicate (h .degree) message ++ ks) =
-      length-append f coins ∙ (λ i. allowed-degree i + allowed-count i) ∙ sym (length-append (replicate (h .degree) message) ks ∙ ap (λ (n : ℕ). n + length ks) (length-replicate (h .degree) message)) in
+      length-append f coins ∙ (λ i. allowed-degree i + allowed-count i)
+      ∙ sym (length-append (replicate (h .degree) message) ks ∙ ap (λ (n : ℕ). n + length ks) (length-replicate (h .degree) message)) in
       let inside = each-false (outOfRange h) 0 (replicate (h .degree) message ++ ks) (f ++ coins) count (at-passes 5 _ (ok .range)) in
       let apart = each-false (outInDomain h) 0 ks coins allowed-count (at-passes 7 _ (ok .outside)) in
       each-pair (λ k x. outOfRange h k x ≡ false) (λ k x. outInDomain h k x ≡ false) ks coins
@@ -59,7 +59,9 @@ module _ {w f coins : List ℕ} (ok : Allowed w f coins) where
       apart
 
   split-coins : Passes (sheetOf w) coin (getD coins 0 0) × Each (Passes (sheetOf w)) (coinKinds (restLayout (sheetOf w .outCoins) (firstLevel (sheetOf w)) (laterLevels (sheetOf w)))) (drop 1 coins)
-  split-coins = head-each (Passes (sheetOf w)) coin (coinKinds (restLayout (sheetOf w .outCoins) (firstLevel (sheetOf w)) (laterLevels (sheetOf w)))) coins (subst (λ (ks : List Kind). Each (Passes (sheetOf w)) ks coins) (layout-coins (sheetOf w)) allowed-coins)
+  split-coins =
+      head-each (Passes (sheetOf w)) coin (coinKinds (restLayout (sheetOf w .outCoins) (firstLevel (sheetOf w)) (laterLevels (sheetOf w)))) coins
+      (subst (λ (ks : List Kind). Each (Passes (sheetOf w)) ks coins) (layout-coins (sheetOf w)) allowed-coins)
 
   pub allowed-first : Passes (sheetOf w) coin (getD coins 0 0)
   allowed-first = split-coins .0

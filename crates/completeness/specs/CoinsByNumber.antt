@@ -1,18 +1,18 @@
--- The coins of round i by their places in the coin list are those that the walk over the rounds reads there, and they are settled by the coins up to them.
+-- The coins of round i by their places in the coin list are those that the walk over the rounds reads there.
 use Prim.Native.Nat.{ℕ, zero, suc, _+_, _≤_}
 use native.Mathlib.Nat
 use native.Mathlib.Nat.{suc-add, zero-add}
 use native.Mathlib.Omega.{arith}
+use mathlib.Core.List.{List, _∷_, map}
 use mathlib.Core.Path.{_≡_, refl, sym, ap, _∙_}
-use mathlib.Core.List.{List, [], _∷_, map}
 use lib.ListN.{length, getD, take, drop}
-use lib.Seq.{take-nil, drop-drop, getD-take, getD-drop}
-use Rattle.completeness.specs.LevelsByNumber.{level-first, levels-later}
-use Rattle.completeness.specs.ListLaws.{drop-take}
-use Rattle.completeness.specs.Numbered.{coinCount, coinsBefore, coinsOf, combinationCoin, finalIndices, foldCoin, levelOf, outCoinsOf, outsOf, roundsOf, shiftIndices}
+use lib.Seq.{drop-drop, getD-take, getD-drop}
 use Rattle.definition.specs.Layout.{laterCount, readCoins, readFinals, readRounds, roundCoins}
 use Rattle.definition.specs.Lists.{range}
 use Rattle.definition.specs.Sheet.{Level, firstLevel, laterLevels, sheetOf}
+use Rattle.completeness.specs.LevelsByNumber.{level-first, levels-later}
+use Rattle.completeness.specs.ListLaws.{drop-take}
+use Rattle.completeness.specs.Numbered.{coinCount, coinsBefore, coinsOf, combinationCoin, finalIndices, foldCoin, levelOf, outCoinsOf, outsOf, roundsOf, shiftIndices}
 
 module _ (w coins : List ℕ) where
   -- one round, of the coins from its first on

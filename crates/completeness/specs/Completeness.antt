@@ -1,18 +1,29 @@
--- Demand 3: every honest file is accepted, whatever the coins. One claim over the bytes of the file and the whole coin list.
-use Rattle.algebra.specs.PrimeField.{signs-differ}
+-- Completeness: every honest file is accepted, whatever the coins. The refusals of verify are gone through one by one; then the claim is made, over the bytes of the file.
 use Prim.Native.Nat.{ℕ, zero, suc, _+_, _*_, _/_, _%_, _≤_, _<_}
 use native.Mathlib.Omega.{arith}
-use mathlib.Core.Path.{_≡_, refl, sym, ap, _∙_}
-use mathlib.Core.Bool.{Bool, true, false, not, _||_}
+use mathlib.Core.Bool.{true, false, not, _||_}
 use mathlib.Core.List.{List, [], _∷_, _++_, map, zipWith, append-assoc}
-use mathlib.Core.Option.{Option, none}
+use mathlib.Core.Option.{none}
+use mathlib.Core.Path.{_≡_, refl, sym, ap, _∙_}
 use lib.Dec.{eqb}
 use lib.ListN.{length, drop, replicate, length-append}
 use lib.Seq.{drop-at}
 use borrow.Author.Tests.{eq-eqb, ne-eqb}
-use Rattle.completeness.specs.DecidingAccepts
+use Rattle.definition.specs.Block.{blockCount, fileOf, streamOf}
+use Rattle.definition.specs.Deciding.{decide, deciding, outInDomain, outTest, ownPlace, readsOf}
+use Rattle.definition.specs.Field.{Field, primeField}
+use Rattle.definition.specs.Layout.{Kind, layout, limit, readCoins, readTranscript, wordsDue}
+use Rattle.definition.specs.Lists.{firstTrue}
+use Rattle.definition.specs.Prover.{honest, honestStream}
+use Rattle.definition.specs.Reading.{blocksTest, bodyTests, checkTest, fillTest, lengthTest, outOfRange, rangeTest, reading, streamTests}
+use Rattle.definition.specs.Sheet.{Sheet, firstLevel, laterLevels, rootOfUnity, sheetOf}
+use Rattle.definition.specs.Transcript.{Transcript, transcriptWords}
+use Rattle.definition.specs.Verdict.{_then_, accepted, thenVerdict}
+use Rattle.definition.specs.Verify.{verify}
 use Rattle.algebra.specs.ListFacts.{All, all-append}
+use Rattle.algebra.specs.PrimeField.{signs-differ}
 use Rattle.completeness.specs.Allowed.{allowed-degree, allowed-first, allowed-long, allowed-rounds}
+use Rattle.completeness.specs.DecidingAccepts
 use Rattle.completeness.specs.DecidingAccepts.{Fair}
 use Rattle.completeness.specs.Domains.{foldable}
 use Rattle.completeness.specs.EachWord.{Each, each-length, each-map, each-none}
@@ -23,19 +34,8 @@ use Rattle.completeness.specs.Numbered.{Allowed, readsDue}
 use Rattle.completeness.specs.Reads.{all-reads, sheet-reads}
 use Rattle.completeness.specs.Ready.{Ready, layout-fits, ready}
 use Rattle.completeness.specs.SheetLevels.{rules-front, sheet-front}
-use Rattle.completeness.specs.SheetPassed.{sheet-words}
+use Rattle.completeness.specs.SheetRules.{sheet-words}
 use Rattle.completeness.specs.Tests.{at-none, if-false, none-true}
-use Rattle.definition.specs.Block.{blockCount, fileOf, streamOf}
-use Rattle.definition.specs.Deciding.{decide, deciding, outInDomain, outTest, ownPlace, readsOf}
-use Rattle.definition.specs.Field.{Field, primeField}
-use Rattle.definition.specs.Layout.{Kind, layout, limit, readCoins, readFinals, readRounds, readTranscript, wordsDue}
-use Rattle.definition.specs.Lists.{firstTrue}
-use Rattle.definition.specs.Prover.{honest, honestStream}
-use Rattle.definition.specs.Reading.{blocksTest, bodyTests, checkTest, fillTest, lengthTest, outOfRange, rangeTest, reading, streamTests}
-use Rattle.definition.specs.Sheet.{Sheet, firstLevel, laterLevels, rootOfUnity, sheetOf}
-use Rattle.definition.specs.Transcript.{Transcript, transcriptWords}
-use Rattle.definition.specs.Verdict.{_then_, accepted, refuseAt, refuseIf, thenVerdict}
-use Rattle.definition.specs.Verify.{verify}
 
 no-fill : (from n : ℕ) → firstTrue from (map (λ (x : ℕ). not (eqb x 0)) (replicate n 0)) ≡ none
 unfolding firstTrue
@@ -71,15 +71,17 @@ module _ {w f coins : List ℕ} (ok : Allowed w f coins) where
   -- the allowed coins are fair
   pub fair-coins : Fair F (sheetReady .laws) ω (firstLevel h) (readCoins h coins .rounds) (readCoins h coins .finals)
   unfolding readCoins
-  fair-coins = fair h (sheetReady .laws) (signs-differ (h .prime) (sheetReady .large)) (sheetReady .e) (sheetReady .root) (h .outCoins) (firstLevel h) (laterLevels h) (drop 1 coins) (sheetReady .chain) (sheetReady .steps) (allowed-rounds ok)
+  fair-coins =
+      fair h (sheetReady .laws) (signs-differ (h .prime) (sheetReady .large)) (sheetReady .e) (sheetReady .root)
+      (h .outCoins) (firstLevel h) (laterLevels h) (drop 1 coins) (sheetReady .chain) (sheetReady .steps) (allowed-rounds ok)
 
   positive : 0 < h .prime
   positive = omega (arith, sheetReady .large)
 
   -- the words after the sheet
-  pub honest-each : Each (Passes h) (layout h) (transcriptWords τ)
+  honest-each : Each (Passes h) (layout h) (transcriptWords τ)
   unfolding readCoins
-  honest-each = words-each h (sheetReady .laws) positive f coins (allowed-degree ok) (allowed-first ok) (allowed-rounds ok) fair-coins
+  honest-each = words-each h positive (sheetReady .laws) f coins (allowed-degree ok) (allowed-first ok) (allowed-rounds ok) fair-coins
 
   pub honest-words : All Word (honestStream w f coins)
   unfolding honestStream
@@ -88,6 +90,10 @@ module _ {w f coins : List ℕ} (ok : Allowed w f coins) where
   pub honest-length : length (honestStream w f coins) ≡ wordsDue h
   unfolding honestStream wordsDue
   honest-length = length-append w (transcriptWords τ) ∙ (λ i. long i + each-length (Passes h) (layout h) (transcriptWords τ) honest-each i)
+
+  -- the file has the blocks that the sheet needs
+  pub file-size : length (fileOf (honestStream w f coins)) ≡ 512 * blockCount (wordsDue h)
+  file-size = file-length (honestStream w f coins) ∙ ap (λ (n : ℕ). 512 * blockCount n) honest-length
 
   abbrev fill : List ℕ
   fill = replicate (fillCount (honestStream w f coins)) 0
@@ -98,20 +104,17 @@ module _ {w f coins : List ℕ} (ok : Allowed w f coins) where
   stream = file-stream (honestStream w f coins) honest-words ∙ append-assoc w (transcriptWords τ) fill
 
   -- refusals 1 to 6 are not given
-  pub length-passes : lengthTest (fileOf (honestStream w f coins)) ≡ accepted
+  length-passes : lengthTest (fileOf (honestStream w f coins)) ≡ accepted
   unfolding lengthTest blockCount wordsDue
   length-passes = if-false 1 0 _ (λ i. positive-length i || not (whole i))
     where
-      size : length (fileOf (honestStream w f coins)) ≡ 512 * blockCount (wordsDue h)
-      size = file-length (honestStream w f coins) ∙ ap (λ (n : ℕ). 512 * blockCount n) honest-length
-
       positive-length : eqb (length (fileOf (honestStream w f coins))) 0 ≡ false
-      positive-length = ne-eqb (length (fileOf (honestStream w f coins))) 0 (omega (arith, size))
+      positive-length = ne-eqb (length (fileOf (honestStream w f coins))) 0 (omega (arith, file-size))
 
       whole : eqb (length (fileOf (honestStream w f coins)) % 512) 0 ≡ true
-      whole = eq-eqb (length (fileOf (honestStream w f coins)) % 512) 0 (omega (arith, size))
+      whole = eq-eqb (length (fileOf (honestStream w f coins)) % 512) 0 (omega (arith, file-size))
 
-  pub checks-pass : checkTest (fileOf (honestStream w f coins)) ≡ accepted
+  checks-pass : checkTest (fileOf (honestStream w f coins)) ≡ accepted
   unfolding checkTest
   checks-pass = at-none 2 _ (none-true 0 _ (file-checks (honestStream w f coins) honest-words))
 
@@ -127,7 +130,7 @@ module _ {w f coins : List ℕ} (ok : Allowed w f coins) where
   blocks-pass = if-false 4 _ _ (ap not (eq-eqb _ _ count))
     where
       count : length (fileOf (honestStream w f coins)) / 512 ≡ blockCount (wordsDue h)
-      count = omega (arith, file-length (honestStream w f coins) ∙ ap (λ (n : ℕ). 512 * blockCount n) honest-length)
+      count = omega (arith, file-size)
 
   range-passes : rangeTest h (w ++ (transcriptWords τ ++ fill)) ≡ accepted
   unfolding rangeTest
@@ -155,15 +158,24 @@ module _ {w f coins : List ℕ} (ok : Allowed w f coins) where
   stream-passes = rw (rules-front w long (ok .sheet) (transcriptWords τ ++ fill), sheet-front w long (ok .sheet) (transcriptWords τ ++ fill)) body-passes
 
   -- reading: refusals 1 to 6
-  pub reading-passes : reading (fileOf (honestStream w f coins)) ≡ accepted
+  reading-passes : reading (fileOf (honestStream w f coins)) ≡ accepted
   unfolding reading _then_
   reading-passes = rw (length-passes, checks-pass, stream) stream-passes
+
+  -- reading the words back, whatever follows them
+  read-words : (z : List ℕ) → readTranscript h (transcriptWords τ ++ z) ≡ τ
+  unfolding readCoins
+  read-words z = words-read h positive (sheetReady .laws) f coins (allowed-degree ok) (allowed-first ok) (allowed-rounds ok) fair-coins z
+
+  pub read-back : (z : List ℕ) → readTranscript h (drop 12 (honestStream w f coins ++ z)) ≡ τ
+  unfolding honestStream
+  read-back z = ap (λ (l : List ℕ). readTranscript h (drop 12 l)) (append-assoc w (transcriptWords τ) z) ∙ ap (readTranscript h) (drop-at w (transcriptWords τ ++ z) 12 long) ∙ read-words z
 
   -- deciding: refusals 7 to 9
   decided : decide F ω (firstLevel h) (readTranscript h (transcriptWords τ ++ fill)) ≡ record { outcome = accepted; reads = readsDue w }
   unfolding readCoins readsOf
   decided =
-      ap (decide F ω (firstLevel h)) (words-read h (sheetReady .laws) positive f coins (allowed-degree ok) (allowed-first ok) (allowed-rounds ok) fair-coins fill)
+      ap (decide F ω (firstLevel h)) (read-words fill)
       ∙ DecidingAccepts.deciding-accepts F (sheetReady .laws) ω (firstLevel h) f (readCoins h coins) degree
       (foldable F (sheetReady .laws) ω (signs-differ (h .prime) (sheetReady .large)) (sheetReady .e) (sheetReady .root) (firstLevel h) (chain-head _ (firstLevel h) (laterLevels h) (sheetReady .chain)))
       fair-coins
@@ -172,8 +184,8 @@ module _ {w f coins : List ℕ} (ok : Allowed w f coins) where
       degree : length f ≡ firstLevel h .degree
       degree = first-degree h f (allowed-degree ok)
 
-      counted : length (DecidingAccepts.allPlaces (firstLevel h) (ownPlace (firstLevel h)) (readRounds (h .outCoins) (firstLevel h) (laterLevels h) (drop 1 coins)) (readFinals (h .outCoins) (firstLevel h) (laterLevels h) (drop 1 coins))) ≡ readsDue w
-      counted = all-reads F (sheetReady .laws) ω (Passes h) (h .outCoins) (firstLevel h) (laterLevels h) (drop 1 coins) (allowed-rounds ok) ∙ sheet-reads w long (ok .sheet)
+      counted : length (DecidingAccepts.allPlaces (firstLevel h) (ownPlace (firstLevel h)) (readCoins h coins .rounds) (readCoins h coins .finals)) ≡ readsDue w
+      counted = all-reads (Passes h) (h .outCoins) (firstLevel h) (laterLevels h) (drop 1 coins) (allowed-rounds ok) ∙ sheet-reads w long (ok .sheet)
 
   deciding-passes : deciding (w ++ (transcriptWords τ ++ fill)) ≡ record { outcome = accepted; reads = readsDue w }
   unfolding deciding thenVerdict

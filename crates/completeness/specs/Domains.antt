@@ -1,25 +1,25 @@
 -- Domains (01, Domains), in any field with the laws and for any ω with ω^(n0/2) = -1: the points of a domain are different; the k roots of a shift point are k
 -- different points of the domain, whose k-th power it is; different shift indices are different points; no shift point is a point of the next domain (000, Remark 5.3).
 use Prim.Native.Nat.{ℕ, zero, suc, _+_, _-_, _*_, _/_, _^_, _<_}
+use native.Mathlib.Decide.{decLt}
 use native.Mathlib.Nat
 use native.Mathlib.Nat.{pow-suc, mul-pos, mul-le-mul-left, mul-lt-mul-of-pos-left, mul-lt-mul-of-pos-right}
-use native.Mathlib.Decide.{decLt}
 use native.Mathlib.Omega.{arith}
-use mathlib.Core.Path.{_≡_, refl, sym, ap, _∙_, subst}
+use mathlib.Core.Path.{_≡_, sym, ap, _∙_, subst}
 use lib.Pow.{pow-pos}
-use Rattle.algebra.specs.RingLaws
-use Rattle.algebra.specs.RootsOfUnity
-use Rattle.algebra.specs.Different.{Apart, Differ, apart-range}
-use Rattle.algebra.specs.Laws.{FieldLaws}
-use Rattle.algebra.specs.ListFacts.{all-of-map, all-range, map-map}
-use Rattle.algebra.specs.RootsOfUnity.{minusOne}
-use Rattle.completeness.specs.DecidingAccepts.{Foldable}
-use Rattle.completeness.specs.SheetFacts.{Sized}
-use Rattle.completeness.specs.SheetLevels.{Step}
 use Rattle.definition.specs.Domain.{domain, point, rootNumbers, shiftPoint}
 use Rattle.definition.specs.Field.{Field, power}
 use Rattle.definition.specs.Lists.{range}
 use Rattle.definition.specs.Sheet.{Level, shiftCount}
+use Rattle.algebra.specs.Different.{Apart, Differ, apart-range}
+use Rattle.algebra.specs.Laws.{FieldLaws}
+use Rattle.algebra.specs.ListFacts.{all-of-map, all-range, map-map}
+use Rattle.algebra.specs.RingLaws
+use Rattle.algebra.specs.RootsOfUnity
+use Rattle.algebra.specs.RootsOfUnity.{minusOne}
+use Rattle.completeness.specs.DecidingAccepts.{Foldable}
+use Rattle.completeness.specs.LevelSizes.{Sized, positive-sizes}
+use Rattle.completeness.specs.SheetLevels.{Step}
 
 -- exponents
 further : (t a c : ℕ) → 1 + t * (a + c) ≡ 1 + t * a + t * c
@@ -68,7 +68,7 @@ module _ {A : Type 0} (F : Field A) (L : FieldLaws F) (ω : A) (signs : minusOne
   infixl 65 _⊖_
   infixl 70 _⊗_
   open Field F using (𝟘, 𝟙, _⊖_, _⊗_)
-  open FieldLaws L using (mul-one)
+  open FieldLaws L using (mul-comm, mul-one, mul-zero, one≢zero)
 
   -- the order of ω is n0
   double : (l : Level) → Sized (suc e) l → 2 ^ l .number * l .size ≡ 2 ^ e + 2 ^ e
@@ -78,6 +78,16 @@ module _ {A : Type 0} (F : Field A) (L : FieldLaws F) (ω : A) (signs : minusOne
   full-power m =
       sym (RootsOfUnity.power-mul F L ω (2 ^ e + 2 ^ e) m)
       ∙ ap (λ (y : A). power F y m) (RingLaws.power-add F L ω (2 ^ e) (2 ^ e) ∙ rw root (RootsOfUnity.minus-square F L)) ∙ RootsOfUnity.power-one F L m
+
+  -- no power of ω is 0
+  pub power-nonzero : (n : ℕ) → power F ω n ≡ 𝟘 → ⊥
+  power-nonzero n z =
+      let k = 2 ^ e + 2 ^ e in
+      one≢zero (sym (full-power n) ∙ ap (power F ω) (Nat.mul-comm k n) ∙ sym (RootsOfUnity.power-mul F L ω n k) ∙ ap (λ (y : A). power F y k) z ∙ zero-power k (omega (arith, pow-pos e)))
+    where
+      zero-power : (m : ℕ) → 0 < m → power F 𝟘 m ≡ 𝟘
+      zero-power zero h = absurd (omega arith)
+      zero-power (suc m) h = RootsOfUnity.power-suc F L 𝟘 m ∙ mul-comm 𝟘 (power F 𝟘 m) ∙ mul-zero (power F 𝟘 m)
 
   -- points
   points-differ : (l : Level) (a c : ℕ) → Sized (suc e) l → c < l .size → 0 < c → Differ F (point F ω l (a + c)) (point F ω l a)
@@ -150,22 +160,12 @@ module _ {A : Type 0} (F : Field A) (L : FieldLaws F) (ω : A) (signs : minusOne
           let p : m * q ≡ n * q = omega arith in
           sym (Nat.mul-div-cancel m k) ∙ ap (λ (y : ℕ). y / q) p ∙ Nat.mul-div-cancel n k
 
-  fold-positive : (l : Level) → Sized (suc e) l → 0 < l .fold
-  fold-positive l r = go (l .fold) refl
-    where
-      go : (k : ℕ) → l .fold ≡ k → 0 < k
-      go zero q =
-          let z : l .size ≡ 0 = sym (r .folds) ∙ ap (λ (n : ℕ). l .size / l .fold * n) q ∙ Nat.mul-zero (l .size / l .fold) in
-          let y : 2 ^ l .number * l .size ≡ 0 = ap (λ (n : ℕ). 2 ^ l .number * n) z ∙ Nat.mul-zero (2 ^ l .number) in
-          absurd (omega (arith, pow-pos (suc e), r .whole, y))
-      go (suc k) q = omega arith
-
   -- shift points of different indices
   shifts-differ : (l : Level) (a c : ℕ) → Sized (suc e) l → c < l .size / l .fold → 0 < c → Differ F (shiftPoint F ω l (a + c)) (shiftPoint F ω l a)
   unfolding point shiftPoint
   shifts-differ l a c r u k =
       let t = 2 ^ l .number in
-      let f = fold-positive l r in
+      let f = positive-sizes (suc e) l r .1 in
       let less : c * l .fold < l .size = subst (λ (n : ℕ). c * l .fold < n) (r .folds) (mul-lt-mul-of-pos-right u f) in
       subst (λ (x : A). Differ F x (power F (power F ω (1 + t * a)) (l .fold))) (sym (RootsOfUnity.power-mul F L ω (1 + t * (a + c)) (l .fold) ∙ ap (power F ω) (further-folded t a c (l .fold))))
       (subst (λ (x : A). Differ F (power F ω ((1 + t * a) * l .fold + t * (c * l .fold))) x) (sym (RootsOfUnity.power-mul F L ω (1 + t * a) (l .fold)))

@@ -2,23 +2,23 @@
 use Prim.Native.Nat.{ℕ, zero, suc, _+_, _*_, _/_, _%_, _≤_, _<_}
 use native.Mathlib.Nat.{div-le-self}
 use native.Mathlib.Omega.{arith}
-use mathlib.Core.Path.{_≡_, refl, sym, ap, _∙_, subst}
 use mathlib.Core.Bool.{Bool, true, false, _||_, true≢false}
 use mathlib.Core.List.{List, [], _∷_, tail}
+use mathlib.Core.Path.{_≡_, refl, sym, ap, _∙_, subst}
 use lib.Dec.{eqb}
 use lib.ListN.{length, getD, take, drop, replicate, length-append, length-replicate}
 use lib.Seq.{getD-drop}
 use borrow.Author.Tests.{eqb-true, not-false}
-use Rattle.algebra.specs.ListFacts.{All}
-use Rattle.completeness.specs.LayoutFacts.{round-length}
-use Rattle.completeness.specs.SheetPassed.{between-true, exponents, rules-hold, small-repetitions}
-use Rattle.completeness.specs.Tests.{and-true, equal-passes, if-passes, then-passes}
 use Rattle.definition.specs.Block.{blockCount, streamOf}
 use Rattle.definition.specs.Layout.{coin, index, laterCount, layout, message, restLayout, roundLayout, wordsDue}
 use Rattle.definition.specs.Reading.{blocksTest, bodyTests, checkTest, lengthTest, reading, sheetTest, streamTests}
 use Rattle.definition.specs.Sheet.{Level, degreeRule, finalCount, firstLevel, laterLevels, levelsFrom, outCoinsRule, powerOfTwo, sheetOf, sheetRules, shiftCount}
 use Rattle.definition.specs.Verdict.{Outcome, Verdict, accepted, refused, thenVerdict}
 use Rattle.definition.specs.Verify.{verify}
+use Rattle.algebra.specs.ListFacts.{All}
+use Rattle.completeness.specs.LayoutFacts.{round-length}
+use Rattle.completeness.specs.SheetRules.{between-true, exponents, rules-hold, small-repetitions}
+use Rattle.completeness.specs.Tests.{and-true, equal-passes, if-passes, then-passes}
 
 final-size : (s : ℕ) (b : Level) → length (restLayout s b []) ≤ b .degree + b .repetitions
 unfolding restLayout finalCount
@@ -31,7 +31,7 @@ final-size s b =
       div-le-self (b .degree) (b .fold),
     )
 
-rest-length : (s : ℕ) (b l : Level) (ls : List Level) → length (restLayout s b (l ∷ ls)) ≡ l .size + (s + (s + laterCount b)) + length (restLayout s l ls)
+pub rest-length : (s : ℕ) (b l : Level) (ls : List Level) → length (restLayout s b (l ∷ ls)) ≡ l .size + (s + (s + laterCount b)) + length (restLayout s l ls)
 unfolding restLayout
 rest-length s b l ls = length-append (roundLayout s b l) (restLayout s l ls) ∙ ap (λ (n : ℕ). n + length (restLayout s l ls)) (round-length s b l)
 
@@ -59,7 +59,7 @@ tail-small : (l : List ℕ) → All (λ x. x ≤ 64) l → All (λ x. x ≤ 64) 
 tail-small [] h = tt
 tail-small (x ∷ l) h = h .1
 
-pub sheet-size : (w : List ℕ) → sheetTest w ≡ accepted → length (layout (sheetOf w)) ≤ 10656
+sheet-size : (w : List ℕ) → sheetTest w ≡ accepted → length (layout (sheetOf w)) ≤ 10656
 unfolding layout sheetOf firstLevel laterLevels sheetRules outCoinsRule degreeRule
 sheet-size w e =
     let x = exponents w e in
@@ -81,7 +81,7 @@ sheet-size w e =
     )
 
 -- the file of a sheet that passes
-pub file-size : (w : List ℕ) → sheetTest w ≡ accepted → 512 * blockCount (wordsDue (sheetOf w)) < 65536
+file-size : (w : List ℕ) → sheetTest w ≡ accepted → 512 * blockCount (wordsDue (sheetOf w)) < 65536
 unfolding blockCount wordsDue
 file-size w e = omega (arith, sheet-size w e)
 

@@ -1,18 +1,18 @@
 -- Reading back the file of a word stream: its length, its checks, and the stream with its fill (01, The word stream and its blocks).
 use Prim.Native.Nat.{ℕ, zero, suc, _+_, _-_, _*_, _/_, _%_, _<_}
-use native.Mathlib.Omega.{arith}
 use native.Mathlib.Nat.{zero-mul, suc-mul, mod-lt}
-use mathlib.Core.Path.{_≡_, refl, sym, ap, _∙_}
+use native.Mathlib.Omega.{arith}
 use mathlib.Core.Bool.{Bool, false}
-use mathlib.Core.List.{List, [], _∷_, _++_, map, flatMap, append-assoc}
+use mathlib.Core.List.{List, [], _∷_, _++_, map, flatMap}
+use mathlib.Core.Path.{_≡_, refl, sym, ap, _∙_}
+use lib.Dec.{lit<}
 use lib.ListN.{length, take, drop, replicate, length-append, length-replicate, length-take, length-drop, take-append-drop}
 use lib.Seq.{take-at}
-use lib.Dec.{lit<}
+use Rattle.definition.specs.Block.{blockCount, blocksOf, bytesOf, checkWord, fileBlocks, fileOf, lowBytes, sealFrom, streamOf, weightedSum, wordOf, wrongChecks}
+use Rattle.definition.specs.Lists.{chunks}
 use Rattle.algebra.specs.ListFacts.{All, all-append}
 use Rattle.completeness.specs.BlockTrip.{chunks-of, right-checks, sealed, words-of-bytes}
 use Rattle.completeness.specs.ListLaws.{all-drop, all-replicate, all-take, flatMap-append}
-use Rattle.definition.specs.Block.{blockCount, blocksOf, bytesOf, checkWord, fileBlocks, fileOf, lowBytes, sealFrom, streamOf, weightedSum, wordOf, wrongChecks}
-use Rattle.definition.specs.Lists.{chunks}
 
 -- a stream with its fill, and the fill's length
 unfoldable pub fillCount : List ℕ → ℕ
@@ -21,7 +21,7 @@ fillCount w = 127 * blockCount (length w) - length w
 unfoldable pub filled : List ℕ → List ℕ
 filled w = w ++ replicate (fillCount w) 0
 
-pub filled-length : (w : List ℕ) → length (filled w) ≡ blockCount (length w) * 127
+filled-length : (w : List ℕ) → length (filled w) ≡ blockCount (length w) * 127
 unfolding filled fillCount blockCount
 filled-length w = length-append w _ ∙ rw length-replicate (omega arith)
 
@@ -139,7 +139,7 @@ module _ (w : List ℕ) where
   filled-words h = all-append Word w _ h (all-replicate Word (fillCount w) 0 (lit< tt))
 
   -- reading the file gives its blocks
-  pub file-blocks : All Word w → fileBlocks (fileOf w) ≡ sealed 0 (blocksOf w)
+  file-blocks : All Word w → fileBlocks (fileOf w) ≡ sealed 0 (blocksOf w)
   unfolding fileBlocks allWords
   file-blocks h =
       (λ i. chunks (blocks i) 128 (map wordOf (chunks (words i) 4 (file-bytes i))))

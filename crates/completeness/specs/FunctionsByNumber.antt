@@ -1,17 +1,9 @@
 -- The verifier's functions are the prover's polynomials: f_i as it is worked out from the words of the stream is the corrected polynomial on domain i, and so is each fold.
 use Prim.Native.Nat.{ℕ, zero, suc, _≤_, _<_}
 use native.Mathlib.Omega.{arith}
-use mathlib.Core.Path.{_≡_, sym, ap, _∙_, subst}
 use mathlib.Core.List.{List, _++_}
+use mathlib.Core.Path.{_≡_, sym, ap, _∙_, subst}
 use lib.ListN.{getD}
-use Rattle.algebra.specs.Laws.{FieldLaws}
-use Rattle.algebra.specs.ListFacts.{all-map}
-use Rattle.completeness.specs.Completeness.{sheetReady}
-use Rattle.completeness.specs.DecidingAccepts.{Agrees}
-use Rattle.completeness.specs.Numbered.{Allowed, coinsOf, correctedOf, foldCoin, functionOf, levelOf, pairsOf, replies, roundOf, roundPoly, roundsOf, sheetField, sheetRoot, table}
-use Rattle.completeness.specs.RunByNumber.{corrected-length, fair-round, level-folds}
-use Rattle.completeness.specs.StreamByNumber.{message-words, messageOf}
-use Rattle.completeness.specs.DecidingAccepts
 use Rattle.definition.specs.Deciding.{answers, nextFunction, tableFunction}
 use Rattle.definition.specs.Domain.{foldAt, shiftPoint}
 use Rattle.definition.specs.Field.{Field}
@@ -19,6 +11,14 @@ use Rattle.definition.specs.Polynomial.{Sample, distinct, evaluate, foldPoly}
 use Rattle.definition.specs.Prover.{honestRound, honestStream, nextPoly}
 use Rattle.definition.specs.Sheet.{shiftCount}
 use Rattle.definition.specs.Transcript.{Round}
+use Rattle.algebra.specs.Laws.{FieldLaws}
+use Rattle.algebra.specs.ListFacts.{all-map}
+use Rattle.completeness.specs.Completeness.{sheetReady}
+use Rattle.completeness.specs.DecidingAccepts
+use Rattle.completeness.specs.DecidingAccepts.{Agrees}
+use Rattle.completeness.specs.Numbered.{Allowed, coinsOf, correctedOf, foldCoin, functionOf, levelOf, pairsOf, replies, roundOf, roundPoly, roundsOf, sheetField, sheetRoot, table}
+use Rattle.completeness.specs.RunByNumber.{corrected-length, fair-round, level-folds}
+use Rattle.completeness.specs.StreamByNumber.{message-words, messageOf}
 
 module _ {w f coins : List ℕ} (ok : Allowed w f coins) (z : List ℕ) where
   abbrev F : Field ℕ

@@ -2,31 +2,30 @@
 use Prim.Native.Nat.{ℕ, _/_, _<_}
 use native.Mathlib.Nat.{mod-lt}
 use native.Mathlib.Omega.{arith}
-use mathlib.Core.Path.{_≡_, refl, ap, _∙_}
 use mathlib.Core.List.{List, [], _∷_, _++_, map, append-assoc}
+use mathlib.Core.Path.{_≡_, refl, ap, _∙_}
 use lib.ListN.{length, getD, take, drop, replicate, length-map, length-drop}
 use lib.Seq.{take-at, drop-at}
 use borrow.Author.Tests.{lt-leb}
-use Rattle.algebra.specs.Lengths
-use Rattle.completeness.specs.DecidingAccepts
-use Rattle.completeness.specs.RoundTrip
+use Rattle.definition.specs.Deciding.{outInDomain}
+use Rattle.definition.specs.Domain.{domain}
+use Rattle.definition.specs.Field.{Field, primeField}
+use Rattle.definition.specs.Layout.{Kind, coin, index, laterCount, layout, limit, message, out, readCoins, readFinals, readRest, readRounds, readTranscript, restLayout, roundCoins, roundLayout}
+use Rattle.definition.specs.Lists.{chunks}
+use Rattle.definition.specs.Polynomial.{evaluate, foldPoly}
+use Rattle.definition.specs.Prover.{honest, honestRest, honestRound, nextPoly, tableOf}
+use Rattle.definition.specs.Reading.{outOfRange}
+use Rattle.definition.specs.Sheet.{Level, Sheet, finalCount, firstLevel, laterLevels, rootOfUnity, shiftCount}
+use Rattle.definition.specs.Transcript.{restWords, roundWords, transcriptWords}
 use Rattle.algebra.specs.Laws.{FieldLaws}
+use Rattle.algebra.specs.Lengths
 use Rattle.algebra.specs.ListFacts.{All}
+use Rattle.completeness.specs.DecidingAccepts
 use Rattle.completeness.specs.DecidingAccepts.{Fair, table-length}
 use Rattle.completeness.specs.EachWord.{Each, each-join, each-later, each-replicate, each-same}
 use Rattle.completeness.specs.FairCoins.{Passes}
 use Rattle.completeness.specs.LayoutFacts.{Dealt}
 use Rattle.completeness.specs.RoundTrip.{Shaped, round-trip}
-use Rattle.definition.specs.Deciding.{outInDomain}
-use Rattle.definition.specs.Domain.{domain, point}
-use Rattle.definition.specs.Field.{Field, primeField}
-use Rattle.definition.specs.Layout.{Kind, coin, index, laterCount, layout, limit, message, out, readCoins, readFinals, readRest, readRounds, readTranscript, restLayout, roundCoins, roundLayout}
-use Rattle.definition.specs.Lists.{chunks, range}
-use Rattle.definition.specs.Polynomial.{evaluate, foldPoly}
-use Rattle.definition.specs.Prover.{honest, honestRest, honestRound, nextPoly, tableOf}
-use Rattle.definition.specs.Reading.{outOfRange}
-use Rattle.definition.specs.Sheet.{Level, Sheet, finalCount, firstLevel, laterLevels, rootOfUnity, shiftCount}
-use Rattle.definition.specs.Transcript.{Rest, final, restWords, round, roundWords, transcriptWords}
 
 -- level 0's degree bound is d0
 pub first-degree : (h : Sheet) (f : List ℕ) → length f ≡ h .degree → length f ≡ firstLevel h .degree
@@ -40,7 +39,7 @@ later-each R n m [] h = absurd h
 later-each R n m (a ∷ []) h = absurd (h .1)
 later-each R n m (a ∷ b ∷ v) h = h
 
-module _ (h : Sheet) (L : FieldLaws (primeField (h .prime))) (positive : 0 < h .prime) where
+module _ (h : Sheet) (positive : 0 < h .prime) where
   abbrev F : Field ℕ
   F = primeField (h .prime)
 
@@ -48,7 +47,7 @@ module _ (h : Sheet) (L : FieldLaws (primeField (h .prime))) (positive : 0 < h .
   ω = rootOfUnity h
 
   -- a value of a polynomial is an element
-  pub evaluate-below : (f : List ℕ) (x : ℕ) → evaluate F f x < h .prime
+  evaluate-below : (f : List ℕ) (x : ℕ) → evaluate F f x < h .prime
   unfolding evaluate primeField
   evaluate-below [] x = positive
   evaluate-below (c ∷ cs) x = mod-lt _ positive
@@ -69,7 +68,7 @@ module _ (h : Sheet) (L : FieldLaws (primeField (h .prime))) (positive : 0 < h .
   unfolding foldPoly
   fold-values k r f = values-pass (λ c. c) (λ c. r) (chunks (length f / k) k f)
 
-  pub table-each : (l : Level) (f : List ℕ) → Each (Passes h) (replicate (l .size) message) (tableOf F ω l f)
+  table-each : (l : Level) (f : List ℕ) → Each (Passes h) (replicate (l .size) message) (tableOf F ω l f)
   table-each l f = each-same (Passes h) (l .size) message (tableOf F ω l f) (table-length F ω l f) (table-values l f)
 
   final-each : (b : Level) (f : List ℕ) (r : ℕ) → length f ≡ b .degree → Each (Passes h) (replicate (finalCount b) message) (foldPoly F (b .fold) r f)
@@ -89,77 +88,78 @@ module _ (h : Sheet) (L : FieldLaws (primeField (h .prime))) (positive : 0 < h .
       (each-same (Passes h) s message (map (evaluate F g) outs) (length-map outs (evaluate F g) ∙ each-replicate (Passes h) s (out l) outs ho .0) (values-pass (λ x. g) (λ x. x) outs))
       (later-each (Passes h) (b .repetitions) (shiftCount b) v hv)))
 
-  -- each word after fold coin 0 is of its kind and in range
-  pub rest-each : (s : ℕ) (b : Level) (ls : List Level) (f : List ℕ) (r : ℕ) (w : List ℕ) → length f ≡ b .degree → Dealt (Passes h) s b ls w →
-      Fair F L ω b (readRounds s b ls w) (readFinals s b ls w) →
-      Each (Passes h) (restLayout s b ls) (restWords (honestRest F ω b f r (readRounds s b ls w) (readFinals s b ls w)))
-  unfolding restLayout restWords honestRest readRounds readFinals roundCoins
-  rest-each s b [] f r w len d fair = each-join (Passes h) (replicate (finalCount b) message) _ (foldPoly F (b .fold) r f) w (final-each b f r len) d
-  rest-each s b (l ∷ ls) f r w len d fair =
-      let g = foldPoly F (b .fold) r f in
-      let v = take (laterCount b) (drop s w) in
-      let c = roundCoins l (take s w) v in
-      each-join (Passes h) (roundLayout s b l) _ _ _ (round-each s b l g (take s w) v (d .0) (d .1))
-      (rest-each s l ls (nextPoly F ω b g c) (getD v 1 0) (drop (laterCount b) (drop s w)) (DecidingAccepts.next-fits F L ω b f r c len (fair .0)) (d .2) (fair .1))
+  module _ (L : FieldLaws (primeField (h .prime))) where
+    -- each word after fold coin 0 is of its kind and in range
+    rest-each : (s : ℕ) (b : Level) (ls : List Level) (f : List ℕ) (r : ℕ) (w : List ℕ) → length f ≡ b .degree → Dealt (Passes h) s b ls w →
+        Fair F L ω b (readRounds s b ls w) (readFinals s b ls w) →
+        Each (Passes h) (restLayout s b ls) (restWords (honestRest F ω b f r (readRounds s b ls w) (readFinals s b ls w)))
+    unfolding restLayout restWords honestRest readRounds readFinals roundCoins
+    rest-each s b [] f r w len d fair = each-join (Passes h) (replicate (finalCount b) message) _ (foldPoly F (b .fold) r f) w (final-each b f r len) d
+    rest-each s b (l ∷ ls) f r w len d fair =
+        let g = foldPoly F (b .fold) r f in
+        let v = take (laterCount b) (drop s w) in
+        let c = roundCoins l (take s w) v in
+        each-join (Passes h) (roundLayout s b l) _ _ _ (round-each s b l g (take s w) v (d .0) (d .1))
+        (rest-each s l ls (nextPoly F ω b g c) (getD v 1 0) (drop (laterCount b) (drop s w)) (DecidingAccepts.next-fits F L ω b f r c len (fair .0)) (d .2) (fair .1))
 
-  -- the honest messages have the lengths due
-  pub rest-shaped : (s : ℕ) (b : Level) (ls : List Level) (f : List ℕ) (r : ℕ) (w : List ℕ) → length f ≡ b .degree → Dealt (Passes h) s b ls w →
-      Fair F L ω b (readRounds s b ls w) (readFinals s b ls w) →
-      Shaped s b ls (honestRest F ω b f r (readRounds s b ls w) (readFinals s b ls w))
-  unfolding honestRest readRounds readFinals roundCoins finalCount honestRound
-  rest-shaped s b [] f r w len d fair =
-      (Lengths.length-fold F (b .fold) r f ∙ ap (λ (n : ℕ). n / b .fold) len, each-replicate (Passes h) (b .repetitions) (index (shiftCount b)) w d .0)
-  rest-shaped s b (l ∷ ls) f r w len d fair =
-      let g = foldPoly F (b .fold) r f in
-      let v = take (laterCount b) (drop s w) in
-      let c = roundCoins l (take s w) v in
-      let o : length (take s w) ≡ s = each-replicate (Passes h) s (out l) (take s w) (d .0) .0 in (
-        record {
-          level = refl;
-          table = table-length F ω l g;
-          outs = o;
-          replies = length-map (take s w) (evaluate F g) ∙ o;
-          shifts = length-drop 2 v ∙ omega (arith, each-later (Passes h) (b .repetitions) (shiftCount b) v (d .1) .0);
-        },
-        rest-shaped s l ls (nextPoly F ω b g c) (getD v 1 0) (drop (laterCount b) (drop s w)) (DecidingAccepts.next-fits F L ω b f r c len (fair .0)) (d .2) (fair .1),
-      )
+    -- the honest messages have the lengths due
+    rest-shaped : (s : ℕ) (b : Level) (ls : List Level) (f : List ℕ) (r : ℕ) (w : List ℕ) → length f ≡ b .degree → Dealt (Passes h) s b ls w →
+        Fair F L ω b (readRounds s b ls w) (readFinals s b ls w) →
+        Shaped s b ls (honestRest F ω b f r (readRounds s b ls w) (readFinals s b ls w))
+    unfolding honestRest readRounds readFinals roundCoins finalCount honestRound
+    rest-shaped s b [] f r w len d fair =
+        (Lengths.length-fold F (b .fold) r f ∙ ap (λ (n : ℕ). n / b .fold) len, each-replicate (Passes h) (b .repetitions) (index (shiftCount b)) w d .0)
+    rest-shaped s b (l ∷ ls) f r w len d fair =
+        let g = foldPoly F (b .fold) r f in
+        let v = take (laterCount b) (drop s w) in
+        let c = roundCoins l (take s w) v in
+        let o : length (take s w) ≡ s = each-replicate (Passes h) s (out l) (take s w) (d .0) .0 in (
+          record {
+            level = refl;
+            table = table-length F ω l g;
+            outs = o;
+            replies = length-map (take s w) (evaluate F g) ∙ o;
+            shifts = length-drop 2 v ∙ omega (arith, each-later (Passes h) (b .repetitions) (shiftCount b) v (d .1) .0);
+          },
+          rest-shaped s l ls (nextPoly F ω b g c) (getD v 1 0) (drop (laterCount b) (drop s w)) (DecidingAccepts.next-fits F L ω b f r c len (fair .0)) (d .2) (fair .1),
+        )
 
-  first-level-table : (f : List ℕ) → length (tableOf F ω (firstLevel h) f) ≡ h .size
-  unfolding firstLevel
-  first-level-table f = table-length F ω (firstLevel h) f
+    first-level-table : (f : List ℕ) → length (tableOf F ω (firstLevel h) f) ≡ h .size
+    unfolding firstLevel
+    first-level-table f = table-length F ω (firstLevel h) f
 
-  -- the whole transcript, for coins with fold coin 0 in front
-  module _ (f coins : List ℕ) (len : length f ≡ h .degree) (first : Passes h coin (getD coins 0 0))
-      (d : Dealt (Passes h) (h .outCoins) (firstLevel h) (laterLevels h) (drop 1 coins))
-      (fair : Fair F L ω (firstLevel h) (readRounds (h .outCoins) (firstLevel h) (laterLevels h) (drop 1 coins)) (readFinals (h .outCoins) (firstLevel h) (laterLevels h) (drop 1 coins))) where
-    pub words-each : Each (Passes h) (layout h) (transcriptWords (honest F ω (firstLevel h) f (readCoins h coins)))
-    unfolding layout transcriptWords honest readCoins firstLevel
-    words-each =
-        each-join (Passes h) (replicate (h .size) message) _ (tableOf F ω (firstLevel h) f) _ (table-each (firstLevel h) f)
-        (first, rest-each (h .outCoins) (firstLevel h) (laterLevels h) f (getD coins 0 0) (drop 1 coins) len d fair)
+    -- the whole transcript, for coins with fold coin 0 in front
+    module _ (f coins : List ℕ) (len : length f ≡ h .degree) (first : Passes h coin (getD coins 0 0))
+        (d : Dealt (Passes h) (h .outCoins) (firstLevel h) (laterLevels h) (drop 1 coins))
+        (fair : Fair F L ω (firstLevel h) (readRounds (h .outCoins) (firstLevel h) (laterLevels h) (drop 1 coins)) (readFinals (h .outCoins) (firstLevel h) (laterLevels h) (drop 1 coins))) where
+      pub words-each : Each (Passes h) (layout h) (transcriptWords (honest F ω (firstLevel h) f (readCoins h coins)))
+      unfolding layout transcriptWords honest readCoins firstLevel
+      words-each =
+          each-join (Passes h) (replicate (h .size) message) _ (tableOf F ω (firstLevel h) f) _ (table-each (firstLevel h) f)
+          (first, rest-each (h .outCoins) (firstLevel h) (laterLevels h) f (getD coins 0 0) (drop 1 coins) len d fair)
 
-    pub words-read : (z : List ℕ) → readTranscript h (transcriptWords (honest F ω (firstLevel h) f (readCoins h coins)) ++ z) ≡ honest F ω (firstLevel h) f (readCoins h coins)
-    unfolding readTranscript transcriptWords honest readCoins
-    words-read z =
-        let b = firstLevel h in
-        let r = getD coins 0 0 in
-        let table = tableOf F ω b f in
-        let rest = honestRest F ω b f r (readRounds (h .outCoins) b (laterLevels h) (drop 1 coins)) (readFinals (h .outCoins) b (laterLevels h) (drop 1 coins)) in
-        let n : length table ≡ h .size = size in
-        ap (readTranscript h) (append-assoc table (r ∷ restWords rest) z)
-        ∙ (λ i. record {
-          table = take-at table ((r ∷ restWords rest) ++ z) (h .size) n i;
-          fold = getD (drop-at table ((r ∷ restWords rest) ++ z) (h .size) n i) 0 0;
-          rest = readRest (h .outCoins) b (laterLevels h) (drop 1 (drop-at table ((r ∷ restWords rest) ++ z) (h .size) n i));
-        })
-        ∙ (λ i. record {
-          table = table;
-          fold = r;
-          rest = round-trip (h .outCoins) z b (laterLevels h) rest (rest-shaped (h .outCoins) b (laterLevels h) f r (drop 1 coins) shaped-degree d fair) i;
-        })
-      where
-        size : length (tableOf F ω (firstLevel h) f) ≡ h .size
-        size = first-level-table f
+      pub words-read : (z : List ℕ) → readTranscript h (transcriptWords (honest F ω (firstLevel h) f (readCoins h coins)) ++ z) ≡ honest F ω (firstLevel h) f (readCoins h coins)
+      unfolding readTranscript transcriptWords honest readCoins
+      words-read z =
+          let b = firstLevel h in
+          let r = getD coins 0 0 in
+          let table = tableOf F ω b f in
+          let rest = honestRest F ω b f r (readRounds (h .outCoins) b (laterLevels h) (drop 1 coins)) (readFinals (h .outCoins) b (laterLevels h) (drop 1 coins)) in
+          let n : length table ≡ h .size = size in
+          ap (readTranscript h) (append-assoc table (r ∷ restWords rest) z)
+          ∙ (λ i. record {
+            table = take-at table ((r ∷ restWords rest) ++ z) (h .size) n i;
+            fold = getD (drop-at table ((r ∷ restWords rest) ++ z) (h .size) n i) 0 0;
+            rest = readRest (h .outCoins) b (laterLevels h) (drop 1 (drop-at table ((r ∷ restWords rest) ++ z) (h .size) n i));
+          })
+          ∙ (λ i. record {
+            table = table;
+            fold = r;
+            rest = round-trip (h .outCoins) z b (laterLevels h) rest (rest-shaped (h .outCoins) b (laterLevels h) f r (drop 1 coins) shaped-degree d fair) i;
+          })
+        where
+          size : length (tableOf F ω (firstLevel h) f) ≡ h .size
+          size = first-level-table f
 
-        shaped-degree : length f ≡ firstLevel h .degree
-        shaped-degree = first-degree h f len
+          shaped-degree : length f ≡ firstLevel h .degree
+          shaped-degree = first-degree h f len

@@ -2,18 +2,18 @@
 use Prim.Native.Nat.{ℕ, zero, suc, _+_, _-_, _≤_}
 use native.Mathlib.Nat
 use native.Mathlib.Omega.{arith}
-use mathlib.Core.Path.{_≡_, refl, sym, ap, _∙_}
 use mathlib.Core.List.{List, [], _∷_, _++_, map, append-assoc}
+use mathlib.Core.Path.{_≡_, refl, sym, ap, _∙_}
 use lib.ListN.{length, getD, take, drop, replicate, length-append, length-replicate}
 use lib.Seq.{take-at, drop-at, take-append-add, drop-append-add}
-use Rattle.completeness.specs.LayoutFacts.{coins-append, coins-final, coins-messages, coins-outs, round-coins, round-length}
-use Rattle.completeness.specs.LevelsByNumber.{level-first, levels-later}
-use Rattle.completeness.specs.Numbered.{Due, Message, coinCount, coinsBefore, final, lengthOf, levelOf, outsOf, replies, roundStart, roundsOf, sentBefore, startOf, table, total, wordCount}
-use Rattle.completeness.specs.Parts.{firsts, firsts-length, joined, split-joined}
-use Rattle.completeness.specs.ListLaws.{opened}
 use Rattle.definition.specs.Layout.{Kind, coin, coinKinds, index, laterCount, layout, message, out, restLayout, roundLayout}
 use Rattle.definition.specs.Lists.{range}
 use Rattle.definition.specs.Sheet.{Level, finalCount, firstLevel, sheetOf, shiftCount}
+use Rattle.completeness.specs.LayoutFacts.{coins-append, coins-final, coins-messages, coins-outs, round-coins, round-length}
+use Rattle.completeness.specs.LevelsByNumber.{level-first, levels-later}
+use Rattle.completeness.specs.ListLaws.{opened}
+use Rattle.completeness.specs.Numbered.{Due, Message, coinCount, coinsBefore, final, lengthOf, levelOf, outsOf, replies, roundStart, roundsOf, sentBefore, startOf, table, total, wordCount}
+use Rattle.completeness.specs.Parts.{firsts, firsts-length, joined, split-joined}
 
 coins-length : (p q : List Kind) → length (coinKinds (p ++ q)) ≡ length (coinKinds p) + length (coinKinds q)
 coins-length p q = ap length (coins-append p q) ∙ length-append (coinKinds p) (coinKinds q)
@@ -134,7 +134,8 @@ module _ (w : List ℕ) where
         before-start (suc i) (suc (roundsOf w - suc i)) n (omega (arith, h .1))
         ∙ ap (λ (ks : List Kind). coinsBefore w (suc i) + length (coinKinds ks)) (ap (take n) (opened t o (replicate s message) _ _)
         ∙ take-at (t ++ o) _ n (length-append t o ∙ (λ x. length-replicate (levelOf w (suc i) .size) message x + length-replicate s (out (levelOf w (suc i))) x)))
-        ∙ ap (λ (n : ℕ). coinsBefore w (suc i) + n) (coins-length t o ∙ omega (arith, no-coins (levelOf w (suc i) .size), ap length (coins-outs s (levelOf w (suc i))), length-replicate s (out (levelOf w (suc i)))))
+        ∙ ap (λ (n : ℕ). coinsBefore w (suc i) + n)
+        (coins-length t o ∙ omega (arith, no-coins (levelOf w (suc i) .size), ap length (coins-outs s (levelOf w (suc i))), length-replicate s (out (levelOf w (suc i)))))
     message-coins final h =
         let M = roundsOf w in
         ap (λ (n : ℕ). length (coinKinds (take (n - 12) (layout (sheetOf w))))) (sym (Nat.add-zero (roundStart w (suc M))))

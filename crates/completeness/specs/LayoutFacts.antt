@@ -1,15 +1,15 @@
 -- The layout: the coins among its kinds, round by round; the length of a round; and what holds of every kind in it.
 use Prim.Native.Nat.{ℕ, zero, suc, _+_}
 use native.Mathlib.Omega.{arith}
-use mathlib.Core.Path.{_≡_, refl, ap, _∙_, subst}
 use mathlib.Core.List.{List, [], _∷_, _++_, append-assoc}
+use mathlib.Core.Path.{_≡_, refl, ap, _∙_, subst}
 use lib.ListN.{length, take, drop, replicate, length-append, length-replicate}
-use Rattle.algebra.specs.ListFacts.{All, all-append}
-use Rattle.completeness.specs.EachWord.{Each, each-append-at}
-use Rattle.completeness.specs.ListLaws.{all-replicate}
-use Rattle.completeness.specs.SheetFacts.{Chain, Sized}
 use Rattle.definition.specs.Layout.{Kind, coin, coinKinds, index, laterCount, layout, message, out, restLayout, roundLayout}
 use Rattle.definition.specs.Sheet.{Level, Sheet, finalCount, firstLevel, laterLevels, shiftCount}
+use Rattle.algebra.specs.ListFacts.{All, all-append}
+use Rattle.completeness.specs.EachWord.{Each, each-append-at}
+use Rattle.completeness.specs.LevelSizes.{Chain, Sized}
+use Rattle.completeness.specs.ListLaws.{all-replicate}
 
 pub coins-append : (ks ks′ : List Kind) → coinKinds (ks ++ ks′) ≡ coinKinds ks ++ coinKinds ks′
 unfolding coinKinds
@@ -51,7 +51,7 @@ round-coins s b l =
     (ap (λ (r : List Kind). replicate s (out l) ++ r)
     (coins-append (replicate s message) _ ∙ rw coins-messages (later-coins (b .repetitions) (shiftCount b)))))
 
-coins-round : (s : ℕ) (b l : Level) (ls : List Level) → coinKinds (restLayout s b (l ∷ ls))
+pub coins-round : (s : ℕ) (b l : Level) (ls : List Level) → coinKinds (restLayout s b (l ∷ ls))
     ≡ replicate s (out l) ++ ((coin ∷ coin ∷ replicate (b .repetitions) (index (shiftCount b))) ++ coinKinds (restLayout s l ls))
 unfolding restLayout
 coins-round s b l ls =

@@ -2,18 +2,18 @@
 use Prim.Native.Nat.{ℕ, zero, suc, _+_, _/_, _^_, _≤_}
 use native.Mathlib.Nat.{div-one, div-div-eq-div-mul, pow-suc, pow-zero}
 use native.Mathlib.Omega.{arith}
-use mathlib.Core.Path.{_≡_, refl, sym, ap, _∙_}
 use mathlib.Core.List.{List, _∷_, map}
+use mathlib.Core.Path.{_≡_, refl, sym, ap, _∙_}
 use lib.ListN.{length, getD, take, drop, replicate}
 use lib.Seq.{drop-cons, getD-take, getD-drop}
-use Rattle.completeness.specs.Numbered.{levelOf, roundsOf}
 use Rattle.definition.specs.Lists.{range}
-use Rattle.definition.specs.Sheet.{firstLevel, laterLevels, levelsFrom, sheetOf}
+use Rattle.definition.specs.Sheet.{Level, firstLevel, laterLevels, levelsFrom, sheetOf}
+use Rattle.completeness.specs.Numbered.{levelOf, roundsOf}
 
 halved : (n i : ℕ) → n / 2 ^ i / 2 ≡ n / 2 ^ suc i
 halved n i = div-div-eq-div-mul n (2 ^ i) 2 ∙ ap (λ (x : ℕ). n / x) (sym (pow-suc 2 i))
 
-folded : (d k i : ℕ) → d / k ^ i / k ≡ d / k ^ suc i
+pub folded : (d k i : ℕ) → d / k ^ i / k ≡ d / k ^ suc i
 folded d k i = div-div-eq-div-mul d (k ^ i) k ∙ ap (λ (x : ℕ). d / x) (sym (pow-suc k i))
 
 pub undivided : (n k : ℕ) → n / k ^ 0 ≡ n
@@ -47,3 +47,7 @@ module _ (w : List ℕ) where
       rw (drop-cons w 6 0 (omega arith))
       (levels-from (getD w 4 0) 1 7 (getD w 1 0 / 2) (getD w 2 0 / getD w 3 0) refl l refl
       (ap (λ (x : ℕ). x / getD w 3 0) (sym (undivided (getD w 2 0) (getD w 3 0))) ∙ folded (getD w 2 0) (getD w 3 0) 0))
+
+  -- what holds of the levels by number holds of the levels as the sheet lists them
+  pub as-listed : (P : Level → List Level → Type 0) → 7 + roundsOf w ≤ length w → P (levelOf w 0) (map (levelOf w) (range 1 (roundsOf w))) → P (firstLevel (sheetOf w)) (laterLevels (sheetOf w))
+  as-listed P l p = rw (level-first, levels-later l) p

@@ -1,36 +1,45 @@
-pub mod Tests
+-- COMPLETENESS over the written definition. A reader needs two files: Numbered, the vocabulary, and Statements, the page of theorems. The others are their proofs.
+
+-- the vocabulary, and the page
+pub mod Numbered
+pub mod Statements
+-- lists and tests
 pub mod ListLaws
 pub mod ByPlace
-pub mod DistinctPoints
-pub mod DecidingAccepts
-pub mod SheetFacts
-pub mod SheetPassed
+pub mod Parts
+pub mod Tests
+-- the sheet and its levels
+pub mod LevelSizes
+pub mod LevelsByNumber
+pub mod SheetRules
 pub mod SheetLevels
 pub mod Ready
+-- in any field with the laws: deciding accepts honest transcripts; one round; domains; and a party that sends and asks
+pub mod DistinctPoints
+pub mod DecidingAccepts
+pub mod RoundPolynomials
 pub mod Domains
+pub mod Causal
+-- the words: their file, their kinds, and the coins among them
 pub mod BlockTrip
 pub mod FileTrip
-pub mod LayoutFacts
 pub mod EachWord
-pub mod RoundTrip
+pub mod LayoutFacts
 pub mod FairCoins
-pub mod HonestStream
-pub mod Numbered
-pub mod Reads
-pub mod FileSize
 pub mod Allowed
+-- the honest file is accepted, and the premises can be met
+pub mod RoundTrip
+pub mod HonestStream
+pub mod Reads
 pub mod Completeness
 pub mod ProveAccepted
-pub mod Causal
 pub mod Premises
-pub mod LevelsByNumber
+pub mod FileSize
+-- rounds, messages and domains by number
 pub mod CoinsByNumber
-pub mod Parts
 pub mod LayoutByNumber
-pub mod RoundPolynomials
 pub mod DomainsByNumber
 pub mod RunByNumber
 pub mod StreamByNumber
-pub mod NonAnticipation
 pub mod FunctionsByNumber
-pub mod Statements
+pub mod NonAnticipation

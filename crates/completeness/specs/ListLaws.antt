@@ -3,12 +3,12 @@ use Prim.Native.Nat.{ℕ, zero, suc, _+_, _<_}
 use native.Mathlib.Nat
 use native.Mathlib.Nat.{add-suc, suc-add, zero-add, add-zero, le-of-suc-le-suc, not-suc-le-zero}
 use native.Mathlib.Omega.{arith}
-use mathlib.Core.Path.{_≡_, refl, sym, ap, _∙_, subst}
 use mathlib.Core.List.{List, [], _∷_, _++_, map, flatMap, append-assoc}
+use mathlib.Core.Path.{_≡_, refl, sym, ap, _∙_, subst}
 use lib.ListN.{length, getD, take, drop, replicate}
 use lib.Seq.{take-nil}
-use Rattle.algebra.specs.ListFacts.{All}
 use Rattle.definition.specs.Lists.{range}
+use Rattle.algebra.specs.ListFacts.{All}
 
 pub range-length : (from n : ℕ) → length (range from n) ≡ n
 unfolding range

@@ -1,17 +1,17 @@
 -- Non-anticipation: what the prover works out for a message is settled by the coins sent before it. No coin list need be allowed, or even full.
 use Prim.Native.Nat.{ℕ, zero, suc, _+_, _≤_, _<_}
 use native.Mathlib.Omega.{arith}
-use mathlib.Core.Path.{_≡_, refl, sym, ap, _∙_}
 use mathlib.Core.List.{List, map}
+use mathlib.Core.Path.{_≡_, refl, sym, ap, _∙_}
 use lib.ListN.{getD, take, drop}
 use lib.Seq.{take-take, getD-take}
-use Rattle.completeness.specs.ListLaws.{drop-take}
-use Rattle.completeness.specs.Numbered.{Allowed, Copy, Due, Message, coinCount, coinsBefore, coinsOf, combinationCoin, correctedOf, final, foldCoin, levelOf, outCoinsOf, outsOf, replies, roundPoly, roundsOf, sentBefore, sheetField, sheetRoot, shiftIndices, streamOn, table, wordsIn}
-use Rattle.completeness.specs.StreamByNumber.{copy-is, message-words, messageOf}
 use Rattle.definition.specs.Layout.{laterCount}
 use Rattle.definition.specs.Polynomial.{evaluate, foldPoly}
 use Rattle.definition.specs.Prover.{nextPoly, tableOf}
 use Rattle.definition.specs.Transcript.{RoundCoins}
+use Rattle.completeness.specs.ListLaws.{drop-take}
+use Rattle.completeness.specs.Numbered.{Allowed, Copy, Due, Message, coinCount, coinsBefore, coinsOf, combinationCoin, correctedOf, final, foldCoin, levelOf, outCoinsOf, outsOf, replies, roundPoly, roundsOf, sentBefore, sheetField, sheetRoot, shiftIndices, streamOn, table, wordsIn}
+use Rattle.completeness.specs.StreamByNumber.{copy-is, message-words, messageOf}
 
 -- two lists that agree on n words agree on fewer, on each of them, and on each run of them
 fewer : (m n : ℕ) (c d : List ℕ) → m ≤ n → take n c ≡ take n d → take m c ≡ take m d
@@ -58,7 +58,7 @@ module _ (w f c d : List ℕ) where
   same-round (suc i) e = λ x. foldPoly (sheetField w) (levelOf w i .fold) (same-fold i e x) (same-corrected i e x)
 
   -- Each message is settled by the coins before it.
-  pub same-message : (m : Message) → take (sentBefore w m) c ≡ take (sentBefore w m) d → messageOf w f c m ≡ messageOf w f d m
+  same-message : (m : Message) → take (sentBefore w m) c ≡ take (sentBefore w m) d → messageOf w f c m ≡ messageOf w f d m
   unfolding sentBefore messageOf outCoinsOf
   same-message (table i) e = ap (tableOf (sheetField w) (sheetRoot w) (levelOf w i)) (same-round i e)
   same-message (replies i) e =
@@ -68,6 +68,6 @@ module _ (w f c d : List ℕ) where
 
 -- In the streams of two allowed lists, as they are written and as they are read out of the file.
 pub non-anticipation : (w f c d : List ℕ) → Allowed w f c → Allowed w f d → (copy : Copy) (m : Message) → Due w m →
-    take (sentBefore w m) c ≡ take (sentBefore w m) d → wordsIn (streamOn copy w f c) w m ≡ wordsIn (streamOn copy w f d) w m
+    take (sentBefore w m) c ≡ take (sentBefore w m) d → wordsIn w (streamOn copy w f c) m ≡ wordsIn w (streamOn copy w f d) m
 non-anticipation w f c d okc okd copy m due e =
     rw (copy-is okc copy, copy-is okd copy) (message-words okc _ m due ∙ same-message w f c d m e ∙ sym (message-words okd _ m due))

@@ -1,20 +1,20 @@
 -- THE VOCABULARY OF THE PAGE: 01's notions by number, over a sheet's words w, coefficients f, a coin list and a word stream. It holds no lemma and no proof.
 -- M is the number of rounds, k the folding number, s the number of out coins of a round; t_i, n_i and d_i belong to level i.
 use Prim.Native.Nat.{ℕ, zero, suc, _+_, _*_, _/_, _^_, _≤_}
-use mathlib.Core.Path.{_≡_}
 use mathlib.Core.List.{List, [], _∷_, _++_}
+use mathlib.Core.Path.{_≡_}
 use lib.ListN.{length, getD, take, drop}
-use Rattle.definition.specs.Field.{Field, primeField}
-use Rattle.definition.specs.Polynomial.{Sample, points, subPoly, vanishing, interpolate, quotient, foldPoly, distinct}
-use Rattle.definition.specs.Sheet.{Level, sheetOf, sheetLength, finalCount, rootOfUnity}
-use Rattle.definition.specs.Transcript.{RoundCoins, Round}
-use Rattle.definition.specs.Layout.{laterCount, layout, coinKinds, wordsDue}
 use Rattle.definition.specs.Block.{blockCount, fileOf, streamOf}
-use Rattle.definition.specs.Verdict.{accepted}
+use Rattle.definition.specs.Deciding.{answers, nextFunction, tableFunction}
+use Rattle.definition.specs.Field.{Field, primeField}
+use Rattle.definition.specs.Layout.{coinKinds, laterCount, layout, wordsDue}
+use Rattle.definition.specs.Polynomial.{Sample, distinct, foldPoly, interpolate, points, quotient, subPoly, vanishing}
+use Rattle.definition.specs.Prove.{coefficientsTest, coinDomainTest, coinsTest, inputRangeTest, outputTest, sheetLengthTest}
+use Rattle.definition.specs.Prover.{honestAnswers, honestStream, nextPoly}
 use Rattle.definition.specs.Reading.{sheetTest}
-use Rattle.definition.specs.Deciding.{answers, tableFunction, nextFunction}
-use Rattle.definition.specs.Prover.{honestAnswers, nextPoly, honestStream}
-use Rattle.definition.specs.Prove.{sheetLengthTest, coefficientsTest, coinsTest, inputRangeTest, coinDomainTest, outputTest}
+use Rattle.definition.specs.Sheet.{Level, finalCount, rootOfUnity, sheetLength, sheetOf}
+use Rattle.definition.specs.Transcript.{Round, RoundCoins}
+use Rattle.definition.specs.Verdict.{accepted}
 
 -- the sheet's field, and its ω
 abbrev pub sheetField : List ℕ → Field ℕ
@@ -173,7 +173,7 @@ sentBefore w final = coinsBefore w (suc (roundsOf w))
 
 -- its words in a stream
 unfoldable pub wordsIn : List ℕ → List ℕ → Message → List ℕ
-wordsIn stream w m = take (lengthOf w m) (drop (startOf w m) stream)
+wordsIn w stream m = take (lengthOf w m) (drop (startOf w m) stream)
 
 -- The prover's stream has two copies: as it is written, and as verify reads it out of the file, with the fill after it.
 pub data Copy : Type 0 where
@@ -186,21 +186,11 @@ streamOn read w f coins = streamOf (fileOf (honestStream w f coins))
 
 -- THE VERIFIER'S FUNCTIONS, from the words of a stream: round i with the table and replies that stand there, and f_i at each point number of domain i.
 abbrev pub roundOf : List ℕ → List ℕ → List ℕ → ℕ → Round ℕ
-roundOf w coins stream i = record { coins = coinsOf w coins i; table = wordsIn stream w (table i); replies = wordsIn stream w (replies i) }
+roundOf w coins stream i = record { coins = coinsOf w coins i; table = wordsIn w stream (table i); replies = wordsIn w stream (replies i) }
 
 unfoldable pub functionOf : List ℕ → List ℕ → List ℕ → ℕ → (ℕ → ℕ)
-functionOf w coins stream zero = tableFunction (sheetField w) (sheetRoot w) (levelOf w 0) (wordsIn stream w (table 0)) .value
+functionOf w coins stream zero = tableFunction (sheetField w) (sheetRoot w) (levelOf w 0) (wordsIn w stream (table 0)) .value
 functionOf w coins stream (suc i) =
     nextFunction (sheetField w) (sheetRoot w)
     (distinct (sheetField w) (answers (sheetField w) (sheetRoot w) (levelOf w i) (functionOf w coins stream i) (foldCoin w coins i) (roundOf w coins stream (suc i))))
     (roundOf w coins stream (suc i)) .value
-
--- The transcript by hand (01): its sheet, coefficients and coins.
-abbrev pub sheetByHand : List ℕ
-sheetByHand = 0 ∷ 16 ∷ 8 ∷ 2 ∷ 1 ∷ 1 ∷ 1 ∷ 1 ∷ 0 ∷ 0 ∷ 0 ∷ 0 ∷ []
-
-abbrev pub coefficientsByHand : List ℕ
-coefficientsByHand = 1 ∷ 2 ∷ 3 ∷ 4 ∷ 5 ∷ 0 ∷ 0 ∷ 0 ∷ []
-
-abbrev pub coinsByHand : List ℕ
-coinsByHand = 2 ∷ 0 ∷ 3 ∷ 4 ∷ 0 ∷ 1 ∷ []

@@ -1,66 +1,31 @@
 -- The premises of completeness can be met: the transcript by hand meets them, and under every sheet without a fault every polynomial does with the coins all 0.
-use Prim.Native.Nat.{ℕ, zero, suc, _+_, _*_, _/_, _^_, _<_}
-use native.Mathlib.Nat
+use Prim.Native.Nat.{ℕ, suc, _+_, _*_, _/_, _^_, _<_}
 use native.Mathlib.Omega.{arith}
-use mathlib.Core.Path.{_≡_, refl, sym, ap, _∙_, subst}
 use mathlib.Core.Bool.{false, not}
 use mathlib.Core.List.{List, [], _∷_, _++_, map, zipWith, append-nil}
+use mathlib.Core.Path.{_≡_, refl, sym, ap, _∙_, subst}
 use lib.ListN.{length, replicate, length-replicate}
-use lib.Pow.{pow-pos}
 use borrow.Author.Tests.{eq-eqb, ne-eqb, lt-leb}
-use Rattle.algebra.specs.RingLaws
-use Rattle.algebra.specs.RootsOfUnity
-use Rattle.algebra.specs.Laws.{FieldLaws}
-use Rattle.algebra.specs.ListFacts.{All, all-map}
-use Rattle.algebra.specs.RootsOfUnity.{minusOne}
-use Rattle.completeness.specs.EachWord.{Each, each-false, each-join, each-none}
-use Rattle.completeness.specs.LayoutFacts.{layout-all}
-use Rattle.completeness.specs.Numbered.{Allowed, coefficientsByHand, coinsByHand, sheetByHand}
-use Rattle.completeness.specs.Ready.{Ready, ready}
-use Rattle.completeness.specs.SheetFacts.{Sized}
-use Rattle.completeness.specs.Tests.{at-none, at-passes, equal-passes, if-false}
 use Rattle.definition.specs.Deciding.{outInDomain}
 use Rattle.definition.specs.Domain.{domain, inDomain, inList, point}
-use Rattle.definition.specs.Field.{Field, generatorOf, knownField, power, primeField, primeOf}
-use Rattle.definition.specs.Layout.{Kind, coin, coinKinds, index, layout, limit, message, out, restLayout, roundLayout}
-use Rattle.definition.specs.Lists.{firstTrue, member, range}
+use Rattle.definition.specs.Field.{Field, power, primeField}
+use Rattle.definition.specs.Layout.{Kind, coin, coinKinds, index, layout, limit, message, out}
+use Rattle.definition.specs.Lists.{firstTrue, range}
 use Rattle.definition.specs.Prove.{coefficientsTest, coinDomainTest, coinsTest, inputRangeTest, sheetLengthTest}
 use Rattle.definition.specs.Reading.{outOfRange, sheetTest}
-use Rattle.definition.specs.Sheet.{Level, Sheet, between, degreeRule, fieldRule, finalCount, firstLevel, foldRule, laterLevels, levelsFrom, outCoinsRule, powerOfTwo, repetitionsRule, rootOfUnity, roundsRule, sheetOf, sheetRules, shiftCount, sizeRule}
-use Rattle.definition.specs.Verdict.{accepted, refuseAt, refuseIf}
-
--- no power of a root of unity is 0
-module _ {A : Type 0} (F : Field A) (L : FieldLaws F) where
-  infixl 70 _⊗_
-  open Field F using (𝟘, 𝟙, _⊗_)
-  open FieldLaws L using (mul-zero, one≢zero, mul-one, mul-comm)
-
-  nought-power : (n : ℕ) → 0 < n → power F 𝟘 n ≡ 𝟘
-  nought-power zero h = absurd (omega arith)
-  nought-power (suc n) h = RootsOfUnity.power-suc F L 𝟘 n ∙ mul-comm 𝟘 (power F 𝟘 n) ∙ mul-zero (power F 𝟘 n)
-
-  minus-twice : (n : ℕ) → power F (minusOne F) (n + n) ≡ 𝟙
-  minus-twice n =
-      ap (power F (minusOne F)) (twice n) ∙ sym (RootsOfUnity.power-mul F L (minusOne F) 2 n) ∙ ap (λ (y : A). power F y n) square ∙ RootsOfUnity.power-one F L n
-    where
-      twice : (k : ℕ) → k + k ≡ 2 * k
-      twice k = omega arith
-
-      one-more : (n : ℕ) → suc n ≡ n + 1
-      one-more n = omega arith
-
-      square : power F (minusOne F) 2 ≡ 𝟙
-      square = ap (power F (minusOne F)) (one-more 1) ∙ RingLaws.power-add F L (minusOne F) 1 1 ∙ (λ i. single i ⊗ single i) ∙ RootsOfUnity.minus-square F L
-        where
-          single : power F (minusOne F) 1 ≡ minusOne F
-          single = RootsOfUnity.power-suc F L (minusOne F) 0 ∙ ap (λ (y : A). minusOne F ⊗ y) (RootsOfUnity.power-zero F L (minusOne F)) ∙ mul-one (minusOne F) ∙ RootsOfUnity.minus-reduced F L
-
-  pub power-nonzero : (ω : A) (e n : ℕ) → power F ω (2 ^ e) ≡ minusOne F → power F ω n ≡ 𝟘 → ⊥
-  power-nonzero ω e n root z =
-      let k = 2 ^ e in
-      let a : power F (power F ω n) k ≡ 𝟘 = ap (λ (y : A). power F y k) z ∙ nought-power k (pow-pos e) in
-      let b : power F (minusOne F) n ≡ 𝟘 = ap (λ (y : A). power F y n) (sym root) ∙ RootsOfUnity.power-mul F L ω k n ∙ ap (power F ω) (Nat.mul-comm k n) ∙ sym (RootsOfUnity.power-mul F L ω n k) ∙ a in
-      one≢zero (sym (minus-twice n) ∙ RingLaws.power-add F L (minusOne F) n n ∙ ap (λ (y : A). power F (minusOne F) n ⊗ y) b ∙ mul-zero (power F (minusOne F) n))
+use Rattle.definition.specs.Sheet.{Level, Sheet, rootOfUnity, sheetOf, shiftCount}
+use Rattle.definition.specs.Verdict.{accepted}
+use Rattle.definition.specs.WorkedTranscript.{coefficients, coins, definitions, sheetWords}
+use Rattle.algebra.specs.ListFacts.{All, all-map}
+use Rattle.algebra.specs.PrimeField.{signs-differ}
+use Rattle.completeness.specs.Allowed.{sheet-long}
+use Rattle.completeness.specs.Domains.{power-nonzero}
+use Rattle.completeness.specs.EachWord.{Each, each-false, each-join, each-none}
+use Rattle.completeness.specs.LayoutFacts.{layout-all}
+use Rattle.completeness.specs.LevelSizes.{Sized, positive-sizes}
+use Rattle.completeness.specs.Numbered.{Allowed}
+use Rattle.completeness.specs.Ready.{Ready, ready}
+use Rattle.completeness.specs.Tests.{at-none, at-passes, equal-passes, if-false}
 
 -- lists of zeros
 each-zeros : (R : Kind → ℕ → Type 0) (ks : List Kind) → All (λ k. R k 0) ks → Each R ks (replicate (length ks) 0)
@@ -74,17 +39,6 @@ coins-of P (message ∷ ks) h = coins-of P ks (h .1)
 coins-of P (coin ∷ ks) h = (h .0, coins-of P ks (h .1))
 coins-of P (out l ∷ ks) h = (h .0, coins-of P ks (h .1))
 coins-of P (index n ∷ ks) h = (h .0, coins-of P ks (h .1))
-
-shift-positive : (a : ℕ) (b : Level) → Sized a b → 0 < shiftCount b
-unfolding shiftCount
-shift-positive a b r = go (b .size / b .fold) refl
-  where
-    go : (q : ℕ) → b .size / b .fold ≡ q → 0 < q
-    go zero e =
-        let z : b .size ≡ 0 = sym (r .folds) ∙ ap (λ (n : ℕ). n * b .fold) e ∙ Nat.zero-mul (b .fold) in
-        let y : 2 ^ b .number * b .size ≡ 0 = ap (λ (n : ℕ). 2 ^ b .number * n) z ∙ Nat.mul-zero (2 ^ b .number) in
-        absurd (omega (arith, pow-pos a, r .whole, y))
-    go (suc q) e = omega arith
 
 module _ (h : Sheet) (r : Ready h) where
   abbrev F : Field ℕ
@@ -109,14 +63,14 @@ module _ (h : Sheet) (r : Ready h) where
   coin-zero = (lt-leb (h .prime) 0 positive, refl)
 
   index-zero : (b : Level) → Sized (suc (r .e)) b → Zero (index (shiftCount b))
-  unfolding outOfRange outInDomain limit
-  index-zero b rb = (lt-leb (shiftCount b) 0 (shift-positive (suc (r .e)) b rb), refl)
+  unfolding outOfRange outInDomain limit shiftCount
+  index-zero b rb = (lt-leb (b .size / b .fold) 0 (positive-sizes (suc (r .e)) b rb .0), refl)
 
   not-listed : (l : Level) (js : List ℕ) → inList F ω 0 (map (point F ω l) js) ≡ false
   unfolding inList point primeField
   not-listed l [] = refl
   not-listed l (j ∷ js) =
-      rw (ne-eqb 0 (power (primeField (h .prime)) ω (1 + 2 ^ l .number * j)) (λ z. power-nonzero (primeField (h .prime)) (r .laws) ω (r .e) (1 + 2 ^ l .number * j) (r .root) (sym z))) (not-listed l js)
+      rw (ne-eqb 0 (power (primeField (h .prime)) ω (1 + 2 ^ l .number * j)) (λ z. power-nonzero F (r .laws) ω (signs-differ (h .prime) (r .large)) (r .e) (r .root) (1 + 2 ^ l .number * j) (sym z))) (not-listed l js)
 
   out-zero : (l : Level) → Zero (out l)
   unfolding outOfRange outInDomain limit inDomain domain
@@ -139,7 +93,8 @@ module _ (h : Sheet) (r : Ready h) where
       ∙ each-none (outOfRange h) 0 (replicate (h .degree) message ++ ks) (f ++ replicate (length ks) 0) []
       (each-join (λ k x. outOfRange h k x ≡ false) (replicate (h .degree) message) ks f (replicate (length ks) 0)
       (subst (λ (l : List Kind). Each (λ k x. outOfRange h k x ≡ false) l f) (append-nil (replicate (h .degree) message))
-      (each-false (outOfRange h) 0 (replicate (h .degree) message ++ []) f (long ∙ sym (ap length (append-nil (replicate (h .degree) message)) ∙ length-replicate (h .degree) message)) (at-passes 5 _ elements)))
+      (each-false (outOfRange h) 0 (replicate (h .degree) message ++ []) f
+      (long ∙ sym (ap length (append-nil (replicate (h .degree) message)) ∙ length-replicate (h .degree) message)) (at-passes 5 _ elements)))
       (each-zeros (λ k x. outOfRange h k x ≡ false) ks (all-map ks zeros (λ k z. z .0)))))
 
   outside-zeros : coinDomainTest h (replicate (length ks) 0) ≡ accepted
@@ -147,10 +102,6 @@ module _ (h : Sheet) (r : Ready h) where
   outside-zeros = at-none 7 _
       (ap (λ (l : List ℕ). firstTrue 0 (zipWith (outInDomain h) ks l)) (sym (append-nil _))
       ∙ each-none (outInDomain h) 0 ks (replicate (length ks) 0) [] (each-zeros (λ k x. outInDomain h k x ≡ false) ks (all-map ks zeros (λ k z. z .1))))
-
-sheet-long : (w : List ℕ) → sheetLengthTest w ≡ accepted → length w ≡ 12
-unfolding sheetLengthTest
-sheet-long w e = equal-passes 10 0 (length w) 12 e
 
 full-length : (h : Sheet) (f : List ℕ) → coefficientsTest h f ≡ accepted → length f ≡ h .degree
 unfolding coefficientsTest
@@ -173,6 +124,6 @@ zeros-allowed w f words passed coefficients elements =
     }
 
 -- The transcript by hand is allowed.
-pub by-hand : Allowed sheetByHand coefficientsByHand coinsByHand
-unfolding sheetLengthTest sheetTest coefficientsTest coinsTest inputRangeTest coinDomainTest refuseIf refuseAt firstTrue zipWith sheetRules fieldRule knownField sizeRule powerOfTwo member range between primeOf degreeRule foldRule roundsRule outCoinsRule repetitionsRule sheetOf generatorOf layout restLayout roundLayout coinKinds firstLevel laterLevels levelsFrom finalCount shiftCount outOfRange limit outInDomain inDomain inList domain point power primeField rootOfUnity
+pub by-hand : Allowed sheetWords coefficients coins
+unfolding definitions
 by-hand = record { words = refl; sheet = refl; coefficients = refl; full = refl; range = refl; outside = refl }

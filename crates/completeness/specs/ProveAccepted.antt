@@ -1,15 +1,11 @@
--- What prove writes is accepted: prove answers done exactly when its tests pass, and then the blocks at the front of its output are a file that verify accepts.
+-- Completeness of prove: it answers done exactly when its tests pass, and then the blocks at the front of its output are a file that verify accepts.
 use Prim.Native.Nat.{ℕ, _*_}
 use native.Mathlib.Omega.{arith}
-use mathlib.Core.Path.{_≡_, refl, sym, ap, _∙_}
-use mathlib.Core.Logic.{_↔_}
 use mathlib.Core.List.{List, _++_}
+use mathlib.Core.Logic.{_↔_}
+use mathlib.Core.Path.{_≡_, refl, sym, ap, _∙_}
 use lib.ListN.{length, take, drop}
 use lib.Seq.{take-at}
-use Rattle.completeness.specs.Completeness.{completeness, honest-length}
-use Rattle.completeness.specs.FileTrip.{file-length}
-use Rattle.completeness.specs.Numbered.{Allowed, Room, readsDue}
-use Rattle.completeness.specs.Tests.{then-passes}
 use Rattle.definition.specs.Block.{blockCount, fileOf}
 use Rattle.definition.specs.Layout.{coinKinds, layout, wordsDue}
 use Rattle.definition.specs.Prove.{Result, coefficientsTest, coinDomainTest, coinsTest, done, finish, inputRangeTest, prove, proveTests, refusal, sheetLengthTest}
@@ -18,6 +14,9 @@ use Rattle.definition.specs.Reading.{sheetTest}
 use Rattle.definition.specs.Sheet.{sheetOf}
 use Rattle.definition.specs.Verdict.{Outcome, _then_, accepted, refused}
 use Rattle.definition.specs.Verify.{verify}
+use Rattle.completeness.specs.Completeness.{completeness, file-size}
+use Rattle.completeness.specs.Numbered.{Allowed, Room, readsDue}
+use Rattle.completeness.specs.Tests.{then-passes}
 
 finish-done : (o : Outcome) (count n : ℕ) (written output : List ℕ) → finish o count written output .answer ≡ done n → (o ≡ accepted) × (count ≡ n)
 unfolding finish
@@ -57,14 +56,14 @@ module _ (w f coins output : List ℕ) where
       (t .0, t .1, sym (r .1))
 
   -- and if the tests pass: the file, and after it the output as before
-  pub allowed-done : Allowed w f coins → Room w output →
+  allowed-done : Allowed w f coins → Room w output →
       prove w f coins output ≡ record { answer = done (blockCount (wordsDue (sheetOf w))); output = fileOf (honestStream w f coins) ++ drop (512 * blockCount (wordsDue (sheetOf w))) output }
   unfolding prove finish
   allowed-done ok room =
       rw (pass-tests ok room)
       (λ i. record {
         answer = done (blockCount (wordsDue (sheetOf w)));
-        output = fileOf (honestStream w f coins) ++ drop ((file-length (honestStream w f coins) ∙ ap (λ (m : ℕ). 512 * blockCount m) (honest-length ok)) i) output;
+        output = fileOf (honestStream w f coins) ++ drop (file-size ok i) output;
       })
 
   pub output-done : Allowed w f coins → Room w output → prove w f coins output .output ≡ fileOf (honestStream w f coins) ++ drop (512 * blockCount (wordsDue (sheetOf w))) output
@@ -87,6 +86,6 @@ module _ (w f coins output : List ℕ) where
       verify (take (512 * n) (prove w f coins output .output)) ≡ record { outcome = accepted; reads = readsDue w }
   prove-accepted n e =
       let r = done-allowed n e in
-      let size : length (fileOf (honestStream w f coins)) ≡ 512 * n = file-length (honestStream w f coins) ∙ ap (λ (m : ℕ). 512 * blockCount m) (honest-length (r .0)) ∙ ap (λ (m : ℕ). 512 * m) (sym (r .2)) in
+      let size : length (fileOf (honestStream w f coins)) ≡ 512 * n = file-size (r .0) ∙ ap (λ (m : ℕ). 512 * m) (sym (r .2)) in
       ap verify (ap (λ (x : Result). take (512 * n) (x .output)) (allowed-done (r .0) (r .1)) ∙ take-at (fileOf (honestStream w f coins)) _ (512 * n) size)
       ∙ completeness w f coins (r .0)

@@ -1,25 +1,26 @@
--- A sheet that passes is ready: its field has the laws and a fitting root of unity, its levels are right, and its indices are words.
-use Rattle.algebra.specs.PrimeField.{fitting-root, prime-field}
+-- A sheet without a fault has all that completeness asks of it: the laws of a field, ω with ω^(n0/2) = -1, n0 = 2^(e+1), levels of the right sizes, and limits that
+-- are words.
 use Prim.Native.Nat.{ℕ, suc, _+_, _-_, _/_, _%_, _^_, _≤_, _<_}
 use native.Mathlib.Nat.{pow-suc, div-le-self, mul-le-mul-right, one-mul}
 use native.Mathlib.Omega.{arith}
-use mathlib.Core.Path.{_≡_, sym, subst}
 use mathlib.Core.List.{List}
+use mathlib.Core.Path.{_≡_, sym, subst}
 use lib.ListN.{length, getD}
 use lib.Pow.{pow-pos}
-use Rattle.algebra.specs.Laws.{FieldLaws}
-use Rattle.algebra.specs.ListFacts.{All}
-use Rattle.algebra.specs.PrimeField.{Suited, suited}
-use Rattle.algebra.specs.RootsOfUnity.{minusOne}
-use Rattle.completeness.specs.LayoutFacts.{layout-all}
-use Rattle.completeness.specs.SheetFacts.{Chain, Sized}
-use Rattle.completeness.specs.SheetLevels.{Steps, sheet-chain, sheet-steps}
-use Rattle.completeness.specs.SheetPassed.{exponents}
 use Rattle.definition.specs.Field.{power, primeField}
 use Rattle.definition.specs.Layout.{layout, limit}
 use Rattle.definition.specs.Reading.{sheetTest}
 use Rattle.definition.specs.Sheet.{Level, Sheet, firstLevel, laterLevels, rootOfUnity, sheetOf, shiftCount}
 use Rattle.definition.specs.Verdict.{accepted}
+use Rattle.algebra.specs.Laws.{FieldLaws}
+use Rattle.algebra.specs.ListFacts.{All}
+use Rattle.algebra.specs.PrimeField.{Suited, fitting-root, prime-field, suited}
+use Rattle.algebra.specs.RootsOfUnity.{minusOne}
+use Rattle.completeness.specs.LayoutFacts.{layout-all}
+use Rattle.completeness.specs.LevelSizes.{Chain, Sized}
+use Rattle.completeness.specs.Numbered.{levelOf, roundsOf}
+use Rattle.completeness.specs.SheetLevels.{Steps, sheet-chain, sheet-steps, sized}
+use Rattle.completeness.specs.SheetRules.{exponents}
 
 pub record Ready (h : Sheet) : Type 0 where
   pub laws : FieldLaws (primeField (h .prime))
@@ -53,6 +54,11 @@ ready w long passed =
       chain = sheet-chain w long passed;
       steps = sheet-steps w long passed;
     }
+
+-- its levels by number
+pub ready-sized : (w : List ℕ) (long : length w ≡ 12) (passed : sheetTest w ≡ accepted) (i : ℕ) → i ≤ roundsOf w → Sized (suc (ready w long passed .e)) (levelOf w i)
+unfolding ready
+ready-sized = sized
 
 -- every limit of the layout is a word's
 shift-count : (a : ℕ) (b : Level) → Sized a b → shiftCount b ≤ 2 ^ a

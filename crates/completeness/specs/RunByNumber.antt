@@ -2,32 +2,10 @@
 use Prim.Native.Nat.{ℕ, zero, suc, _+_, _-_, _/_, _^_, _≤_, _<_}
 use native.Mathlib.Nat.{add-suc, suc-add, add-zero, zero-add, div-le-self}
 use native.Mathlib.Omega.{arith}
-use mathlib.Core.Path.{_≡_, refl, sym, ap, _∙_, subst}
 use mathlib.Core.List.{List, map}
+use mathlib.Core.Path.{_≡_, refl, sym, ap, _∙_, subst}
 use lib.ListN.{length, getD, length-map}
 use lib.Pow.{pow-mono}
-use Rattle.algebra.specs.Coefficients
-use Rattle.algebra.specs.Lengths
-use Rattle.algebra.specs.Coefficients.{Elements}
-use Rattle.algebra.specs.Different.{Apart}
-use Rattle.algebra.specs.Laws.{FieldLaws}
-use Rattle.algebra.specs.ListFacts.{all-map}
-use Rattle.algebra.specs.PrimeField.{signs-differ}
-use Rattle.completeness.specs.Allowed.{allowed-degree, allowed-long}
-use Rattle.completeness.specs.ByPlace.{all-places, at-place, same-place}
-use Rattle.completeness.specs.CoinsByNumber.{coins-read}
-use Rattle.completeness.specs.Completeness.{fair-coins, sheetReady}
-use Rattle.completeness.specs.DecidingAccepts.{Fair, FairRound, Foldable}
-use Rattle.completeness.specs.DistinctPoints.{all-distinct, kept-places}
-use Rattle.completeness.specs.Domains.{domain-apart, foldable}
-use Rattle.completeness.specs.DomainsByNumber.{enough-words, sized}
-use Rattle.completeness.specs.FairCoins.{reduced}
-use Rattle.completeness.specs.LevelsByNumber.{level-first, undivided}
-use Rattle.completeness.specs.ListLaws.{range-length}
-use Rattle.completeness.specs.Numbered.{Allowed, answerPoly, coinsOf, combinationCoin, correctedOf, finalIndices, foldCoin, levelOf, pairAt, pairsOf, quotientPoly, roundPoly, roundsOf, samplesAt, sheetField, sheetRoot, vanishingPoly}
-use Rattle.completeness.specs.SheetPassed.{exponents}
-use Rattle.completeness.specs.DecidingAccepts
-use Rattle.completeness.specs.RoundPolynomials
 use Rattle.definition.specs.Domain.{domain, point}
 use Rattle.definition.specs.Field.{Field}
 use Rattle.definition.specs.Layout.{readCoins}
@@ -36,6 +14,29 @@ use Rattle.definition.specs.Polynomial.{addPoly, correctedPoly, distinct, evalu
 use Rattle.definition.specs.Prover.{nextPoly}
 use Rattle.definition.specs.Sheet.{Level, finalCount, firstLevel, sheetOf}
 use Rattle.definition.specs.Transcript.{Coins}
+use Rattle.algebra.specs.Coefficients
+use Rattle.algebra.specs.Coefficients.{Elements}
+use Rattle.algebra.specs.Different.{Apart}
+use Rattle.algebra.specs.Laws.{FieldLaws}
+use Rattle.algebra.specs.Lengths
+use Rattle.algebra.specs.ListFacts.{all-map}
+use Rattle.algebra.specs.PrimeField.{signs-differ}
+use Rattle.completeness.specs.Allowed.{allowed-degree, allowed-long}
+use Rattle.completeness.specs.ByPlace.{all-places, at-place, same-place}
+use Rattle.completeness.specs.CoinsByNumber.{coins-read}
+use Rattle.completeness.specs.Completeness.{fair-coins, sheetReady}
+use Rattle.completeness.specs.DecidingAccepts
+use Rattle.completeness.specs.DecidingAccepts.{Fair, FairRound, Foldable}
+use Rattle.completeness.specs.DistinctPoints.{all-distinct, kept-places}
+use Rattle.completeness.specs.Domains.{domain-apart, foldable}
+use Rattle.completeness.specs.FairCoins.{reduced}
+use Rattle.completeness.specs.LevelsByNumber.{level-first, undivided}
+use Rattle.completeness.specs.ListLaws.{range-length}
+use Rattle.completeness.specs.Numbered.{Allowed, answerPoly, coinsOf, combinationCoin, correctedOf, finalIndices, foldCoin, levelOf, pairAt, pairsOf, quotientPoly, roundPoly, roundsOf, samplesAt, sheetField, sheetRoot, vanishingPoly}
+use Rattle.completeness.specs.Ready.{ready-sized}
+use Rattle.completeness.specs.RoundPolynomials
+use Rattle.completeness.specs.SheetLevels.{enough-words}
+use Rattle.completeness.specs.SheetRules.{exponents}
 
 -- n rounds past level i
 fair-at : (w coins : List ℕ) (L : FieldLaws (sheetField w)) (js : List ℕ) (m i n : ℕ) → n < m → Fair (sheetField w) L (sheetRoot w) (levelOf w i) (map (coinsOf w coins) (range (suc i) m)) js →
@@ -81,7 +82,7 @@ module _ {w f coins : List ℕ} (ok : Allowed w f coins) where
   fair-round i l = subst (λ (j : ℕ). FairRound F L ω (levelOf w j) (coinsOf w coins (suc j))) (zero-add i) (fair-at w coins L _ (roundsOf w) 0 i l fair-all)
 
   pub level-folds : (i : ℕ) → i ≤ roundsOf w → Foldable F ω (levelOf w i)
-  level-folds i l = foldable F L ω (signs-differ (sheetOf w .prime) (sheetReady ok .large)) (sheetReady ok .e) (sheetReady ok .root) (levelOf w i) (sized w long (ok .sheet) i l)
+  level-folds i l = foldable F L ω (signs-differ (sheetOf w .prime) (sheetReady ok .large)) (sheetReady ok .e) (sheetReady ok .root) (levelOf w i) (ready-sized w long (ok .sheet) i l)
 
   -- DEGREES. f_i has d_i coefficients, and so has g_i; g_(i+1) has d_i/k.
   pub corrected-length : (i : ℕ) → i ≤ roundsOf w → length (correctedOf w f coins i) ≡ levelOf w i .degree
@@ -89,6 +90,10 @@ module _ {w f coins : List ℕ} (ok : Allowed w f coins) where
   corrected-length zero l = first-length w f ok
   corrected-length (suc i) l =
       DecidingAccepts.next-fits F L ω (levelOf w i) (correctedOf w f coins i) (foldCoin w coins i) (coinsOf w coins (suc i)) (corrected-length i (omega arith)) (fair-round i (omega arith))
+
+  pub first-degree : length (roundPoly w f coins 0) ≡ getD w 2 0
+  unfolding roundPoly sheetOf
+  first-degree = allowed-degree ok
 
   pub folded-length : (i : ℕ) → i ≤ roundsOf w → length (roundPoly w f coins (suc i)) ≡ finalCount (levelOf w i)
   unfolding roundPoly finalCount
@@ -143,13 +148,15 @@ module _ {w f coins : List ℕ} (ok : Allowed w f coins) where
     unfolding quotientPoly vanishingPoly answerPoly samplesAt pairsOf
     coefficients-divide =
         RoundPolynomials.coefficients-divide F L ω (levelOf w i) g (coinsOf w coins (suc i)) (fair-round i l) (round-length (suc i) (omega arith)) (domain F ω (levelOf w 0))
-        (domain-apart F L ω (signs-differ (sheetOf w .prime) (sheetReady ok .large)) (sheetReady ok .e) (sheetReady ok .root) (levelOf w 0) (sized w long (ok .sheet) 0 (omega arith)))
+        (domain-apart F L ω (signs-differ (sheetOf w .prime) (sheetReady ok .large)) (sheetReady ok .e) (sheetReady ok .root) (levelOf w 0) (ready-sized w long (ok .sheet) 0 (omega arith)))
         enough round-elements
 
     -- A passes through pair j of G's list, and is the only polynomial with e coefficients, all elements, that passes through all pairs
     pub passes-through : (j : ℕ) → j < length (pairsOf w f coins (suc i)) → evaluate F (answerPoly w f coins (suc i)) (pairAt w f coins (suc i) j .point) ≡ pairAt w f coins (suc i) j .value
     unfolding answerPoly samplesAt pairsOf
-    passes-through = at-place (λ p. evaluate F (answerPoly w f coins (suc i)) (p .point) ≡ p .value) (pairsOf w f coins (suc i)) _ (RoundPolynomials.passes-through F L ω (levelOf w i) g (coinsOf w coins (suc i)) (fair-round i l))
+    passes-through =
+        at-place (λ p. evaluate F (answerPoly w f coins (suc i)) (p .point) ≡ p .value) (pairsOf w f coins (suc i)) _
+        (RoundPolynomials.passes-through F L ω (levelOf w i) g (coinsOf w coins (suc i)) (fair-round i l))
 
     pub only-answer : (q : List ℕ) → length q ≡ length (samplesAt w f coins (suc i)) → ((j : ℕ) → j < length q → getD q j 0 < sheetOf w .prime) →
         ((j : ℕ) → j < length (pairsOf w f coins (suc i)) → evaluate F q (pairAt w f coins (suc i) j .point) ≡ pairAt w f coins (suc i) j .value) → q ≡ answerPoly w f coins (suc i)
@@ -169,4 +176,6 @@ module _ {w f coins : List ℕ} (ok : Allowed w f coins) where
     pub pairs-sampled : (j : ℕ) → j < length (pairsOf w f coins (suc i)) →
         (a : ℕ) × (a < length (samplesAt w f coins (suc i))) × (getD (points (samplesAt w f coins (suc i))) a 0 ≡ pairAt w f coins (suc i) j .point)
     unfolding samplesAt
-    pairs-sampled = at-place (λ p. (a : ℕ) × (a < length (distinct F (pairsOf w f coins (suc i)))) × (getD (points (distinct F (pairsOf w f coins (suc i)))) a 0 ≡ p .point)) (pairsOf w f coins (suc i)) _ (kept-places F L 0 (pairsOf w f coins (suc i)))
+    pairs-sampled =
+        let ps = pairsOf w f coins (suc i) in
+        at-place (λ p. (a : ℕ) × (a < length (distinct F ps)) × (getD (points (distinct F ps)) a 0 ≡ p .point)) ps _ (kept-places F L 0 ps)

@@ -1,21 +1,23 @@
--- The levels of a sheet that passes: each is right, and each step from one to the next leaves more degree than there are points.
+-- The levels of a sheet without a fault: each has its sizes, and each step from one to the next leaves more degree than there are points.
 use Prim.Native.Nat.{ℕ, zero, suc, _+_, _-_, _*_, _/_, _^_, _≤_, _<_}
 use native.Mathlib.Nat
-use native.Mathlib.Nat.{pow-suc}
+use native.Mathlib.Nat.{mul-le-mul-left, pow-suc}
 use native.Mathlib.Omega.{arith}
-use mathlib.Core.Path.{_≡_, refl, sym, ap, _∙_, subst}
-use mathlib.Core.List.{List, [], _∷_, _++_, tail}
+use mathlib.Core.List.{List, [], _∷_, _++_, map}
+use mathlib.Core.Path.{_≡_, refl, sym, ap, _∙_}
 use lib.ListN.{length, getD, take, drop, replicate, length-drop, List·getD-append}
-use lib.Seq.{drop-cons, take-append-le, drop-append-le}
-use Rattle.completeness.specs.SheetFacts
-use Rattle.algebra.specs.ModularArithmetic.{pow-pow}
-use Rattle.completeness.specs.SheetFacts.{Chain, chain}
-use Rattle.completeness.specs.SheetPassed.{Exponents, exponents, few-points, twelve}
+use lib.Seq.{take-append-le, drop-append-le}
 use Rattle.definition.specs.Field.{generatorOf, primeOf}
 use Rattle.definition.specs.Lists.{range}
 use Rattle.definition.specs.Reading.{sheetTest}
-use Rattle.definition.specs.Sheet.{Level, degreeRule, fieldRule, firstLevel, foldRule, laterLevels, levelsFrom, outCoinsRule, repetitionsRule, roundsRule, sheetOf, sheetRules, sizeRule}
+use Rattle.definition.specs.Sheet.{Level, degreeRule, fieldRule, firstLevel, foldRule, laterLevels, outCoinsRule, repetitionsRule, roundsRule, sheetOf, sheetRules, sizeRule}
 use Rattle.definition.specs.Verdict.{accepted}
+use Rattle.algebra.specs.ModularArithmetic.{pow-pow}
+use Rattle.completeness.specs.LevelSizes
+use Rattle.completeness.specs.LevelSizes.{Chain, Sized, sized-at}
+use Rattle.completeness.specs.LevelsByNumber.{as-listed, folded}
+use Rattle.completeness.specs.Numbered.{levelOf, outsOf, roundsOf}
+use Rattle.completeness.specs.SheetRules.{Exponents, exponents, few-points, twelve}
 
 -- from level b to the next level l, with s out coins: fewer points than the next degree bound; l has a number before it; the folding number is even
 pub record Step (s : ℕ) (b l : Level) : Type 0 where
@@ -25,86 +27,62 @@ pub record Step (s : ℕ) (b l : Level) : Type 0 where
   pub half : ℕ
   pub even : b .fold ≡ half + half
 
+-- of all levels
 abbrev pub Steps : ℕ → Level → List Level → Type 0
 Steps s b [] = Unit {0}
 Steps s b (l ∷ ls) = Step s b l × Steps s l ls
 
--- d_(i+1), where d_i = 2^v
-degree-next : (b c i v : ℕ) → v + suc c * i ≡ b → suc c ≤ v → 2 ^ b / (2 ^ suc c) ^ suc i ≡ 2 ^ v / 2 ^ suc c
-degree-next b c i v e h =
-    let r = v - suc c in
-    let eb : b ≡ r + suc c * suc i = omega (arith, Nat.mul-suc (suc c) i) in
-    let ev : v ≡ r + suc c = omega arith in
-    ap (λ (x : ℕ). 2 ^ b / x) (pow-pow 2 (suc c) (suc i)) ∙ ap (λ (x : ℕ). 2 ^ x / 2 ^ (suc c * suc i)) eb ∙ SheetFacts.quotient r (suc c * suc i)
-    ∙ sym (ap (λ (x : ℕ). 2 ^ x / 2 ^ suc c) ev ∙ SheetFacts.quotient r (suc c))
-
 module _ (w : List ℕ) (long : length w ≡ 12) (passed : sheetTest w ≡ accepted) where
   open Exponents (exponents w passed) using (a, b, c, size, degree, fold, below, rounds, most)
 
-  few-at : (i j v : ℕ) → j ≡ 6 + i → v + suc c * i ≡ b → suc c ≤ v → i < getD w 4 0 → getD w 5 0 + getD w j 0 < 2 ^ v / 2 ^ suc c
-  few-at i j v ej e h l =
-      let f = few-points w passed i l most in
-      let g : getD w 2 0 / getD w 3 0 ^ suc i ≡ 2 ^ v / 2 ^ suc c = (λ j′. degree j′ / fold j′ ^ suc i) ∙ degree-next b c i v e h in
-      let t : getD w j 0 ≡ getD w (6 + i) 0 = ap (λ (x : ℕ). getD w x 0) ej in
-      omega (arith, f, g, t)
+  -- t_M is among the words
+  pub enough-words : 7 + roundsOf w ≤ length w
+  enough-words = omega (arith, long, most)
 
-  left : (i m v : ℕ) → i + suc m ≡ getD w 4 0 → v + suc c * i ≡ b → suc c ≤ v
-  left i m v e h =
-      let r : suc c * getD w 4 0 ≡ suc c * i + suc c * suc m = ap (λ (x : ℕ). suc c * x) (sym e) ∙ Nat.mul-add (suc c) i (suc m) in
-      omega (arith, rounds, r, Nat.mul-suc (suc c) m)
-
-  -- the steps from level i on, whose repetition word is word j
-  steps-from : (m i j v n d : ℕ) → j ≡ 6 + i → i + m ≡ getD w 4 0 → v + suc c * i ≡ b → d ≡ 2 ^ v →
-      Steps (getD w 5 0) (record { number = i; size = n; degree = d; fold = 2 ^ suc c; repetitions = getD w j 0 })
-      (levelsFrom (suc i) (n / 2) (d / 2 ^ suc c) (replicate m (2 ^ suc c)) (take m (drop (suc j) w)))
-  unfolding levelsFrom
-  steps-from zero i j v n d ej em ev ed = tt
-  steps-from (suc m) i j v n d ej em ev ed =
-      let l : suc j < length w = omega (arith, most, long, em) in
-      rw (drop-cons w (suc j) 0 l) (
-        record {
-          few = subst (λ (x : ℕ). getD w 5 0 + getD w j 0 < x / 2 ^ suc c) (sym ed) (few-at i j v ej ev h (omega arith));
-          before = i;
-          number = refl;
-          half = 2 ^ c;
-          even = omega (arith, pow-suc 2 c);
-        },
-        steps-from m (suc i) (suc j) (v - suc c) (n / 2) (d / 2 ^ suc c) (omega arith) (omega arith) (omega (arith, h, Nat.mul-suc (suc c) i)) next,
-      )
+  -- level i: n_i and d_i are powers of two, and k divides both
+  pub sized : (i : ℕ) → i ≤ roundsOf w → Sized (suc a) (levelOf w i)
+  sized i l = rw fold (sized-at (suc a) i (suc a - i) (b - suc c * i) (suc c) (getD w (6 + i) 0) (getD w 1 0 / 2 ^ i) (getD w 2 0 / (2 ^ suc c) ^ i)
+      (omega (arith, narrow, below)) (omega (arith, narrow, below)) (omega (arith, narrow)) sizes degrees)
     where
-      h : suc c ≤ v
-      h = left i m v em ev
+      -- (c + 1)·i + c + 1 is at most b, and i is at most (c + 1)·i
+      narrow : (suc c * i + suc c ≤ b) × (i ≤ suc c * i)
+      narrow = (omega (arith, rounds, mul-le-mul-left (suc c) l), omega (arith, Nat.suc-mul c i))
 
-      split : v ≡ v - suc c + suc c
-      split = omega (arith, h)
+      sizes : getD w 1 0 / 2 ^ i ≡ 2 ^ (suc a - i)
+      sizes = let e : suc a ≡ suc a - i + i = omega (arith, narrow, below) in ap (λ (x : ℕ). x / 2 ^ i) (size ∙ ap (λ (x : ℕ). 2 ^ x) e) ∙ LevelSizes.quotient (suc a - i) i
 
-      next : d / 2 ^ suc c ≡ 2 ^ (v - suc c)
-      next = ap (λ (x : ℕ). x / 2 ^ suc c) (ed ∙ ap (λ (x : ℕ). 2 ^ x) split) ∙ SheetFacts.quotient (v - suc c) (suc c)
+      degrees : getD w 2 0 / (2 ^ suc c) ^ i ≡ 2 ^ (b - suc c * i)
+      degrees =
+          let e : b ≡ b - suc c * i + suc c * i = omega (arith, narrow) in
+          (λ x. (degree ∙ ap (λ (y : ℕ). 2 ^ y) e) x / pow-pow 2 (suc c) i x) ∙ LevelSizes.quotient (b - suc c * i) (suc c * i)
 
-  -- a fact of the levels, from the fact with k written as a power of two and t_0 apart from t_1 to t_M
-  pub about-levels : (P : Level → List Level → Type 0) →
-      P (record { number = 0; size = getD w 1 0; degree = getD w 2 0; fold = 2 ^ suc c; repetitions = getD w 6 0 })
-      (levelsFrom 1 (getD w 1 0 / 2) (getD w 2 0 / 2 ^ suc c) (replicate (getD w 4 0) (2 ^ suc c)) (take (getD w 4 0) (drop 7 w))) →
-      P (firstLevel (sheetOf w)) (laterLevels (sheetOf w))
-  unfolding sheetOf firstLevel laterLevels
-  about-levels P h =
-      subst (λ (l : List ℕ). P
-      (record { number = 0; size = getD w 1 0; degree = getD w 2 0; fold = getD w 3 0; repetitions = getD (take (suc (getD w 4 0)) l) 0 0 })
-      (levelsFrom 1 (getD w 1 0 / 2) (getD w 2 0 / getD w 3 0) (replicate (getD w 4 0) (getD w 3 0)) (tail (take (suc (getD w 4 0)) l))))
-      (sym (drop-cons w 6 0 (omega (arith, long))))
-      (subst (λ (k : ℕ). P
-      (record { number = 0; size = getD w 1 0; degree = getD w 2 0; fold = k; repetitions = getD w 6 0 })
-      (levelsFrom 1 (getD w 1 0 / 2) (getD w 2 0 / k) (replicate (getD w 4 0) k) (take (getD w 4 0) (drop 7 w))))
-      (sym fold) h)
+  -- from level i to level i + 1
+  pub step : (i : ℕ) → i < roundsOf w → Step (outsOf w) (levelOf w i) (levelOf w (suc i))
+  step i l = record {
+    few = omega (arith, few-points w passed i l most);
+    before = i;
+    number = refl;
+    half = 2 ^ c;
+    even = omega (arith, fold, pow-suc 2 c);
+  }
+
+  -- the levels in their order
+  chain-from : (m i : ℕ) → i + m ≡ roundsOf w → Chain (suc a) (levelOf w i) (map (levelOf w) (range (suc i) m))
+  unfolding range
+  chain-from zero i e = sized i (omega arith)
+  chain-from (suc m) i e = (sized i (omega arith), sym (folded (getD w 2 0) (getD w 3 0) i), chain-from m (suc i) (omega arith))
+
+  steps-from : (m i : ℕ) → i + m ≡ roundsOf w → Steps (outsOf w) (levelOf w i) (map (levelOf w) (range (suc i) m))
+  unfolding range
+  steps-from zero i e = tt
+  steps-from (suc m) i e = (step i (omega arith), steps-from m (suc i) (omega arith))
+
+  pub sheet-chain : Chain (suc a) (firstLevel (sheetOf w)) (laterLevels (sheetOf w))
+  sheet-chain = as-listed w (Chain (suc a)) enough-words (chain-from (roundsOf w) 0 (omega arith))
 
   pub sheet-steps : Steps (sheetOf w .outCoins) (firstLevel (sheetOf w)) (laterLevels (sheetOf w))
   unfolding sheetOf
-  sheet-steps = about-levels (Steps (getD w 5 0)) (steps-from (getD w 4 0) 0 6 b (getD w 1 0) (getD w 2 0) refl (Nat.zero-add _) (omega (arith, Nat.mul-zero (suc c))) degree)
-
-  pub sheet-chain : Chain (suc a) (firstLevel (sheetOf w)) (laterLevels (sheetOf w))
-  sheet-chain =
-      about-levels (Chain (suc a))
-      (chain (suc a) (suc c) (getD w 4 0) 0 (suc a) b (getD w 6 0) (getD w 1 0) (getD w 2 0) (take (getD w 4 0) (drop 7 w)) (Nat.zero-add _) below rounds (omega arith) size degree)
+  sheet-steps = as-listed w (Steps (outsOf w)) enough-words (steps-from (roundsOf w) 0 (omega arith))
 
   -- the sheet of a stream is that of its first 12 words
   pub sheet-front : (x : List ℕ) → sheetOf (w ++ x) ≡ sheetOf w

@@ -4,40 +4,50 @@
 -- field with the laws and any fitting root: DecidingAccepts.deciding-accepts (any list of levels), RoundPolynomials, Domains, and Causal (any party that sends and asks).
 use Prim.Native.Nat.{ℕ, suc, _+_, _-_, _*_, _/_, _^_, _≤_, _<_}
 use native.Mathlib.Omega.{arith}
-use mathlib.Core.Path.{_≡_}
-use mathlib.Core.Logic.{_↔_}
 use mathlib.Core.List.{List, [], _++_, map}
+use mathlib.Core.Logic.{_↔_}
+use mathlib.Core.Path.{_≡_}
 use lib.ListN.{length, getD, take, drop, replicate}
+use Rattle.definition.specs.Block.{blockCount, fileOf}
+use Rattle.definition.specs.Deciding.{answers}
+use Rattle.definition.specs.Domain.{foldAt, point, rootNumbers, shiftPoint}
 use Rattle.definition.specs.Field.{Field, power}
+use Rattle.definition.specs.Layout.{coinKinds, layout, message, readTranscript, wordsDue}
 use Rattle.definition.specs.Lists.{range}
 use Rattle.definition.specs.Polynomial.{addPoly, evaluate, foldPoly, geometric, mulPoly, points}
-use Rattle.definition.specs.Sheet.{sheetOf, sheetLength, shiftCount, finalCount}
-use Rattle.definition.specs.Domain.{foldAt, point, rootNumbers, shiftPoint}
-use Rattle.definition.specs.Layout.{coinKinds, layout, message, wordsDue}
-use Rattle.definition.specs.Block.{blockCount, fileOf}
-use Rattle.definition.specs.Verdict.{accepted}
-use Rattle.definition.specs.Reading.{sheetTest}
-use Rattle.definition.specs.Deciding.{answers}
-use Rattle.definition.specs.Verify.{verify}
-use Rattle.definition.specs.Prover.{honestStream}
 use Rattle.definition.specs.Prove.{coefficientsTest, done, inputRangeTest, prove, refusal, sheetLengthTest}
-use Rattle.completeness.specs.Numbered.{Allowed, Copy, Due, Message, Room, answerPoly, coefficientsByHand, coinsByHand, combinationCoin, correctedOf, final, foldCoin, functionOf, lengthOf, levelOf, outCoinsOf, outsOf, pairAt, pairsOf, quotientPoly, readsDue, replies, roundOf, roundPoly, roundsOf, samplesAt, sentBefore, sheetByHand, sheetField, sheetRoot, startOf, streamOn, table, total, vanishingPoly, wordsIn}
+use Rattle.definition.specs.Prover.{honest, honestStream}
+use Rattle.definition.specs.Reading.{sheetTest}
+use Rattle.definition.specs.Sheet.{finalCount, sheetLength, sheetOf, shiftCount}
+use Rattle.definition.specs.Verdict.{accepted}
+use Rattle.definition.specs.Verify.{verify}
+use Rattle.definition.specs.WorkedTranscript.{coefficients, coins, sheetWords}
+use Rattle.completeness.specs.ByPlace.{at-place}
 use Rattle.completeness.specs.Completeness
 use Rattle.completeness.specs.DecidingAccepts
-use Rattle.completeness.specs.ProveAccepted
-use Rattle.completeness.specs.StreamByNumber
-use Rattle.completeness.specs.LayoutByNumber
-use Rattle.completeness.specs.RunByNumber
-use Rattle.completeness.specs.FunctionsByNumber
-use Rattle.completeness.specs.NonAnticipation
 use Rattle.completeness.specs.DomainsByNumber
-use Rattle.completeness.specs.Premises
 use Rattle.completeness.specs.FileSize
+use Rattle.completeness.specs.FileTrip
+use Rattle.completeness.specs.FunctionsByNumber
+use Rattle.completeness.specs.LayoutByNumber
+use Rattle.completeness.specs.NonAnticipation
+use Rattle.completeness.specs.Numbered.{Allowed, Copy, Due, Message, Room, answerPoly, coinsOf, combinationCoin, correctedOf, final, finalIndices, foldCoin, functionOf, lengthOf, levelOf, outCoinsOf, outsOf, pairAt, pairsOf, quotientPoly, readsDue, replies, roundOf, roundPoly, roundsOf, samplesAt, sentBefore, sheetField, sheetRoot, startOf, streamOn, table, total, vanishingPoly, wordsIn}
+use Rattle.completeness.specs.Premises
+use Rattle.completeness.specs.ProveAccepted
+use Rattle.completeness.specs.RunByNumber
+use Rattle.completeness.specs.StreamByNumber
 
 -- 1. COMPLETENESS. For every list of 12 words without a broken rule, every list of d0 elements and every allowed coin list, verify accepts the prover's blocks, with
 -- k·(t_0 + .. + t_M) reads. One claim over a whole coin list, through all its rounds.
 pub completeness : (w f coins : List ℕ) → Allowed w f coins → verify (fileOf (honestStream w f coins)) ≡ record { outcome = accepted; reads = readsDue w }
 completeness = Completeness.completeness
+
+-- That file is a list of bytes, 512 for each block that the sheet needs.
+pub file-length : (w f coins : List ℕ) → Allowed w f coins → length (fileOf (honestStream w f coins)) ≡ 512 * blockCount (wordsDue (sheetOf w))
+file-length w f coins ok = Completeness.file-size ok
+
+pub file-of-bytes : (w f coins : List ℕ) (j : ℕ) → j < length (fileOf (honestStream w f coins)) → getD (fileOf (honestStream w f coins)) j 0 < 256
+file-of-bytes w f coins = at-place (λ b. b < 256) (fileOf (honestStream w f coins)) 0 (FileTrip.file-of-bytes (honestStream w f coins))
 
 -- 2. COMPLETENESS OF PROVE. Where prove answers done with n blocks, the first n blocks of its output are a file that verify accepts.
 pub prove-accepted : (w f coins output : List ℕ) (n : ℕ) → prove w f coins output .answer ≡ done n →
@@ -62,7 +72,7 @@ prove-output = ProveAccepted.output-done
 pub prove-refused : (w f coins output : List ℕ) (number place : ℕ) → prove w f coins output .answer ≡ refusal number place → prove w f coins output .output ≡ output
 prove-refused = ProveAccepted.refused-same
 
--- 3 TO 6: the run of an allowed list, of the stream as it is written and as verify reads it out of the file.
+-- 3 TO 6: the run of an allowed list, in the stream as it is written and as verify reads it out of the file. A round from 1 to M is written suc i, for i below M.
 module _ (w f coins : List ℕ) (ok : Allowed w f coins) where
   infixl 65 _⊕_
   infixl 70 _⊗_
@@ -83,7 +93,10 @@ module _ (w f coins : List ℕ) (ok : Allowed w f coins) where
       getD (streamOn copy w f coins) (startOf w final + j) 0 ≡ getD (roundPoly w f coins (suc (roundsOf w))) j 0
   final-is-fold copy j h = rw (StreamByNumber.copy-is ok copy) (StreamByNumber.final-entry ok _ j h)
 
-  -- 4. DEGREES. Round i's polynomial has d_i = d0 / k^i coefficients, the first d0; the final message has d_M/k;
+  -- 4. DEGREES. The first polynomial has d0 coefficients, and round i's has d_i = d0 / k^i; the final message has d_M/k;
+  pub first-degree : length (roundPoly w f coins 0) ≡ getD w 2 0
+  first-degree = RunByNumber.first-degree ok
+
   pub round-degree : (i : ℕ) → i ≤ roundsOf w → length (roundPoly w f coins i) ≡ getD w 2 0 / getD w 3 0 ^ i
   round-degree = RunByNumber.round-length ok
 
@@ -140,7 +153,12 @@ module _ (w f coins : List ℕ) (ok : Allowed w f coins) where
       q ≡ answerPoly w f coins (suc i)
   answer-only = RunByNumber.only-answer ok
 
-  -- 6. THE VERIFIER'S FUNCTIONS ARE THE PROVER'S POLYNOMIALS. On domain i, f_i as the verifier works it out from the words of the stream is the corrected polynomial;
+  -- 6. THE VERIFIER'S FUNCTIONS ARE THE PROVER'S POLYNOMIALS. The transcript that verify reads is the honest one, with the coins as they are numbered here.
+  pub transcript-read : (copy : Copy) → readTranscript (sheetOf w) (drop sheetLength (streamOn copy w f coins))
+      ≡ honest (sheetField w) (sheetRoot w) (levelOf w 0) f (record { fold = foldCoin w coins 0; rounds = map (coinsOf w coins) (range 1 (roundsOf w)); finals = finalIndices w coins })
+  transcript-read copy = rw (StreamByNumber.copy-is ok copy) (StreamByNumber.transcript-read ok _)
+
+  -- On domain i, f_i as the verifier works it out from the words of the stream is the corrected polynomial;
   pub function-is-polynomial : (copy : Copy) (i j : ℕ) → i ≤ roundsOf w → j < levelOf w i .size →
       functionOf w coins (streamOn copy w f coins) i j ≡ evaluate (sheetField w) (correctedOf w f coins i) (point (sheetField w) (sheetRoot w) (levelOf w i) j)
   function-is-polynomial copy i j l h = rw (StreamByNumber.copy-is ok copy) (FunctionsByNumber.function-agrees ok _ i l j h)
@@ -160,7 +178,7 @@ module _ (w f coins : List ℕ) (ok : Allowed w f coins) where
 -- 7. NON-ANTICIPATION. For any message, a table, the replies of one round or the final coefficients, and any two allowed lists that agree on all coins sent before
 -- it, the two files have the same words in that message.
 pub non-anticipation : (w f c d : List ℕ) → Allowed w f c → Allowed w f d → (copy : Copy) (m : Message) → Due w m →
-    take (sentBefore w m) c ≡ take (sentBefore w m) d → wordsIn (streamOn copy w f c) w m ≡ wordsIn (streamOn copy w f d) w m
+    take (sentBefore w m) c ≡ take (sentBefore w m) d → wordsIn w (streamOn copy w f c) m ≡ wordsIn w (streamOn copy w f d) m
 non-anticipation = NonAnticipation.non-anticipation
 
 -- The messages are those of the layout: of a message's words each is of kind message, as many coins stand before it as it says,
@@ -215,7 +233,7 @@ module _ (w : List ℕ) (words : sheetLengthTest w ≡ accepted) (sheet : sheetT
   never-meet = DomainsByNumber.shifts-off-domain w words sheet
 
 -- 9. THE PREMISES CAN BE MET. The transcript by hand is allowed,
-pub by-hand-allowed : Allowed sheetByHand coefficientsByHand coinsByHand
+pub by-hand-allowed : Allowed sheetWords coefficients coins
 by-hand-allowed = Premises.by-hand
 
 -- and for every sheet without a fault and every list of d0 elements there is an allowed coin list.

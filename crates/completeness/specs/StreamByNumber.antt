@@ -2,15 +2,22 @@
 use Prim.Native.Nat.{ℕ, zero, suc, _+_, _-_, _≤_, _<_}
 use native.Mathlib.Nat
 use native.Mathlib.Omega.{arith}
-use mathlib.Core.Path.{_≡_, refl, sym, ap, _∙_}
 use mathlib.Core.List.{List, [], _∷_, _++_, map, append-assoc, append-nil}
+use mathlib.Core.Path.{_≡_, refl, sym, ap, _∙_}
 use lib.ListN.{length, getD, take, drop, replicate, length-append, length-map, length-take, length-drop}
 use lib.Seq.{take-at, drop-at, drop-append-add, getD-take, getD-drop}
+use Rattle.definition.specs.Domain.{point}
+use Rattle.definition.specs.Field.{primeField}
+use Rattle.definition.specs.Layout.{laterCount, readTranscript}
+use Rattle.definition.specs.Lists.{range}
+use Rattle.definition.specs.Polynomial.{evaluate}
+use Rattle.definition.specs.Prover.{honest, honestRest, honestRound, honestStream, tableOf}
+use Rattle.definition.specs.Sheet.{finalCount, sheetOf}
+use Rattle.definition.specs.Transcript.{restWords, roundWords, transcriptWords}
 use Rattle.completeness.specs.Allowed.{allowed-count, allowed-long}
 use Rattle.completeness.specs.CoinsByNumber.{coins-read}
-use Rattle.completeness.specs.Completeness.{honest-words}
+use Rattle.completeness.specs.Completeness.{honest-words, read-back}
 use Rattle.completeness.specs.DecidingAccepts.{table-at, table-length}
-use Rattle.completeness.specs.DomainsByNumber.{enough-words}
 use Rattle.completeness.specs.FileTrip.{file-stream, fillCount, filled}
 use Rattle.completeness.specs.LayoutByNumber.{coins-due}
 use Rattle.completeness.specs.LevelsByNumber.{level-first}
@@ -18,14 +25,7 @@ use Rattle.completeness.specs.ListLaws.{getD-map, opened}
 use Rattle.completeness.specs.Numbered.{Allowed, Copy, Due, Message, coinCount, coinsBefore, coinsOf, combinationCoin, correctedOf, final, finalIndices, foldCoin, lengthOf, levelOf, outCoinsOf, outsOf, read, replies, roundPoly, roundStart, roundsOf, sheetField, sheetRoot, shiftIndices, startOf, streamOn, table, wordCount, wordsIn, written}
 use Rattle.completeness.specs.Parts.{firsts, firsts-length, joined, split-joined}
 use Rattle.completeness.specs.RunByNumber.{folded-length}
-use Rattle.definition.specs.Domain.{domain, point}
-use Rattle.definition.specs.Field.{primeField}
-use Rattle.definition.specs.Layout.{laterCount}
-use Rattle.definition.specs.Lists.{range}
-use Rattle.definition.specs.Polynomial.{evaluate}
-use Rattle.definition.specs.Prover.{honest, honestRest, honestRound, honestStream, tableOf}
-use Rattle.definition.specs.Sheet.{Level, finalCount}
-use Rattle.definition.specs.Transcript.{restWords, roundWords, transcriptWords}
+use Rattle.completeness.specs.SheetLevels.{enough-words}
 
 coins-grow : (w : List ℕ) (i m : ℕ) → coinsBefore w i ≤ coinsBefore w (i + m)
 unfolding coinsBefore
@@ -99,7 +99,9 @@ module _ {w f coins : List ℕ} (ok : Allowed w f coins) where
 
   part-length : (i : ℕ) → i ≤ M → length (roundPart w f coins i) ≡ wordCount w i
   unfolding roundPart afterTable wordCount laterCount
-  part-length zero l = length-append (tableOf (sheetField w) (sheetRoot w) (levelOf w 0) (roundPoly w f coins 0)) _ ∙ ap (λ (n : ℕ). n + 1) (table-length (sheetField w) (sheetRoot w) (levelOf w 0) (roundPoly w f coins 0))
+  part-length zero l =
+      length-append (tableOf (sheetField w) (sheetRoot w) (levelOf w 0) (roundPoly w f coins 0)) _
+      ∙ ap (λ (n : ℕ). n + 1) (table-length (sheetField w) (sheetRoot w) (levelOf w 0) (roundPoly w f coins 0))
   part-length (suc i) l =
       let g = roundPoly w f coins (suc i) in
       let t = tableOf (sheetField w) (sheetRoot w) (levelOf w (suc i)) g in
@@ -127,12 +129,13 @@ module _ {w f coins : List ℕ} (ok : Allowed w f coins) where
         let front = w ++ firsts part j in
         let n : length front ≡ roundStart w j = length-append w (firsts part j) ∙ ap (λ (m : ℕ). m + length (firsts part j)) (allowed-long ok)
         ∙ firsts-length part (roundStart w) (wordCount w) (λ i. refl) j (λ i l. part-length i (omega arith)) in
-        let whole : honestStream w f coins ++ z ≡ front ++ (rest ++ z) = ap (λ (t : List ℕ). t ++ z) (stream-parts w f coins words-enough ∙ ap (λ (t : List ℕ). w ++ t) (split-joined part (lastPart w f coins) j r (suc M) e)
+        let whole : honestStream w f coins ++ z ≡ front ++ (rest ++ z) =
+        ap (λ (t : List ℕ). t ++ z) (stream-parts w f coins words-enough ∙ ap (λ (t : List ℕ). w ++ t) (split-joined part (lastPart w f coins) j r (suc M) e)
         ∙ sym (append-assoc w (firsts part j) rest)) ∙ append-assoc front rest z in
         (λ y. drop (sym n y + x) (whole y)) ∙ drop-append-add front (rest ++ z) x
 
     -- The words of every message.
-    pub message-words : (m : Message) → Due w m → wordsIn (honestStream w f coins ++ z) w m ≡ messageOf w f coins m
+    pub message-words : (m : Message) → Due w m → wordsIn w (honestStream w f coins ++ z) m ≡ messageOf w f coins m
     unfolding wordsIn startOf lengthOf messageOf joined roundPart afterTable lastPart
     message-words (table i) l =
         let t = tableOf (sheetField w) (sheetRoot w) (levelOf w i) (roundPoly w f coins i) in
@@ -153,8 +156,14 @@ module _ {w f coins : List ℕ} (ok : Allowed w f coins) where
         ∙ take-at p _ s (length-map o (evaluate (sheetField w) g) ∙ outs-length i (omega (arith, l .1)))
     message-words final l =
         let g = roundPoly w f coins (suc M) in
-        ap (take (finalCount (levelOf w M))) (ap (λ (n : ℕ). drop n (honestStream w f coins ++ z)) (sym (Nat.add-zero (roundStart w (suc M)))) ∙ stream-after (suc M) 0 0 (omega arith) ∙ append-assoc g _ z)
+        ap (take (finalCount (levelOf w M)))
+        (ap (λ (n : ℕ). drop n (honestStream w f coins ++ z)) (sym (Nat.add-zero (roundStart w (suc M)))) ∙ stream-after (suc M) 0 0 (omega arith) ∙ append-assoc g _ z)
         ∙ take-at g _ (finalCount (levelOf w M)) (folded-length ok M (omega arith))
+
+    -- the transcript that is read out of the stream, with its coins by number
+    pub transcript-read : readTranscript (sheetOf w) (drop 12 (honestStream w f coins ++ z))
+        ≡ honest (sheetField w) (sheetRoot w) (levelOf w 0) f (record { fold = foldCoin w coins 0; rounds = map (coinsOf w coins) (range 1 M); finals = finalIndices w coins })
+    transcript-read = read-back ok z ∙ (λ x. honest (sheetField w) (sheetRoot w) (level-first w x) f (coins-read w coins words-enough x))
 
     -- word j of a message, at its word number
     entry : (m : Message) (j : ℕ) → Due w m → j < lengthOf w m → getD (honestStream w f coins ++ z) (startOf w m + j) 0 ≡ getD (messageOf w f coins m) j 0

@@ -1,15 +1,15 @@
 -- Tests: what the passing of a test says, and what makes it pass.
 use Prim.Native.Nat.{ℕ, suc}
 use native.Mathlib.Omega.{arith}
-use mathlib.Core.Path.{_≡_, refl, sym}
 use mathlib.Core.Bool.{Bool, true, false, not, _&&_, true≢false}
 use mathlib.Core.List.{List, [], _∷_}
 use mathlib.Core.Option.{Option, none, some}
+use mathlib.Core.Path.{_≡_, refl, sym}
 use lib.Dec.{eqb}
 use borrow.Author.Tests.{eqb-true, not-false}
-use Rattle.algebra.specs.ListFacts.{All}
 use Rattle.definition.specs.Lists.{firstTrue}
 use Rattle.definition.specs.Verdict.{Outcome, _then_, accepted, refuseAt, refuseIf, refused}
+use Rattle.algebra.specs.ListFacts.{All}
 
 -- what a test that passes says
 pub if-passes : (n p : ℕ) (b : Bool) → refuseIf n p b ≡ accepted → b ≡ false

@@ -9,7 +9,7 @@ use lib.Dec.{leb}
 use lib.ListN.{length, getD, take, drop, replicate, length-append, length-drop, length-replicate}
 use lib.Seq.{drop-cons, drop-drop, getD-drop}
 use borrow.Author.Tests.{leb-true}
-use Rattle.completeness.specs.SheetPassed.{between-true, exponents, rules-hold, small-repetitions}
+use Rattle.completeness.specs.SheetRules.{between-true, exponents, rules-hold, small-repetitions}
 use Rattle.completeness.specs.Tests.{and-true, at-passes}
 use Rattle.definition.specs.Deciding.{decide, decideRest, readsOf, tableFunction}
 use Rattle.definition.specs.Field.{fieldOf, primeField, primeOf}
@@ -58,7 +58,7 @@ module _ (w : List ℕ) (passed : sheetTest w ≡ accepted) (due : wordsDue (she
   pub fitting : domain.Fitting (getD w 0 0) (getD w 1 0)
   fitting =
       let x = exponents w passed in
-      record { log = suc (x .a); two = x .size; least = shaped .least; most = shaped .size; divides = x .divides }
+      record { log = x .a; two = x .size; most = shaped .size; divides = x .divides }
 
   -- the sheet's levels are those of the first place
   pub first-level : firstLevel (sheetOf w) ≡ levelOf w (firstStand w)

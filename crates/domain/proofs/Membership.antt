@@ -2,17 +2,16 @@
 use mathlib.Core.Path.{_≡_, refl, sym, ap, _∙_}
 use mathlib.Core.Bool.{Bool, true, false, _||_}
 use mathlib.Core.List.{List, [], _∷_, map}
-use Prim.Native.Nat.{ℕ, zero, suc, _+_, _-_, _*_, _/_, _^_, _≤_, _<_}
+use Prim.Native.Nat.{ℕ, suc, _+_, _-_, _*_, _/_, _≤_, _<_}
 use native.Mathlib.Omega.{arith}
 use borrow.Author.Tests.{eq-eqb, ne-eqb}
 use lib.Dec.{eqb}
 use lib.ListN.{length, getD}
 use Rattle.definition.specs.Lists.{range, member}
-use Rattle.definition.specs.Field.{Field, primeField, fieldOf}
-use Rattle.definition.specs.Sheet.{Level}
+use Rattle.definition.specs.Field.{primeField, fieldOf}
 use Rattle.definition.specs.Domain.{point, domain, inList, inDomain}
 use Rattle.algebra.specs.ListFacts.{map-all, all-range}
-use Rattle.domain.specs.Powers.{Powers, Inside}
+use Rattle.domain.specs.Powers.{Inside}
 use Rattle.domain.specs.Points.{place-below, point-at}
 
 -- is x among the entries at scale·from, scale·(from + 1), .., count of them?

@@ -1,7 +1,7 @@
 -- The two ways to a table of the powers of ω. Assumes nothing.
 use mathlib.Core.Path.{_≡_, refl, sym, ap, _∙_, subst⁻¹}
 use mathlib.Core.List.{List}
-use Prim.Native.Nat.{ℕ, zero, suc, _+_, _-_, _*_, _/_, _%_, _≤_, _<_}
+use Prim.Native.Nat.{ℕ, zero, suc, _+_, _*_, _/_, _%_, _≤_, _<_}
 use native.Mathlib.Nat.{mod-lt, zero-add}
 use native.Mathlib.Omega.{arith}
 use lib.Dec.{lit≤, lit<}
@@ -11,8 +11,9 @@ use Rattle.algebra.specs.PrimeField.{laws}
 use Rattle.algebra.specs.RootsOfUnity.{power-suc, power-mul}
 use Rattle.powers.specs.Root.{root, Stored}
 use Rattle.domain.specs.Powers.{Powers, Fitting}
-use Rattle.domain.specs.Roots.{around, round, root-step, whole-steps}
+use Rattle.domain.specs.Roots.{around, round, root-step, size-positive, whole-steps}
 
+-- the power 0 is 1
 pub first-power : (field w : ℕ) → 1 ≡ power (fieldOf field) w 0
 unfolding power fieldOf primeField
 first-power field w = refl
@@ -34,7 +35,7 @@ powers-of field size pw f s h = record {
 -- 4096 fits field 2
 largest : Fitting 2 4096
 unfolding primeOf
-largest = record { log = 12; two = refl; least = lit≤ tt; most = lit≤ tt; divides = refl }
+largest = record { log = 11; two = refl; most = lit≤ tt; divides = refl }
 
 -- every step-th of the stored powers
 pub from-largest : (size e : ℕ) (t : List ℕ) → Fitting 2 size → Stored t → getD t (4096 / size * (1 + e) % 4096) 0 ≡ power (fieldOf 2) (root 2 size) (1 + e)
@@ -50,15 +51,16 @@ from-largest size e t f s =
     ∙ around F L ω 0 m 4096 (round 2 4096 largest)
     ∙ ap (power F ω) (zero-add m)
     ∙ sym (power-mul F L ω step (1 + e))
-    ∙ ap (λ (r : ℕ). power F r (1 + e)) (sym (root-step 2 size 4096 step (omega (arith, f .least)) (lit< tt) (whole-steps 2 size f) refl))
+    ∙ ap (λ (r : ℕ). power F r (1 + e)) (sym (root-step 2 size 4096 step (size-positive f) (whole-steps 2 size f) refl))
 
+-- a table of every step-th of the stored powers; a number above 1 stands for field 2
 pub powers-stored : (field size : ℕ) (pw t : List ℕ) → 2 ≤ field → Fitting field size → Stored t → length pw ≡ size →
     ((e : ℕ) → e < size → getD pw e 0 ≡ getD t (4096 / size * (1 + e) % 4096) 0) → Powers field (root field size) pw
 unfolding fieldOf root primeOf generatorOf
 powers-stored zero size pw t n f s l h = absurd (omega arith)
 powers-stored (suc zero) size pw t n f s l h = absurd (omega arith)
 powers-stored (suc (suc field)) size pw t n f s l h =
-    let f₂ : Fitting 2 size = record { log = f .log; two = f .two; least = f .least; most = f .most; divides = f .divides } in
+    let f₂ : Fitting 2 size = record { log = f .log; two = f .two; most = f .most; divides = f .divides } in
     powers-of (suc (suc field)) size pw f l (λ e u. h e u ∙ from-largest size e t f₂ s)
 
 -- the generator by cases

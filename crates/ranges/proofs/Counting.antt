@@ -7,7 +7,6 @@ use mathlib.Core.Path.{_≡_, refl, ap, _∙_}
 use mathlib.Core.List.{List}
 use lib.ListN.{getD}
 use borrow.Author.Tests.{lt-ltb, le-ltb}
-use Rattle.definition.specs.Field.{primeOf}
 use Rattle.ranges.specs.Rounds.{divided, elementCount, indexCount, indexLimit}
 
 pub divided-none : (x b : ℕ) → x ≡ divided x b 0
@@ -22,21 +21,6 @@ pub divided-most : (x b n : ℕ) → divided x b n ≤ x
 unfolding divided
 divided-most x b zero = omega arith
 divided-most x b (suc n) = omega (arith, divided-most x b n, div-le-self (divided x b n) b)
-
--- the field of each number
-pub prime-first : (field : ℕ) → field ≡ 0 → 17 ≡ primeOf field
-unfolding primeOf
-prime-first field e = rw e
-
-pub prime-second : (field : ℕ) → field ≡ 1 → 65537 ≡ primeOf field
-unfolding primeOf
-prime-second field e = rw e
-
-pub prime-other : (field : ℕ) → (field ≡ 0 → ⊥) → (field ≡ 1 → ⊥) → 2013265921 ≡ primeOf field
-unfolding primeOf
-prime-other zero h k = absurd (h refl)
-prime-other (suc zero) h k = absurd (k refl)
-prime-other (suc (suc field)) h k = refl
 
 module _ (w : List ℕ) where
   -- round 0

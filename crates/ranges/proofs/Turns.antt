@@ -6,7 +6,7 @@ use lib.Pow.{pow-pos}
 use mathlib.Core.Path.{_≡_, refl, sym, ap, _∙_}
 use mathlib.Core.List.{List, _++_}
 use lib.ListN.{length, drop, getD, length-append}
-use Rattle.completeness.specs.SheetPassed.{exponents}
+use Rattle.completeness.specs.SheetRules.{exponents}
 use Rattle.definition.specs.Field.{primeOf}
 use Rattle.definition.specs.Layout.{wordsDue}
 use Rattle.definition.specs.Reading.{sheetTest}

@@ -9,7 +9,6 @@ ghost use mathlib.Core.List.{map, zipWith};
 ghost use Prim.Native.Nat.{_+_, _≤_, _<_};
 ghost use lib.Dec.{eqb};
 ghost use lib.ListN.{length, getD, drop};
-ghost use Rattle.definition.specs.Field.{primeOf};
 ghost use Rattle.definition.specs.Lists.{firstTrue};
 ghost use Rattle.definition.specs.Layout.{layout, wordsDue};
 ghost use Rattle.definition.specs.Reading.{outOfRange, sheetTest};
@@ -17,17 +16,6 @@ ghost use Rattle.definition.specs.Sheet.{sheetOf};
 ghost use Rattle.definition.specs.Verdict.{accepted};
 ghost use Rattle.outcome.specs.Meaning.{placeOf};
 ghost use Rattle.ranges.specs.Rounds.{divided, elementCount, indexCount, indexLimit};
-
-// The prime of a field.
-fn prime(field: u32) -> u32
-    ensures { λ r. ⌜ r ≡ primeOf field ⌝ }
-{
-    match field {
-        0 => 17,
-        1 => 65537,
-        _ => 2013265921,
-    }
-}
 
 // A word, to count with: sums of a few words fit.
 fn word(w: &[u32], i: usize) -> usize
@@ -97,7 +85,7 @@ pub fn out_of_range(w: &[u32]) -> Found
     ensures { λ r.
         ⌜ placeOf r ≡ firstTrue 12 (zipWith (outOfRange (sheetOf (now (w .entry)))) (layout (sheetOf (now (w .entry)))) (drop 12 (now (w .entry)))) ⌝ }
 {
-    let p = prime(w[0]) as usize;
+    let p = field::modulus(w[0]) as usize;
     let rounds = word(w, 4) + 2;
     let mut found = Found::Nothing;
     let mut at = 12;

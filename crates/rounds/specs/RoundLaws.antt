@@ -70,14 +70,14 @@ module _ {field ω : ℕ} {b : Level} {f : ℕ → ℕ} {pw table xs cs : List �
       (all-range (λ m. j + m * how .step < length table) 0 k (λ m a u. root-number fits l m (omega arith)))) e
       ∙ ap (map h) ((λ i. numbersFrom (s .step i) j 0 (s .fold i)) ∙ roots-are b j)
 
-  fold-is : (j : ℕ) → j < how .step → foldIn field pw table xs cs how k r j ≡ foldAt F ω b f r j
+  pub fold-is : (j : ℕ) → j < how .step → foldIn field pw table xs cs how k r j ≡ foldAt F ω b f r j
   unfolding foldIn
   fold-is j l =
       let x = on-roots (pointIn pw (how .scale)) (point F ω b) j l (λ m h. point-in (s .powers) b (s .scale) m (point-room fits m h)) in
       let y = on-roots (valueIn field pw table xs cs how) f j l (s .values) in
       (λ i. evaluate F (interpolate F (pair (x i) (y i))) r) ∙ fold-pair F ω b f r j
 
-  sample-is : (j : ℕ) → j < how .step → sampleIn field pw table xs cs how k r j ≡ record { point = shiftPoint F ω b j; value = foldAt F ω b f r j }
+  pub sample-is : (j : ℕ) → j < how .step → sampleIn field pw table xs cs how k r j ≡ record { point = shiftPoint F ω b j; value = foldAt F ω b f r j }
   unfolding sampleIn
   sample-is j l =
       let long : 0 < length pw = omega (arith, root-point fits l 0 (fits .folded)) in

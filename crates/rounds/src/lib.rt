@@ -1,8 +1,8 @@
 // One round of deciding: the samples at the out coins and at the shift points, gathered without repeats; and the final comparison.
 //
 // The caller lends the words. pw is the table of the powers of ω, from the first power on to the n0-th, which is 1: point m of domain i is pw[2^i·m].
-// A level's function is known at its k roots by the table sent and by the samples of the round, whose points xs and Newton coefficients cs stand in the last
-// places of their slices. rx, ry, rc are scratch, k words each: the points, values and Newton coefficients of the k roots of one shift point.
+// A level's function is worked out from the table sent and from the samples of its round, whose points xs and Newton coefficients cs stand in the last
+// places of their slices. rx, ry, rc are scratch, k words each: the points, values and Newton coefficients at the k roots of one shift point.
 use outcome::Found;
 use samples::Gathered;
 ghost use mathlib.Core.Path.{_≡_};

@@ -13,8 +13,8 @@ use lib.ListN.{getD}
 use lib.Pow.{pow-mono, pow-lt}
 use borrow.Author.Tests.{leb-true, leb-false, ltb-false, le-leb, lt-leb, lt-ltb, le-ltb, eq-eqb, ne-eqb, not-true, not-false}
 use Rattle.algebra.specs.ModularArithmetic.{pow-pow}
-use Rattle.completeness.specs.SheetFacts.{and-true}
-use Rattle.completeness.specs.SheetPassed.{between-true}
+use Rattle.completeness.specs.Tests.{and-true}
+use Rattle.completeness.specs.SheetRules.{between-true}
 use Rattle.definition.specs.Field.{primeOf}
 use Rattle.definition.specs.Lists.{firstTrue, range}
 use Rattle.definition.specs.Sheet.{between, powerOfTwo, degreeRule, foldRule, roundsRule, outCoinsRule, repetitionsRule}

@@ -2,20 +2,18 @@
 use Prim.Native.Nat.{ℕ, zero, suc, _+_, _*_, _/_, _≤_, _<_}
 use native.Mathlib.Nat.{div-le-self, div-mul-le-self, mul-le-mul-left}
 use native.Mathlib.Omega.{arith}
-use mathlib.Core.Path.{_≡_, sym, ap, subst}
-use mathlib.Core.Bool.{not, _&&_}
-use mathlib.Core.List.{List, map}
-use mathlib.Core.Option.{Option}
+use mathlib.Core.Path.{_≡_, sym, subst}
+use mathlib.Core.Bool.{_&&_}
+use mathlib.Core.List.{List}
 use lib.ListN.{length, getD}
 use borrow.Author.Tests.{leb-true}
-use Rattle.completeness.specs.SheetFacts.{and-true}
-use Rattle.completeness.specs.SheetPassed.{between-true, rules-hold, small-repetitions}
+use Rattle.completeness.specs.Tests.{and-true}
+use Rattle.completeness.specs.SheetRules.{between-true, rules-hold, small-repetitions}
 use Rattle.definition.specs.Block.{blockCount}
 use Rattle.definition.specs.Layout.{coinKinds, layout, wordsDue}
-use Rattle.definition.specs.Lists.{firstTrue}
 use Rattle.definition.specs.Reading.{sheetTest}
 use Rattle.definition.specs.Sheet.{between, degreeRule, foldRule, outCoinsRule, powerOfTwo, roundsRule, sheetOf, sheetRules, sizeRule}
-use Rattle.definition.specs.Verdict.{accepted, refuseAt}
+use Rattle.definition.specs.Verdict.{accepted}
 use Rattle.sheet.specs.Sizes.{coins-due-sum, coinsAfter, roundWords, words-due-sum, wordsAfter}
 
 -- The ranges of the words of a sheet that passes.
@@ -98,8 +96,3 @@ module _ (w : List ℕ) (long : 12 ≤ length w) (passed : sheetTest w ≡ accep
         coins-bound (getD w 5 0) w (r .outCoins) (r .repetitions) (getD w 4 0) 0 6 (omega arith) (omega (arith, r .rounds)),
         r .rounds,
       )
-
--- What the first broken word says of the sheet's test, refusal 3.
-pub test-of : (w : List ℕ) (place : Option ℕ) → place ≡ firstTrue 0 (map not (sheetRules w)) → refuseAt 3 place ≡ sheetTest w
-unfolding sheetTest
-test-of w place e = ap (refuseAt 3) e

@@ -1,4 +1,5 @@
-pub mod Given
+pub mod Rules
 pub mod OneBit
 pub mod Sizes
 pub mod Bounds
+pub mod Front

@@ -9,7 +9,7 @@ use lib.Dec.{eqb}
 use lib.Pow.{pow-mono, pow-pos}
 use lib.Count.{ones, ones-step, ones-cat, trailingZeros, under}
 use borrow.Author.Tests.{eq-eqb, ne-eqb}
-use Rattle.completeness.specs.SheetFacts.{power-of-two}
+use Rattle.completeness.specs.SheetRules.{power-of-two}
 use Rattle.definition.specs.Lists.{member, range}
 use Rattle.definition.specs.Sheet.{powerOfTwo}
 

@@ -6,8 +6,8 @@ use mathlib.Core.Path.{_≡_, sym, ap, _∙_, subst}
 use mathlib.Core.List.{List, [], _∷_, _++_, tail}
 use lib.ListN.{length, getD, take, drop, replicate, length-append, length-replicate}
 use lib.Seq.{drop-cons}
-use Rattle.completeness.specs.CoinFacts.{coins-append, coins-final, coins-messages, coins-round}
-use Rattle.completeness.specs.MessagePlaces.{rest-length}
+use Rattle.completeness.specs.LayoutFacts.{coins-append, coins-final, coins-messages, coins-round}
+use Rattle.completeness.specs.FileSize.{rest-length}
 use Rattle.definition.specs.Layout.{Kind, coin, coinKinds, index, laterCount, layout, message, out, restLayout, wordsDue}
 use Rattle.definition.specs.Sheet.{Level, finalCount, firstLevel, laterLevels, levelsFrom, sheetOf, shiftCount}
 

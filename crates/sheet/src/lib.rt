@@ -2,11 +2,11 @@
 // Each rule is a function of its own. It reads only words whose rules held before, so that no power, shift or product is made of a word not yet accepted.
 use outcome::Found;
 ghost use mathlib.Core.Path.{_≡_};
-ghost use mathlib.Core.Bool.{Bool, true, false, not};
+ghost use mathlib.Core.Bool.{true, not};
 ghost use mathlib.Core.List.{map};
-ghost use Prim.Native.Nat.{ℕ, _+_, _-_, _*_, _/_, _^_, _≤_, _<_};
+ghost use Prim.Native.Nat.{_-_, _/_, _^_, _≤_, _<_};
 ghost use lib.Count.{ones};
-ghost use lib.ListN.{length, getD};
+ghost use lib.ListN.{length};
 ghost use Rattle.definition.specs.Block.{blockCount};
 ghost use Rattle.definition.specs.Field.{primeOf};
 ghost use Rattle.definition.specs.Layout.{coinKinds, layout, wordsDue};
@@ -15,7 +15,7 @@ ghost use Rattle.definition.specs.Sheet.{between as betweenIn, powerOfTwo, fiel
 ghost use Rattle.definition.specs.Reading.{sheetTest};
 ghost use Rattle.definition.specs.Verdict.{accepted};
 ghost use Rattle.outcome.specs.Meaning.{placeOf};
-ghost use Rattle.sheet.specs.Given.{Shape};
+ghost use Rattle.sheet.specs.Rules.{Shape};
 ghost use Rattle.sheet.specs.Sizes.{roundWords};
 
 // The logarithm of a power of two, read off its single one bit.
@@ -153,7 +153,7 @@ fn repetitions_rule(w: &[u32], i: u32) -> bool
     t + w[5] < degree_at(w[2], w[3], i + 1)
 }
 
-// The first of t_0 to t_5 that breaks its rule, where words 0 to 5 hold theirs.
+// The first of t_0 to t_5 that breaks its rule, where words 2 to 5 hold theirs.
 fn broken_repetitions(w: &[u32]) -> Found
     requires { ⌜ (12 ≤ length (now w)) × (Shape (now w)) ⌝ }
     ensures { λ r. ⌜ placeOf r ≡ firstTrue 6 (map not (map (repetitionsRule (now (w .entry))) (range 0 6))) ⌝ }

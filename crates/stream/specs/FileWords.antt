@@ -1,10 +1,12 @@
 -- The words of a file and of the stream that it holds, by their numbers.
 use Prim.Native.Nat.{ℕ, suc, _+_, _-_, _*_, _/_, _%_, _≤_, _<_}
-use native.Mathlib.Numerals.{add-one}
+use native.Mathlib.Nat.{eq-zero-or-pos}
 use native.Mathlib.Omega.{arith}
-use mathlib.Core.Path.{_≡_, refl, sym, ap, _∙_}
+use mathlib.Core.Path.{_≡_, ap, _∙_}
+use mathlib.Core.Logic.{⊎-elim}
 use mathlib.Core.List.{List, [], _∷_, _++_, map}
-use lib.ListN.{length, getD, take, drop, length-map, length-drop, List·getD-map}
+use lib.Dec.{lit<}
+use lib.ListN.{length, getD, take, drop, length-map, length-drop, List·getD-eq-default, List·getD-map}
 use lib.Seq.{drop-cons, getD-drop, getD-take, length-take-le}
 use Rattle.definition.specs.Lists.{chunks}
 use Rattle.definition.specs.Block.{fileBlocks, streamOf, wordOf}
@@ -34,37 +36,39 @@ word-sum bytes at h =
     rw (e1, e2, e3, d0, d1, d2, d3) (omega arith)
 
 module _ (bytes : List ℕ) where
-  words : List ℕ
-  words = map wordOf (chunks (length bytes / 4) 4 bytes)
+  -- all words of a file, check words too
+  unfoldable pub fileWords : List ℕ
+  fileWords = map wordOf (chunks (length bytes / 4) 4 bytes)
 
-  words-length : length words ≡ length bytes / 4
-  unfolding words
+  words-length : length fileWords ≡ length bytes / 4
+  unfolding fileWords
   words-length = length-map (chunks (length bytes / 4) 4 bytes) wordOf ∙ chunks-length (length bytes / 4) 4 bytes
 
-  words-at : (k : ℕ) → k < length bytes / 4 → getD words k 0 ≡ wordAt bytes (4 * k)
-  unfolding words wordOf
+  words-at : (k : ℕ) → k < length bytes / 4 → getD fileWords k 0 ≡ wordAt bytes (4 * k)
+  unfolding fileWords wordOf
   words-at k h = List·getD-map wordOf (chunks (length bytes / 4) 4 bytes) k [] ∙ ap wordOf (chunks-at (length bytes / 4) 4 bytes k h)
 
   pub blocks-count : length (fileBlocks bytes) ≡ length bytes / 512
   unfolding fileBlocks
   blocks-count = chunks-length (length bytes / 512) 128 _
 
-  block-is : (b : ℕ) → b < length bytes / 512 → getD (fileBlocks bytes) b [] ≡ take 128 (drop (128 * b) words)
-  unfolding fileBlocks words
+  -- block b: its words are those of the file from number 128·b on
+  pub block-is : (b : ℕ) → b < length bytes / 512 → getD (fileBlocks bytes) b [] ≡ take 128 (drop (128 * b) fileWords)
+  unfolding fileBlocks fileWords
   block-is b h = chunks-at (length bytes / 512) 128 _ b h
 
   pub block-length : (b : ℕ) → b < length bytes / 512 → length (getD (fileBlocks bytes) b []) ≡ 128
   block-length b h =
-      let e : length (drop (128 * b) words) ≡ length words - 128 * b = length-drop (128 * b) words in
-      ap length (block-is b h) ∙ length-take-le 128 (drop (128 * b) words) (omega (arith, e, words-length))
+      let e : length (drop (128 * b) fileWords) ≡ length fileWords - 128 * b = length-drop (128 * b) fileWords in
+      ap length (block-is b h) ∙ length-take-le 128 (drop (128 * b) fileWords) (omega (arith, e, words-length))
 
   -- word w of block b, its check word the last
   pub block-word : (b w : ℕ) → b < length bytes / 512 → w < 128 → getD (getD (fileBlocks bytes) b []) w 0 ≡ wordAt bytes (512 * b + 4 * w)
   block-word b w h l =
       let e : 4 * (128 * b + w) ≡ 512 * b + 4 * w = omega arith in
       ap (λ (x : List ℕ). getD x w 0) (block-is b h)
-      ∙ getD-take 128 (drop (128 * b) words) w 0 l
-      ∙ getD-drop (128 * b) words w 0
+      ∙ getD-take 128 (drop (128 * b) fileWords) w 0 l
+      ∙ getD-drop (128 * b) fileWords w 0
       ∙ words-at (128 * b + w) (omega arith)
       ∙ ap (wordAt bytes) e
 
@@ -100,7 +104,13 @@ module _ (bytes : List ℕ) where
       ∙ ap (wordAt bytes) e
 
   -- words of bytes have 32 bits
-  pub stream-small : ((i : ℕ) → getD bytes i 0 < 256) → (n : ℕ) → n < 127 * (length bytes / 512) → getD (streamOf bytes) n 0 < 4294967296
-  stream-small small n h =
-      let at = 4 * (n + n / 127) in
-      rw (stream-at n h) (rw (← word-sum bytes at (omega arith)) (omega (arith, small at, small (at + 1), small (at + 2), small (at + 3))))
+  pub stream-small : ((i : ℕ) → getD bytes i 0 < 256) → (n : ℕ) → getD (streamOf bytes) n 0 < 4294967296
+  stream-small small n = ⊎-elim (λ z. past (omega arith)) (λ z. within (omega arith)) (eq-zero-or-pos (127 * (length bytes / 512) - n))
+    where
+      past : 127 * (length bytes / 512) ≤ n → getD (streamOf bytes) n 0 < 4294967296
+      past h = let l : length (streamOf bytes) ≤ n = omega (arith, stream-length) in rw (List·getD-eq-default (streamOf bytes) 0 l) (lit< tt)
+
+      within : n < 127 * (length bytes / 512) → getD (streamOf bytes) n 0 < 4294967296
+      within h =
+          let at = 4 * (n + n / 127) in
+          rw (stream-at n h) (rw (← word-sum bytes at (omega arith)) (omega (arith, small at, small (at + 1), small (at + 2), small (at + 3))))

@@ -4,3 +4,4 @@ pub mod Chunks
 pub mod FileWords
 pub mod Checks
 pub mod Loaded
+pub mod Sealing

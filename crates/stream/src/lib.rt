@@ -1,13 +1,14 @@
 // The blocks and words of a file: 512 bytes a block, of which 508 are 127 words and the last four a check word.
 ghost use mathlib.Core.Path.{_≡_};
-ghost use mathlib.Core.List.{[]};
-ghost use Prim.Native.Nat.{ℕ, _+_, _*_, _/_, _≤_, _<_, min};
-ghost use lib.ListN.{length, getD};
-ghost use Rattle.definition.specs.Block.{fileBlocks};
+ghost use mathlib.Core.List.{[], _++_};
+ghost use Prim.Native.Nat.{_+_, _*_, _/_, _≤_, _<_, min};
+ghost use lib.ListN.{length, getD, take, drop};
+ghost use Rattle.definition.specs.Block.{fileBlocks, blockCount, bytesOf, fileOf};
 ghost use Rattle.stream.specs.Overwriting.{overwrite};
 ghost use Rattle.stream.specs.FileWords.{wordAt, blockWords};
 ghost use Rattle.stream.specs.Checks.{rightCheck};
 ghost use Rattle.stream.specs.Loaded.{Loaded};
+ghost use Rattle.stream.specs.Sealing.{sealedBlock, blockOf};
 use outcome::Found;
 
 fn wide(b: u8) -> u32
@@ -73,4 +74,53 @@ pub fn load(file: &[u8], words: &mut [u32]) -> Found
         b += 1;
     }
     Found::Nothing
+}
+
+// Stores a word in the four bytes from number `at` on, the least significant first.
+pub fn put_word(out: &mut [u8], at: usize, w: u32)
+    requires { ⌜ at + 4 ≤ length (now out) ⌝ }
+    ensures { λ _. ⌜ now (out .exit) ≡ overwrite (now (out .entry)) at (bytesOf w) ⌝ }
+{
+    out[at] = (w % 256) as u8;
+    out[at + 1] = (w / 256 % 256) as u8;
+    out[at + 2] = (w / 65536 % 256) as u8;
+    out[at + 3] = (w / 16777216 % 256) as u8;
+}
+
+// Word n of the first `count` words, and zero past them.
+fn filled(words: &[u32], count: usize, n: usize) -> u32
+    requires { ⌜ count ≤ length (now words) ⌝ }
+    ensures { λ r. ⌜ r ≡ getD (take count (now (words .entry))) n 0 ⌝ }
+{
+    if n < count { words[n] } else { 0 }
+}
+
+// Writes block b of the file of the first `count` words, with its fill and its check word.
+fn seal_block(words: &[u32], count: usize, b: usize, out: &mut [u8])
+    requires { ⌜ (count ≤ length (now words)) × ((b < blockCount count) × (512 * b + 512 ≤ length (now out))) ⌝ }
+    ensures { λ _. ⌜ now (out .exit) ≡ overwrite (now (out .entry)) (512 * b) (sealedBlock b (blockOf (take count (now (words .entry))) b)) ⌝ }
+{
+    let from = 512 * b;
+    let mut total = b as u64 + 1;
+    let mut i = 0;
+    while i < 127 {
+        let x = filled(words, count, 127 * b + i);
+        put_word(out, from + 4 * i, x);
+        total = add_weighted(total, i, x);
+        i += 1;
+    }
+    put_word(out, from + 508, (total % 4294967291) as u32);
+}
+
+// Writes the file of the first `count` words at the front of `out`; the bytes behind it stay.
+pub fn seal(words: &[u32], count: usize, out: &mut [u8])
+    requires { ⌜ (count ≤ length (now words)) × (512 * blockCount count ≤ length (now out)) ⌝ }
+    ensures { λ _. ⌜ now (out .exit) ≡ fileOf (take count (now (words .entry))) ++ drop (length (fileOf (take count (now (words .entry))))) (now (out .entry)) ⌝ }
+{
+    let blocks = (count + 126) / 127;
+    let mut k = 0;
+    while k < blocks {
+        seal_block(words, count, k, out);
+        k += 1;
+    }
 }

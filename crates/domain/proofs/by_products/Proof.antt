@@ -1,11 +1,10 @@
 -- `domain::by_products` meets its contract. The loop has filled the table up to e, and x is the power e. Assumes nothing.
-use mathlib.Core.Path.{_≡_, _∙_, sym}
-use Prim.Native.Nat.{ℕ, _+_, _-_}
+use mathlib.Core.Path.{_≡_}
+use Prim.Native.Nat.{_+_, _-_}
 use native.Mathlib.Omega.{arith}
 use borrow.Author.Needs.{needs}
 use lib.ListN.{length}
 use Rattle.definition.specs.Field.{fieldOf, power}
-use Rattle.algebra.specs.PrimeField.{laws}
 use Rattle.domain.proofs.Filled.{Filled, filled-first, filled-next, filled-last}
 use Rattle.domain.proofs.Tables.{first-power, next-power}
 use Rattle.domain.proofs.by_products.Statement.{statement}

@@ -1,9 +1,8 @@
 -- `domain::from_stored` meets its contract. The loop has filled the table up to e. Assumes nothing.
-use mathlib.Core.Path.{_≡_, refl}
-use Prim.Native.Nat.{ℕ, _+_, _-_, _*_, _%_, _≤_}
+use mathlib.Core.Path.{refl}
+use Prim.Native.Nat.{_+_, _-_, _*_, _%_, _≤_}
 use native.Mathlib.Nat.{mul-le-mul-left}
 use native.Mathlib.Omega.{arith}
-use borrow.Author.Needs.{needs}
 use lib.ListN.{length, getD}
 use Rattle.domain.proofs.Filled.{Filled, filled-first, filled-next, filled-last}
 use Rattle.domain.proofs.from_stored.Statement.{statement}

@@ -1,10 +1,10 @@
 -- `domain::points` meets its contract: both ways give the powers of ω. Assumes nothing.
-use mathlib.Core.Path.{_≡_, _∙_, ap, subst⁻¹}
+use mathlib.Core.Path.{_∙_, ap, subst⁻¹}
 use Prim.Native.Nat.{ℕ, _+_, _*_, _/_, _<_}
 use native.Mathlib.Omega.{arith}
 use borrow.Author.Needs.{needs}
 use Rattle.definition.specs.Field.{fieldOf, power}
-use Rattle.domain.specs.Roots.{whole-steps}
+use Rattle.domain.specs.Roots.{size-positive, whole-steps}
 use Rattle.domain.proofs.Tables.{powers-of, powers-stored}
 use Rattle.domain.proofs.points.Statement.{statement}
 use Rattle.domain.proofs.points.Tie as tie
@@ -22,7 +22,7 @@ slice-aggregate-from-stored : tie.Need-slice-aggregate-from-stored
 slice-aggregate-from-stored c = search needs
 
 div-from-stored : tie.Need-div-from-stored
-div-from-stored c = search needs
+div-from-stored c = omega (arith, size-positive (c .before .before .before .before .pre .0))
 
 from-stored-requires : tie.Need-from-stored-requires
 from-stored-requires c κs =

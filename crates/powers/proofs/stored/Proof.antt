@@ -1,5 +1,5 @@
 -- `powers::stored` meets its contract: the table's rule is one computed test. Assumes nothing.
-use mathlib.Core.Path.{_≡_, refl}
+use mathlib.Core.Path.{refl}
 use Rattle.powers.proofs.Rule
 use Rattle.powers.proofs.stored.Statement.{statement}
 use Rattle.powers.proofs.stored.Tie as tie

@@ -19,11 +19,11 @@ Inv-walk w p rounds found₀ at₀ round₀ found at round = AtRound w p rounds 
 abbrev μ-walk : tie.MeasureT-walk
 μ-walk w p rounds found₀ at₀ round₀ found at round = rounds - round
 
-shared-slice-read-prime : tie.Need-shared-slice-read-prime Inv-loop μ-loop Inv-walk μ-walk
-shared-slice-read-prime c = let s = c .before .before in omega (arith, fine (s .args .w .now) (s .pre .0) (s .pre .1) .long)
+shared-slice-read-modulus : tie.Need-shared-slice-read-modulus Inv-loop μ-loop Inv-walk μ-walk
+shared-slice-read-modulus c = let s = c .before .before in omega (arith, fine (s .args .w .now) (s .pre .0) (s .pre .1) .long)
 
-prime-requires : tie.Need-prime-requires Inv-loop μ-loop Inv-walk μ-walk
-prime-requires c κs = tt
+modulus-requires : tie.Need-modulus-requires Inv-loop μ-loop Inv-walk μ-walk
+modulus-requires c κs = tt
 
 cast-p : tie.Need-cast-p Inv-loop μ-loop Inv-walk μ-walk
 cast-p c = omega arith
@@ -35,7 +35,7 @@ add-rounds : tie.Need-add-rounds Inv-loop μ-loop Inv-walk μ-walk
 add-rounds c = omega arith
 
 walk-holds : tie.Need-walk-holds Inv-loop μ-loop Inv-walk μ-walk
-walk-holds c = let s = c .before .before .before .before in start (s .args .w .now) (s .pre .0) (s .pre .1) (c .before .prime .ensures) (ap (λ (n : ℕ). n + 2) (c .word .ensures .0))
+walk-holds c = let s = c .before .before .before .before in start (s .args .w .now) (s .pre .0) (s .pre .1) (c .before .modulus .ensures) (ap (λ (n : ℕ). n + 2) (c .word .ensures .0))
 
 elements-requires : tie.Need-elements-requires Inv-loop μ-loop Inv-walk μ-walk
 elements-requires c κs = omega arith
@@ -98,8 +98,8 @@ out-of-range-spec =
     μ-loop
     Inv-walk
     μ-walk
-    shared-slice-read-prime
-    prime-requires
+    shared-slice-read-modulus
+    modulus-requires
     cast-p
     word-requires
     add-rounds

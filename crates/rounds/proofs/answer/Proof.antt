@@ -4,6 +4,7 @@ use native.Mathlib.Omega.{arith}
 use lib.ListN.{length}
 use borrow.Author.Needs.{needs}
 use Rattle.definition.specs.Polynomial.{pair}
+use Rattle.samples.specs.Samples.{sifted}
 use Rattle.samples.specs.SampleLaws.{clash-append}
 use Rattle.samples.proofs.Steps.{kept-from, kept-clash, kept-none, room}
 use Rattle.rounds.specs.Round.{sampleIn}
@@ -44,9 +45,10 @@ returns c =
     let u = c .before .before .before .before .before .before .before .before .before .before .before .before in
     let s = u .before .before .before .before .before .before .before .before .before .before .before .before .before .before .before .before .before .before in
     let a = s .args in
-    let clash = kept-clash _ _ (c .enum-told .given .1) (u .push-shifts .ensures .0) in (
+    let shifted = map (sampleIn (a .field) (a .pw .now) (a .table .now) (a .xs .now) (a .cs .now) (a .how) (length (a .rx .now)) (a .r)) (a .shifts .now) in
+    let clash = kept-clash (u .push-shifts .last .1 .1 .1 .1 .1 .1 .1 .1 .1 .1 .1 .0) (u .push-shifts .last .1 .1 .1 .1 .1 .1 .1 .1 .1 .1 .1 .1 .0) {o = sifted (a .field) shifted} (c .enum-told .given .1) (u .push-shifts .ensures .0) in (
       answered (a .field) (a .pw .now) (a .table .now) (a .xs .now) (a .cs .now) (a .how) (length (a .rx .now)) (a .r) (s .pre .1 .0) (a .shifts .now) (a .outs .now) (a .replies .now) (s .pre .1 .1 .0)
-          (kept-none _ _ (clash-append (a .field) (pair (a .outs .now) (a .replies .now)) (map (sampleIn (a .field) (a .pw .now) (a .table .now) (a .xs .now) (a .cs .now) (a .how) (length (a .rx .now)) (a .r)) (a .shifts .now)) clash)),
+          (kept-none _ _ (clash-append (a .field) (pair (a .outs .now) (a .replies .now)) shifted clash)),
       tt,
     )
 
@@ -55,7 +57,7 @@ push-all-requires c κs =
     let u = c .before .before .before .before .before .before .before .before .before .before .before .before .before .before .before .push-shifts in
     let s = c .before .before .before .before .before .before .before .before .before .before .before .before .before .before .before .before .before .before .before .before .before .before .before .before .before .before .before .before .before .before .before .before .before in
     let e = s .pre .1 .1 .1 .1 in
-    let w = room _ _ (c .before .before .before .s .given .1) (u .ensures .1) in
+    let w = room (length (s .args .px .now)) (length (s .args .shifts .now)) (c .before .before .before .s .given .1) (u .ensures .1) in
     let x = u .kept .1 .1 .1 .1 .1 .1 .1 .1 .1 .1 .1 .0 in
     let y = u .kept .1 .1 .1 .1 .1 .1 .1 .1 .1 .1 .1 .1 .0 in
     ((e .1 .0, omega (arith, x, y, e .0)), (omega (arith, w .1, x), omega (arith, w .0, e .1 .1)))
@@ -81,12 +83,13 @@ returns-2 c =
     let s = u .before .before .before .before .before .before .before .before .before .before .before .before .before .before .before .before .before .before in
     let a = s .args in
     let p = u .push-shifts in
+    let shifted = map (sampleIn (a .field) (a .pw .now) (a .table .now) (a .xs .now) (a .cs .now) (a .how) (length (a .rx .now)) (a .r)) (a .shifts .now) in
     let all = c .before .before .before .before .push-all in
     let first = c .before .before .before .before .before .before .before .before .s .given .1 in (
       answered (a .field) (a .pw .now) (a .table .now) (a .xs .now) (a .cs .now) (a .how) (length (a .rx .now)) (a .r) (s .pre .1 .0) (a .shifts .now) (a .outs .now) (a .replies .now) (s .pre .1 .1 .0)
-          (all .ensures .0 (a .field) (map (sampleIn (a .field) (a .pw .now) (a .table .now) (a .xs .now) (a .cs .now) (a .how) (length (a .rx .now)) (a .r)) (a .shifts .now))
-          (kept-from (p .last .1 .1 .1 .1 .1 .1 .1 .1 .1 .1 .1 .0) (p .last .1 .1 .1 .1 .1 .1 .1 .1 .1 .1 .1 .1 .0) first (p .ensures .0))),
-      room-add (length (a .shifts .now)) (length (a .outs .now)) (all .result) (room _ _ first (p .ensures .1)) (all .ensures .1),
+          (all .ensures .0 (a .field) shifted
+          (kept-from (p .last .1 .1 .1 .1 .1 .1 .1 .1 .1 .1 .1 .0) (p .last .1 .1 .1 .1 .1 .1 .1 .1 .1 .1 .1 .1 .0) {o = sifted (a .field) shifted} first (p .ensures .0))),
+      room-add {n = length (a .px .now)} (length (a .shifts .now)) (length (a .outs .now)) (all .result) (room (length (a .px .now)) (length (a .shifts .now)) first (p .ensures .1)) (all .ensures .1),
     )
 
 pub answer-spec : {M : Type 1} → statement M

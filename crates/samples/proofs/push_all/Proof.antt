@@ -6,13 +6,21 @@ use Prim.Native.Nat.{ℕ, _+_, _-_, _≤_}
 use native.Mathlib.Omega.{arith}
 use lib.ListN.{length, drop}
 use Rattle.definition.specs.Polynomial.{Sample, pair}
-use Rattle.samples.specs.Samples.{kept, sifted}
+use Rattle.samples.specs.Samples.{sifted}
 use Rattle.samples.proofs.Steps.{walk-end, walk-turn, walk-clash, kept-from, kept-clash, kept-none, kept-some, room}
 use Rattle.samples.proofs.push_all.Statement.{statement}
 use Rattle.samples.proofs.push_all.Tie as tie
 
 abbrev Inv-loop : tie.InvT-loop
-Inv-loop xs ys px₀ py₀ from k₀ i₀ px py k i = (i ≤ k) × ((k ≤ from) × ((from ≤ k + (length xs - i)) × ((i ≤ length xs) × ((length px ≡ length px₀) × ((length py ≡ length px₀) × ((field : ℕ) (ps : List (Sample ℕ)) → some (pair (drop from px₀) (drop from py₀)) ≡ sifted field ps → some (pair (drop k px) (drop k py)) ≡ sifted field (pair (drop i xs) (drop i ys) ++ ps)))))))
+Inv-loop xs ys px₀ py₀ from k₀ i₀ px py k i =
+    (i ≤ k)
+    × ((k ≤ from)
+    × ((from ≤ k + (length xs - i))
+    × ((i ≤ length xs)
+    × ((length px ≡ length px₀)
+    × ((length py ≡ length px₀)
+    × ((field : ℕ) (ps : List (Sample ℕ)) → some (pair (drop from px₀) (drop from py₀)) ≡ sifted field ps →
+    some (pair (drop k px) (drop k py)) ≡ sifted field (pair (drop i xs) (drop i ys) ++ ps)))))))
 
 abbrev μ-loop : tie.MeasureT-loop
 μ-loop xs ys px₀ py₀ from k₀ i₀ px py k i = i

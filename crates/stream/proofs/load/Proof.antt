@@ -1,3 +1,4 @@
+-- `stream::load` meets its contract. The loop's invariant: the search for a wrong check goes on at block b, and the words of the blocks before it are stored.
 use Prim.Native.Nat.{ℕ, _+_, _-_, _*_, _/_, _≤_, _<_, min}
 use native.Mathlib.Omega.{arith}
 use mathlib.Core.Path.{_≡_, refl, sym, ap, _∙_}
@@ -10,7 +11,6 @@ use borrow.Author.Tests.{not-true, not-false}
 use native.Mathlib.Nat.{eq-zero-or-pos, le-refl}
 use Rattle.definition.specs.Lists.{firstTrue}
 use Rattle.definition.specs.Block.{fileBlocks, streamOf, wrongChecks}
-use Rattle.outcome.specs.declared.Found.{Found}
 use Rattle.outcome.specs.declared.Found.the-variants.{At, Nothing}
 use Rattle.outcome.specs.Meaning.{placeOf}
 use Rattle.stream.specs.Overwriting.{overwrite, overwrite-before, overwrite-front}
@@ -19,10 +19,6 @@ use Rattle.stream.specs.Checks.{rightCheck, wrong-here, wrong-later, wro
 use Rattle.stream.specs.Loaded.{Loaded}
 use Rattle.stream.proofs.load.Statement.{statement}
 use Rattle.stream.proofs.load.Tie as tie
-use Rattle.stream.proofs.load.Reads as reads
-use Rattle.stream.proofs.load.Lts as lts
-use Rattle.stream.proofs.place.Reads as place-reads
-use Rattle.stream.proofs.take_block.Reads as take-block-reads
 
 -- the search for a wrong check goes on at block b
 Searching : List ℕ → ℕ → Type 0
@@ -87,24 +83,19 @@ Inv-loop file words₀ blocks b₀ words b = (b ≤ length file / 512) × ((leng
 abbrev μ-loop : tie.MeasureT-loop
 μ-loop file words₀ blocks b₀ words b = length file / 512 - b
 
--- src/lib.rt:69:5
 loop-holds : tie.Need-loop-holds Inv-loop μ-loop
 unfolding Searching Holding
 loop-holds c = (omega arith, (refl, (refl, refl)))
 
--- src/lib.rt:70:13
 place-requires : tie.Need-place-requires Inv-loop μ-loop
 place-requires c κs = omega arith
 
--- src/lib.rt:71:13
 take-block-requires : tie.Need-take-block-requires Inv-loop μ-loop
 take-block-requires c κs = omega arith
 
--- src/lib.rt:72:13
 same-length : tie.Need-same-length Inv-loop μ-loop
 same-length c = omega arith
 
--- src/lib.rt:72:13
 returns : tie.Need-returns Inv-loop μ-loop
 returns c =
     let l = c .before .before .before .before .before .before .before .loop in
@@ -112,15 +103,12 @@ returns c =
     let p = c .before .before .before .take-block in
     found-here (a .file .now) (l .b) (p .last .1 .1 .0) (omega arith) (p .ensures .0) (c .if1 .taken) (l .inv .1 .1 .0)
 
--- src/lib.rt:74:9
 add-b : tie.Need-add-b Inv-loop μ-loop
 add-b c = omega arith
 
--- src/lib.rt:69:5
 loop-less : tie.Need-loop-less Inv-loop μ-loop
 loop-less c = omega arith
 
--- src/lib.rt:69:5
 loop-again : tie.Need-loop-again Inv-loop μ-loop
 loop-again c =
     let l = c .before .before .before .before .before .before .before .loop in
@@ -138,11 +126,9 @@ loop-again c =
       ),
     )
 
--- src/lib.rt:63:1
 same-length-2 : tie.Need-same-length-2 Inv-loop μ-loop
 same-length-2 c = omega arith
 
--- src/lib.rt:63:1
 returns-2 : tie.Need-returns-2 Inv-loop μ-loop
 returns-2 c =
     let l = c .before .loop in

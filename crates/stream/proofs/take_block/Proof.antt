@@ -1,9 +1,10 @@
-use Prim.Native.Nat.{ℕ, _+_, _-_, _*_, _/_, _%_, _≤_, _<_}
+-- `stream::take_block` meets its contract. The loop's invariant: the sum of the words before number w, and these words stored.
+use Prim.Native.Nat.{ℕ, _+_, _-_, _*_, _/_, _≤_, _<_}
 use native.Mathlib.Omega.{arith}
-use mathlib.Core.Path.{_≡_, refl, sym, ap, _∙_}
+use mathlib.Core.Path.{_≡_, refl, sym, _∙_}
 use mathlib.Core.List.{List, []}
 use lib.Dec.{eqb, lit<}
-use lib.ListN.{length, getD, take, drop, set, length-set}
+use lib.ListN.{length, getD, take, length-set}
 use lib.Seq.{take-all}
 use Rattle.definition.specs.Block.{checkWord, fileBlocks}
 use Rattle.stream.specs.Overwriting.{overwrite, overwrite-none, overwrite-next}
@@ -11,10 +12,6 @@ use Rattle.stream.specs.FileWords.{wordAt, blockWords, block-words-lengt
 use Rattle.stream.specs.Checks.{rightCheck, Summed, summed-start, summed-next, summed-end}
 use Rattle.stream.proofs.take_block.Statement.{statement}
 use Rattle.stream.proofs.take_block.Tie as tie
-use Rattle.stream.proofs.take_block.Reads as reads
-use Rattle.stream.proofs.take_block.Lts as lts
-use Rattle.stream.proofs.add_weighted.Reads as add-weighted-reads
-use Rattle.stream.proofs.word.Reads as word-reads
 
 -- the word read last is the block's check word
 answer : (file : List ℕ) (b : ℕ) {v s : ℕ} → b < length file / 512 → v ≡ wordAt file (512 * b + 508) → s ≡ checkWord b (blockWords file b)
@@ -28,57 +25,44 @@ Inv-loop file b words₀ at from sum₀ w₀ words sum w = Summed (blockWords fi
 abbrev μ-loop : tie.MeasureT-loop
 μ-loop file b words₀ at from sum₀ w₀ words sum w = 127 - w
 
--- src/lib.rt:42:16
 mul-from : tie.Need-mul-from Inv-loop μ-loop
 mul-from c = omega arith
 
--- src/lib.rt:43:19
 add-sum : tie.Need-add-sum Inv-loop μ-loop
 add-sum c = omega arith
 
--- src/lib.rt:45:5
 loop-holds : tie.Need-loop-holds Inv-loop μ-loop
 loop-holds c =
     let a = c .before .before .args in
     (summed-start (blockWords (a .file .now) (a .b)) (a .b), (refl, sym (overwrite-none (a .words .now) (a .at))))
 
--- src/lib.rt:46:35
 mul-word : tie.Need-mul-word Inv-loop μ-loop
 mul-word c = omega arith
 
--- src/lib.rt:46:28
 add-word : tie.Need-add-word Inv-loop μ-loop
 add-word c = omega arith
 
--- src/lib.rt:46:13
 word-requires : tie.Need-word-requires Inv-loop μ-loop
 word-requires c κs = omega arith
 
--- src/lib.rt:47:15
 add-words : tie.Need-add-words Inv-loop μ-loop
 add-words c = omega arith
 
--- src/lib.rt:47:9
 mul-words : tie.Need-mul-words Inv-loop μ-loop
 mul-words c = omega arith
 
--- src/lib.rt:47:9
 slice-write-words : tie.Need-slice-write-words Inv-loop μ-loop
 slice-write-words c = omega arith
 
--- src/lib.rt:48:9
 add-weighted-requires : tie.Need-add-weighted-requires Inv-loop μ-loop
 add-weighted-requires c κs = omega arith
 
--- src/lib.rt:49:9
 add-w : tie.Need-add-w Inv-loop μ-loop
 add-w c = omega arith
 
--- src/lib.rt:45:5
 loop-less : tie.Need-loop-less Inv-loop μ-loop
 loop-less c = omega arith
 
--- src/lib.rt:45:5
 loop-again : tie.Need-loop-again Inv-loop μ-loop
 loop-again c =
     let l = c .before .before .before .loop in
@@ -95,23 +79,18 @@ loop-again c =
       ),
     )
 
--- src/lib.rt:51:16
 add-word-2 : tie.Need-add-word-2 Inv-loop μ-loop
 add-word-2 c = omega arith
 
--- src/lib.rt:51:5
 word-requires-2 : tie.Need-word-requires-2 Inv-loop μ-loop
 word-requires-2 c κs = omega arith
 
--- src/lib.rt:51:5
 cast-result : tie.Need-cast-result Inv-loop μ-loop
 cast-result c = omega arith
 
--- src/lib.rt:37:1
 same-length : tie.Need-same-length Inv-loop μ-loop
 same-length c = omega arith
 
--- src/lib.rt:37:1
 returns : tie.Need-returns Inv-loop μ-loop
 returns c =
     let l = c .before .before .loop in

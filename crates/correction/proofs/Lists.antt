@@ -1,0 +1,70 @@
+-- A list walked from its back to its front, with or without a store at each place.
+use Prim.Native.Nat.{ℕ, zero, suc, _+_, _-_, _≤_, _<_}
+use mathlib.Core.Path.{_≡_, sym, ap, _∙_}
+use mathlib.Core.List.{List, _∷_}
+use native.Mathlib.Nat.{not-suc-le-zero}
+use native.Mathlib.Omega.{arith}
+use lib.ListN.{length, take, drop, getD, set, length-set, replicate}
+use lib.Seq.{drop-cons, drop-length, drop-set-lt, getD-set-same, getD-set-other}
+
+pub sub-one : (i : ℕ) → suc i - 1 ≡ i
+sub-one i = omega arith
+
+pub one-more : (n i : ℕ) → 0 < i → i ≤ n → n - (i - 1) ≡ suc (n - i)
+one-more n i h k = omega arith
+
+-- one element more at the front of what is dropped to
+pub drop-back : (l : List ℕ) (i : ℕ) → 0 < i → i ≤ length l → drop (i - 1) l ≡ getD l (i - 1) 0 ∷ drop i l
+drop-back l zero h e = absurd (not-suc-le-zero h)
+drop-back l (suc i) h e = rw (sub-one i) (drop-cons l i 0 e)
+
+-- the same with a store there
+pub drop-store : (l : List ℕ) (i v : ℕ) → 0 < i → i ≤ length l → drop (i - 1) (set l (i - 1) v) ≡ v ∷ drop i l
+drop-store l i v h e =
+    let b : i ≤ length (set l (i - 1) v) = rw length-set e in
+    let s : i - 1 < length l = omega arith in
+    let t : i - 1 < i = omega arith in
+    drop-back (set l (i - 1) v) i h b ∙ rw (getD-set-same l (i - 1) v 0 s, drop-set-lt i l (i - 1) v t)
+
+-- the first n elements, from number i - 1 on
+pub part-back : (l : List ℕ) (n i : ℕ) → 0 < i → i ≤ n → n ≤ length l →
+    take (n - (i - 1)) (drop (i - 1) l) ≡ getD l (i - 1) 0 ∷ take (n - i) (drop i l)
+part-back l n i h k e =
+    let b : i ≤ length l = omega arith in
+    rw (one-more n i h k, drop-back l i h b)
+
+pub part-store : (l : List ℕ) (n i v : ℕ) → 0 < i → i ≤ n → n ≤ length l →
+    take (n - (i - 1)) (drop (i - 1) (set l (i - 1) v)) ≡ v ∷ take (n - i) (drop i l)
+part-store l n i v h k e =
+    let b : i ≤ length l = omega arith in
+    rw (one-more n i h k, drop-store l i v h b)
+
+-- the n elements from number `from` on, from the one at i - 1 on
+pub window-back : (l : List ℕ) (from n i : ℕ) → 0 < i → i ≤ n → from + n ≤ length l →
+    take (n - (i - 1)) (drop (from + (i - 1)) l) ≡ getD l (from + (i - 1)) 0 ∷ take (n - i) (drop (from + i) l)
+window-back l from n i h k e =
+    let place : from + i - 1 ≡ from + (i - 1) = omega arith in
+    let a : 0 < from + i = omega arith in
+    let b : from + i ≤ length l = omega arith in
+    let d : drop (from + (i - 1)) l ≡ getD l (from + (i - 1)) 0 ∷ drop (from + i) l = rw place at (drop-back l (from + i) a b) in
+    rw (one-more n i h k, d)
+
+-- a store leaves the places below it
+pub unchanged : (l m : List ℕ) (i v : ℕ) → ((j : ℕ) → j < i → getD l j 0 ≡ getD m j 0) → 0 < i →
+    (j : ℕ) → j < i - 1 → getD (set l (i - 1) v) j 0 ≡ getD m j 0
+unchanged l m i v e h j k = getD-set-other l (i - 1) j v 0 (λ z. less j (i - 1) k z) ∙ e j (omega arith)
+  where
+    less : (a b : ℕ) → a < b → a ≡ b → ⊥
+    less a b x y = omega arith
+
+-- noughts stored one by one
+pub clear-start : (out : List ℕ) → drop (length out) out ≡ replicate (length out - length out) 0
+clear-start out =
+    let z : length out - length out ≡ 0 = omega arith in
+    rw z (drop-length out)
+
+pub clear-turn : (out : List ℕ) (n i : ℕ) → 0 < i → i ≤ n → n ≡ length out → drop i out ≡ replicate (n - i) 0 →
+    drop (i - 1) (set out (i - 1) 0) ≡ replicate (n - (i - 1)) 0
+clear-turn out n i h k l e =
+    let b : i ≤ length out = omega arith in
+    drop-store out i 0 h b ∙ ap (λ (t : List ℕ). 0 ∷ t) e ∙ sym (ap (λ (m : ℕ). replicate m 0) (one-more n i h k))

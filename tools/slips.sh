@@ -1,0 +1,79 @@
+#!/usr/bin/env bash
+# slips.sh: writes slips into the definition, one at a time, and shows which theorem refuses each.
+# Run it from the top of the repository. It works on a copy in a temporary folder: the crates definition, algebra and completeness, without the definition's
+# cases, so that no worked example can refuse a slip before a theorem does. One line for each slip; the exit status is not 0 if any was not refused.
+set -euo pipefail
+
+work=$(mktemp -d)
+trap 'rm -rf "$work"' EXIT
+grep -E '^(definition|algebra|completeness):' crates.txt >"$work/crates.txt"
+mkdir "$work/crates"
+for crate in definition algebra completeness; do
+    cp -r "crates/$crate" "$work/crates/$crate"
+    rm -rf "$work/crates/$crate/must-fail"
+done
+rm -f "$work"/crates/definition/specs/*Cases.antt
+sed -i '/^pub mod .*Cases$/d' "$work/crates/definition/specs/Lib.antt"
+cp -r "$work/crates/definition/specs" "$work/specs"
+
+missed=0
+
+# slip NAME FILE OLD NEW [FILE OLD NEW ..]: each OLD must stand in its FILE
+slip() {
+    local name=$1 file old new text log first
+    shift
+    rm -rf "$work/crates/definition/specs"
+    cp -r "$work/specs" "$work/crates/definition/specs"
+    while [ $# -gt 0 ]; do
+        file=$work/crates/definition/specs/$1 old=$2 new=$3
+        shift 3
+        text=$(cat "$file")
+        if [ "${text/"$old"/}" = "$text" ]; then
+            echo "NOT A SLIP $name: $(basename "$file") has no: $old"
+            missed=1
+            return
+        fi
+        printf '%s\n' "${text/"$old"/"$new"}" >"$file"
+    done
+    log=$work/log
+    if (cd "$work" && rt check completeness) >"$log" 2>&1; then
+        echo "NOT REFUSED $name"
+        missed=1
+        return
+    fi
+    first=$(grep -m 1 -oE "crates/[^ ]*\.antt:[0-9]+:[0-9]+: error: \`[^\`]*\`" "$log" || true)
+    if [ -z "$first" ]; then
+        echo "NOT REFUSED BY A THEOREM $name: $(grep -m 1 'error' "$log" || tail -n 1 "$log")"
+        missed=1
+        return
+    fi
+    echo "refused $name: $(echo "$first" | sed -E 's#^crates/([^/]*)/specs/([^:]*):.*`([^`]*)`$#\1/\2: \3#')"
+}
+
+if ! (cd "$work" && rt check completeness) >"$work/log" 2>&1; then
+    echo "the copy itself is not proved:"
+    tail -n 5 "$work/log"
+    exit 1
+fi
+
+# of the paper's readers (01, Slips)
+slip 'e terms in the correction' Polynomial.antt 'geometric c zero = 𝟙 ∷ []' 'geometric c zero = []'
+slip 'e from coins drawn' \
+    Prover.antt 'correctedPoly F (distinct F (honestAnswers b g c))' 'correctedPoly F (honestAnswers b g c)' \
+    Deciding.antt 'nextFunction (distinct F g) ρ' 'nextFunction g ρ'
+slip 'quotient of f_(i-1)' Prover.antt '(nextPoly b g c)' '(nextPoly b f c)'
+
+# domains, coins and their order
+slip 'roots numbered j*k + m' Domain.antt 'j + m * shiftCount l' 'j * l .fold + m'
+slip 'domain points from exponent 0' Domain.antt 'power F ω (1 + 2 ^ l .number * j)' 'power F ω (2 ^ l .number * j)'
+slip 'out coin allowed in its domain' Deciding.antt 'outInDomain h (out l) x = inDomain (primeField (h .prime)) (rootOfUnity h) l x' 'outInDomain h (out l) x = false'
+slip 'table made with the fold coin after it' Prover.antt 'let g = foldPoly F (b .fold) r f in' 'let g = foldPoly F (b .fold) (c .fold) f in'
+slip 'combination and fold coin swapped in reading' Layout.antt 'combination = getD v 0 0; fold = getD v 1 0' 'combination = getD v 1 0; fold = getD v 0 0'
+
+# the sheet, the reads and the blocks
+slip 't_i + s <= d_(i+1)' Sheet.antt 'ltb (getD w (6 + i) 0 + getD w 5 0)' 'leb (getD w (6 + i) 0 + getD w 5 0)'
+slip 'one read for each coin' Deciding.antt 'flatMap (λ j. flatMap places (rootNumbers l j)) js' 'flatMap places js'
+slip 'every check tested as that of block 0' Block.antt '∷ wrongChecks (suc b) xs' '∷ wrongChecks b xs'
+slip 'fill of ones' Block.antt 'replicate (127 * blockCount (length w) - length w) 0' 'replicate (127 * blockCount (length w) - length w) 1'
+
+exit $missed
