@@ -44,7 +44,6 @@ module _ (w : List ℕ) (passed : sheetTest w ≡ accepted) (due : wordsDue (she
       let s₁ = between-true 1 2 (getD w 5 0) (h .1 .1 .1 .1 .1 .0) in
       record {
         long = omega arith;
-        least = n₁ .0;
         size = n₁ .1;
         fold = k₁ .0;
         folds = k₁ .1;

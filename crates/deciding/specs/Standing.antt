@@ -19,7 +19,6 @@ use Rattle.deciding.specs.Stand.{coefficientsOf, finalsOf, levelOf, leve
 -- the bounds of a sheet's words
 pub record Shaped (w : List ℕ) : Type 0 where
   pub long : 12 ≤ length w
-  pub least : 4 ≤ getD w 1 0
   pub size : getD w 1 0 ≤ 4096
   pub fold : 2 ≤ getD w 3 0
   pub folds : getD w 3 0 ≤ 16
