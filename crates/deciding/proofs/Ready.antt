@@ -1,7 +1,7 @@
 -- What the functions hand to each other, over plain numbers and lists: what a call requires, and what it gives, in the words of the stream.
-use Prim.Native.Nat.{ℕ, _+_, _-_, _*_, _/_, _^_, _≤_, _<_}
+use Prim.Native.Nat.{ℕ, _+_, _*_, _/_, _^_, _≤_, _<_}
 use native.Mathlib.Omega.{arith}
-use mathlib.Core.Path.{_≡_, refl, sym, ap, _∙_, subst}
+use mathlib.Core.Path.{_≡_, sym, ap, _∙_, subst}
 use mathlib.Core.List.{List, [], _++_, zipWith}
 use mathlib.Core.Option.{Option, none, some}
 use lib.ListN.{length, getD, take, drop, drop-of-length-le}
@@ -13,7 +13,7 @@ use Rattle.definition.specs.Layout.{layout, readTranscript, wordsDue}
 use Rattle.definition.specs.Lists.{firstTrue}
 use Rattle.definition.specs.Polynomial.{Sample, pair}
 use Rattle.definition.specs.Reading.{rangeTest, sheetTest}
-use Rattle.definition.specs.Sheet.{Sheet, firstLevel, rootOfUnity, sheetOf}
+use Rattle.definition.specs.Sheet.{firstLevel, rootOfUnity, sheetOf}
 use Rattle.definition.specs.Verdict.{Verdict, accepted, refuseAt, refused, thenVerdict}
 use Rattle.domain.specs.Powers.{Powers}
 use Rattle.outcome.specs.declared.Found.{Found}
@@ -75,8 +75,7 @@ module _ (w : List ℕ) {points samples coefficients : ℕ} (st : Stand) (how : 
       let at = st .at + st .size / 2 in
       let ns = ap length es ∙ part-length w (at + s + s + 2) t (i .there) in
       let no = ap length eo ∙ part-length w at s (omega (arith, i .there)) in
-      let nr = ap length er ∙ part-length w (at + s) s (omega (arith, i .there)) in
-      (
+      let nr = ap length er ∙ part-length w (at + s) s (omega (arith, i .there)) in (
         fits-table table et,
         (
           subst (λ (n : ℕ). Below n shifts) (sym (ok .step)) (subst (λ (js : List ℕ). Below (st .size / getD w 3 0) js) (sym es) (i .below)),
@@ -220,8 +219,7 @@ pub points-there : (w l whole : List ℕ) → length l ≡ length (take (getD w 
     Powers (getD w 0 0) (rootOfUnity (sheetOf w)) (take (getD w 1 0) (l ++ drop (getD w 1 0) whole)) × (length (take (getD w 1 0) (l ++ drop (getD w 1 0) whole)) ≡ getD w 1 0)
 points-there w l whole e h p =
     let n = getD w 1 0 in
-    let t = first-places n l whole e h in
-    (
+    let t = first-places n l whole e h in (
       subst (Powers (getD w 0 0) (rootOfUnity (sheetOf w))) (sym t) (subst (λ (ω : ℕ). Powers (getD w 0 0) ω l) (sym (root-of-sheet w)) p),
       ap length t ∙ e ∙ length-take-le n whole h,
     )

@@ -1,30 +1,29 @@
 -- Before round 1: what the tests of reading say of the first place, and that the verdict from there on is the definition's.
-use Prim.Native.Nat.{ℕ, suc, _+_, _-_, _*_, _/_, _^_, _≤_, _<_}
+use Prim.Native.Nat.{ℕ, suc, _+_, _-_, _^_, _≤_}
 use native.Mathlib.Nat.{mul-div-le}
 use native.Mathlib.Omega.{arith}
 use mathlib.Core.Path.{_≡_, refl, sym, ap, _∙_, subst}
-use mathlib.Core.Bool.{Bool, _&&_}
-use mathlib.Core.List.{List, [], _∷_, _++_, tail, zipWith}
+use mathlib.Core.Bool.{_&&_}
+use mathlib.Core.List.{List, [], _∷_, zipWith}
 use lib.Dec.{leb}
 use lib.ListN.{length, getD, take, drop, replicate, length-append, length-drop, length-replicate}
 use lib.Seq.{drop-cons, drop-drop, getD-drop}
 use borrow.Author.Tests.{leb-true}
 use Rattle.completeness.specs.SheetRules.{between-true, exponents, rules-hold, small-repetitions}
 use Rattle.completeness.specs.Tests.{and-true, at-passes}
-use Rattle.definition.specs.Deciding.{Function, decide, decideRest, ownPlace, readsOf, tableFunction}
+use Rattle.definition.specs.Deciding.{decide, decideRest, readsOf, tableFunction}
 use Rattle.definition.specs.Field.{fieldOf, primeField, primeOf}
-use Rattle.definition.specs.Layout.{Kind, coin, layout, message, readRest, readTranscript, restLayout, wordsDue}
+use Rattle.definition.specs.Layout.{coin, layout, message, readRest, readTranscript, restLayout, wordsDue}
 use Rattle.definition.specs.Lists.{firstTrue}
 use Rattle.definition.specs.Reading.{outOfRange, rangeTest, sheetTest}
-use Rattle.definition.specs.Sheet.{Level, between, degreeRule, firstLevel, foldRule, laterLevels, levelsFrom, outCoinsRule, powerOfTwo, roundsRule, rootOfUnity, sheetOf, sheetRules, shiftCount, sizeRule}
-use Rattle.definition.specs.Transcript.{Rest}
+use Rattle.definition.specs.Sheet.{Level, between, firstLevel, foldRule, laterLevels, outCoinsRule, powerOfTwo, roundsRule, rootOfUnity, sheetOf, sheetRules, shiftCount, sizeRule}
 use Rattle.definition.specs.Verdict.{Verdict, accepted}
 use Rattle.domain.specs.Powers as domain
 use Rattle.rounds.specs.NextRound.{serves-first}
 use Rattle.rounds.specs.Powers.{Powers}
 use Rattle.rounds.specs.Round.{Fits}
 use Rattle.rounds.specs.RoundLaws.{Serves}
-use Rattle.deciding.specs.Begins.{Begins, begins-after, begins-long, begins-tail, begins-tested}
+use Rattle.deciding.specs.Begins.{Begins, begins-after, begins-tail, begins-tested}
 use Rattle.deciding.specs.Stand.{firstFunction, firstStand, levelOf, levelsOf, restOf, tableOf}
 use Rattle.deciding.specs.Standing.{Decided, Placed, Served, Shaped, Standing}
 
@@ -45,7 +44,6 @@ module _ (w : List ℕ) (passed : sheetTest w ≡ accepted) (due : wordsDue (she
       let s₁ = between-true 1 2 (getD w 5 0) (h .1 .1 .1 .1 .1 .0) in
       record {
         long = omega arith;
-        least = n₁ .0;
         size = n₁ .1;
         fold = k₁ .0;
         folds = k₁ .1;

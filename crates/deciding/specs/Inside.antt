@@ -1,25 +1,24 @@
 -- The words of the next round, or of the final comparison, are there and in range; and what is known at a place is known at the next.
-use Prim.Native.Nat.{ℕ, suc, _+_, _-_, _*_, _/_, _^_, _≤_, _<_}
+use Prim.Native.Nat.{ℕ, _+_, _*_, _/_, _^_, _≤_, _<_}
 use native.Mathlib.Nat.{mul-div-le, mul-le-mul-left, mul-le-mul-right, pow-suc}
 use native.Mathlib.Numerals.{add-one}
 use native.Mathlib.Omega.{arith}
 use mathlib.Core.Path.{_≡_, refl, ap, _∙_, subst}
-use mathlib.Core.List.{List, [], _∷_, _++_}
+use mathlib.Core.List.{List, _∷_, _++_}
 use lib.ListN.{length, getD, take, drop, replicate, length-append, length-drop, length-replicate}
 use lib.Pow.{pow-mono}
 use lib.Seq.{drop-drop}
-use Rattle.algebra.specs.ListFacts.{All}
 use Rattle.completeness.specs.ByPlace.{at-place}
 use Rattle.completeness.specs.LayoutFacts.{round-length}
 use Rattle.definition.specs.Field.{primeOf}
-use Rattle.definition.specs.Layout.{Kind, coin, index, laterCount, limit, message, out, restLayout, roundLayout}
+use Rattle.definition.specs.Layout.{coin, index, laterCount, limit, message, out, restLayout, roundLayout}
 use Rattle.definition.specs.Sheet.{Level, finalCount, shiftCount}
 use Rattle.rounds.specs.declared.Function.{Function}
 use Rattle.rounds.specs.Round.{Below, Fits}
 use Rattle.deciding.specs.declared.Stand.{Stand}
 use Rattle.deciding.specs.Begins.{Begins, begins-after, begins-front, begins-long, begins-run, begins-tail}
-use Rattle.deciding.specs.Stand.{finalsOf, levelOf, levelsOf, nextFunction, nextSize, nextStand, outsOf, repliesOf, repetitionsOf, shiftsAt, shiftsOf, tableOf}
-use Rattle.deciding.specs.Standing.{Placed, Shaped, Standing}
+use Rattle.deciding.specs.Stand.{finalsOf, levelOf, levelsOf, nextFunction, nextSize, nextStand, repetitionsOf, shiftsAt, shiftsOf}
+use Rattle.deciding.specs.Standing.{Placed, RoundInside, Standing}
 use Rattle.deciding.specs.Words.{levels-end, levels-next, third-drop}
 
 -- a run of n indices below c in a list
@@ -41,17 +40,6 @@ shifts-below p s b l w h =
 
 drop-two : (l : List ℕ) → drop 1 (drop 1 l) ≡ drop 2 l
 drop-two l = drop-drop 1 1 l
-
--- The next round's words are there, its shift indices are below the number of shift points, and the words after it are in range.
-pub record RoundInside (w : List ℕ) (st : Stand) : Type 0 where
-  pub there : shiftsAt w st + repetitionsOf w st ≤ length w
-  pub below : Below (st .size / getD w 3 0) (shiftsOf w st)
-  pub rest : Begins (primeOf (getD w 0 0)) (restLayout (getD w 5 0) (levelOf w (nextStand w st)) (levelsOf w (nextStand w st))) (drop (nextStand w st .at) w)
-  pub few : repetitionsOf w st ≤ 64
-  pub sheet : Shaped w
-  pub level : st .level < 5
-  pub fewer : repetitionsOf w st * getD w 3 0 ≤ 1024
-  pub reads : st .reads ≤ 8192
 
 -- a level's reads are at most 64·16
 pub reads-most : (t k : ℕ) → t ≤ 64 → k ≤ 16 → t * k ≤ 1024

@@ -90,7 +90,7 @@ roundOf w st = record {
     level = levelOf w (nextStand w st);
     outs = outsOf w st;
     combination = getD w (coinsAt w st) 0;
-    fold = getD w (coinsAt w st + 1) 0;
+    fold = nextStand w st .fold;
     shifts = shiftsOf w st;
   };
   replies = repliesOf w st;

@@ -10,16 +10,15 @@ use Rattle.definition.specs.Layout.{restLayout}
 use Rattle.definition.specs.Polynomial.{Sample}
 use Rattle.definition.specs.Verdict.{Verdict}
 use Rattle.rounds.specs.declared.Function.{Function}
-use Rattle.rounds.specs.Round.{Fits}
+use Rattle.rounds.specs.Round.{Below, Fits}
 use Rattle.rounds.specs.RoundLaws.{Answered, Compared, Serves}
 use Rattle.deciding.specs.declared.Stand.{Stand}
 use Rattle.deciding.specs.Begins.{Begins}
-use Rattle.deciding.specs.Stand.{coefficientsOf, finalsOf, levelOf, levelsOf, outsOf, repliesOf, restOf, shiftsOf, tableOf}
+use Rattle.deciding.specs.Stand.{coefficientsOf, finalsOf, levelOf, levelsOf, nextStand, outsOf, repetitionsOf, repliesOf, restOf, shiftsAt, shiftsOf, tableOf}
 
 -- the bounds of a sheet's words
 pub record Shaped (w : List ℕ) : Type 0 where
   pub long : 12 ≤ length w
-  pub least : 4 ≤ getD w 1 0
   pub size : getD w 1 0 ≤ 4096
   pub fold : 2 ≤ getD w 3 0
   pub folds : getD w 3 0 ≤ 16
@@ -37,6 +36,17 @@ pub record Placed (w : List ℕ) (st : Stand) : Type 0 where
   pub here : st .at ≤ length w
   pub words : Begins (primeOf (getD w 0 0)) (restLayout (getD w 5 0) (levelOf w st) (levelsOf w st)) (drop (st .at) w)
   pub reads : st .reads ≤ 1024 * st .level
+
+-- The next round's words are there, its shift indices are below the number of shift points, and the words after it are in range.
+pub record RoundInside (w : List ℕ) (st : Stand) : Type 0 where
+  pub there : shiftsAt w st + repetitionsOf w st ≤ length w
+  pub below : Below (st .size / getD w 3 0) (shiftsOf w st)
+  pub rest : Begins (primeOf (getD w 0 0)) (restLayout (getD w 5 0) (levelOf w (nextStand w st)) (levelsOf w (nextStand w st))) (drop (nextStand w st .at) w)
+  pub few : repetitionsOf w st ≤ 64
+  pub sheet : Shaped w
+  pub level : st .level < 5
+  pub fewer : repetitionsOf w st * getD w 3 0 ≤ 1024
+  pub reads : st .reads ≤ 8192
 
 -- At a place with a way to work out the level's function: the roots of shift points and their points are in the tables. The numbers are those of points,
 -- samples and coefficients lent.

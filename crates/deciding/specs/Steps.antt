@@ -1,11 +1,11 @@
 -- One step of the definition's deciding from a place: a clash, a round and what follows it, and the final comparison.
-use Prim.Native.Nat.{ℕ, suc, _+_, _-_, _*_, _/_, _^_, _≤_, _<_}
+use Prim.Native.Nat.{ℕ, suc, _+_, _*_, _/_, _≤_, _<_}
 use native.Mathlib.Numerals.{add-one}
 use native.Mathlib.Omega.{arith}
 use mathlib.Core.Path.{_≡_, refl, sym, ap, _∙_, subst}
 use mathlib.Core.Bool.{Bool, true, false, not}
 use mathlib.Core.List.{List, [], _∷_, _++_}
-use mathlib.Core.Option.{Option, none, some}
+use mathlib.Core.Option.{none, some}
 use lib.ListN.{length, getD, take, drop, length-drop, length-map}
 use lib.Seq.{length-take-le}
 use Rattle.definition.specs.Deciding as definition
@@ -15,7 +15,7 @@ use Rattle.definition.specs.Field.{Field, fieldOf}
 use Rattle.definition.specs.Lists.{firstTrue}
 use Rattle.definition.specs.Polynomial.{Sample, clash, distinct, evaluate, pair}
 use Rattle.definition.specs.Sheet.{Level, shiftCount}
-use Rattle.definition.specs.Transcript.{Rest, Round, final, round}
+use Rattle.definition.specs.Transcript.{Rest, Round, round}
 use Rattle.definition.specs.Verdict.{Verdict, accepted, refuseAt, refused}
 use Rattle.polynomial.specs.Newton.{newton}
 use Rattle.samples.specs.SampleLaws.{sifted-none, sifted-some}

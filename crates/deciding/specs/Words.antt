@@ -1,16 +1,16 @@
 -- The words from a place on are the definition's rest of the transcript: a round and the rest after it, or the final coefficients and indices.
-use Prim.Native.Nat.{ℕ, zero, suc, _+_, _-_, _*_, _/_, _≤_, _<_}
+use Prim.Native.Nat.{ℕ, suc, _+_, _-_, _/_, _≤_, _<_}
 use native.Mathlib.Omega.{arith}
-use mathlib.Core.Path.{_≡_, refl, sym, ap, _∙_, subst}
-use mathlib.Core.List.{List, [], _∷_, _++_}
-use lib.ListN.{length, getD, take, drop, replicate}
+use mathlib.Core.Path.{_≡_, ap, _∙_}
+use mathlib.Core.List.{List, [], _∷_}
+use lib.ListN.{length, getD, take, drop}
 use lib.Seq.{drop-cons, drop-drop, getD-take, getD-drop}
 use Rattle.completeness.specs.ListLaws.{drop-take}
 use Rattle.definition.specs.Layout.{laterCount, readRest, roundCoins}
 use Rattle.definition.specs.Sheet.{Level, finalCount, levelsFrom}
-use Rattle.definition.specs.Transcript.{Rest, Round, RoundCoins, final, round}
+use Rattle.definition.specs.Transcript.{final, round}
 use Rattle.deciding.specs.declared.Stand.{Stand}
-use Rattle.deciding.specs.Stand.{coefficientsOf, coinsAt, finalsOf, levelOf, levelsOf, nextSize, nextStand, outsOf, repliesOf, repetitionsOf, restOf, roundOf, shiftsAt, shiftsOf, tableOf}
+use Rattle.deciding.specs.Stand.{coefficientsOf, finalsOf, levelOf, levelsOf, nextSize, nextStand, outsOf, repliesOf, repetitionsOf, restOf, roundOf, shiftsOf, tableOf}
 
 -- a round read from word number `at` on: n words of the table, s out coins, s replies, two coins, t shift indices
 module _ (w : List ℕ) (at n s t : ℕ) where

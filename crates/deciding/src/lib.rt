@@ -1,7 +1,4 @@
-// Deciding, of a stream that passes reading: refusals 7 to 9, and the reads.
-//
-// The words w are those of the stream: the sheet's 12, table 0, fold coin 0, the rounds, and the final coefficients and indices. pw is the table of the
-// points of domain 0. Deciding goes from level to level as the definition does: each round's samples make the function of the next level.
+// Deciding, of the words w of a stream that passes reading: refusals 7 to 9, and the reads. pw is the table of the points of domain 0.
 use outcome::Found;
 use outcome::Outcome;
 use outcome::Verdict;
@@ -16,7 +13,7 @@ ghost use Rattle.definition.specs.Field.{primeField};
 ghost use Rattle.definition.specs.Layout.{layout, readTranscript, wordsDue};
 ghost use Rattle.definition.specs.Lists.{firstTrue};
 ghost use Rattle.definition.specs.Reading.{rangeTest, sheetTest};
-ghost use Rattle.definition.specs.Sheet.{Sheet, firstLevel, rootOfUnity, sheetOf};
+ghost use Rattle.definition.specs.Sheet.{firstLevel, rootOfUnity, sheetOf};
 ghost use Rattle.definition.specs.Verdict.{accepted};
 ghost use Rattle.domain.specs.Powers.{Powers};
 ghost use Rattle.outcome.specs.Meaning.{placeOf, verdictOf};
@@ -24,12 +21,10 @@ ghost use Rattle.rounds.specs.Round.{Fits, Below};
 ghost use Rattle.rounds.specs.RoundLaws.{Answered, Compared};
 ghost use Rattle.samples.specs.Samples.{kept, Room};
 ghost use Rattle.deciding.specs.Stand.{firstFunction, firstStand, nextFunction, nextStand};
-ghost use Rattle.deciding.specs.Standing.{Decided, Differing, Placed, Served, Shaped, Sifted, Standing};
-ghost use Rattle.deciding.specs.Inside.{RoundInside};
+ghost use Rattle.deciding.specs.Standing.{Decided, Differing, Placed, RoundInside, Served, Shaped, Sifted, Standing};
 ghost use Rattle.deciding.specs.Outs.{FirstInside, Scaled, outsFrom};
 
-// Where deciding stands, before a round or the final comparison: the level's number, domain size and degree bound, where its table begins, where the words
-// after its fold coin begin, the fold coin, and the reads so far.
+// A place: the level's number, domain size and degree bound, where its table and the words after its fold coin begin, the fold coin, the reads so far.
 pub struct Stand {
     pub level: usize,
     pub size: usize,

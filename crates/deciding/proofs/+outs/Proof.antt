@@ -102,8 +102,7 @@ outs-outs-requires t c κs =
     let s = c .before .before .before .before .before .before .before .before .before .before .before .before in
     let a = s .args in
     let n = c .next-stand in
-    let more = not-last (a .stand .level) (getD (a .w .now) 4 0) (s .pre .1 .0 .0 .level) (c .before .before .before .before .before .before .before .if1 .left) in
-    (
+    let more = not-last (a .stand .level) (getD (a .w .now) 4 0) (s .pre .1 .0 .0 .level) (c .before .before .before .before .before .before .before .if1 .left) in (
       omega (arith, s .pre .0, level-next (a .w .now) (a .stand) (n .result) (n .ensures), more, s .pre .1 .0 .0 .sheet .rounds),
       (
         (placed-after (a .w .now) (a .stand) (n .result) (s .pre .1 .0 .0) more (n .ensures), scaled-after (length (a .pw .now)) (a .w .now) (a .stand) (n .result) (a .scale) (s .pre .1 .0 .1) (n .ensures)),

@@ -1,5 +1,5 @@
 -- `deciding::rest` meets its contract, by recursion over the rounds: the measure is what is left of 6 levels. Assumes nothing.
-use Prim.Native.Nat.{ℕ, _+_, _-_, _≤_, _<_}
+use Prim.Native.Nat.{ℕ, _-_, _≤_, _<_}
 use mathlib.Core.Path.{_∙_, sym}
 use native.Mathlib.Omega.{arith}
 use lib.ListN.{length, getD}
@@ -149,16 +149,15 @@ rest-rest-requires t c κs =
     let g = c .before .before .before .before .before .before .before .before .before .before .before .g .given in
     let inside : g .0 .0 ≤ length (q .last .1 .1 .1 .1 .1 .1 .0) = omega (arith, lx, room-in (q .result) (g .0 .0) (g .1) (q .ensures .1)) in
     let more = not-last (a .stand .level) (getD (a .w .now) 4 0) (s .pre .1 .0 .place .level) (c .before .before .before .before .before .before .before .before .before .before .before .before .before .before .before .before .before .before .before .before .before .if1 .left) in
-    let up = level-next (a .w .now) (a .stand) (c .before .before .before .before .before .before .before .before .before .before .before .before .before .before .before .before .before .before .before .before .next-stand .result) (c .before .before .before .before .before .before .before .before .before .before .before .before .before .before .before .before .before .before .before .before .next-stand .ensures) in
-    (
+    let up = level-next (a .w .now) (a .stand) (c .before .before .before .before .before .before .before .before .before .before .before .before .before .before .before .before .before .before .before .before .next-stand .result) (c .before .before .before .before .before .before .before .before .before .before .before .before .before .before .before .before .before .before .before .before .next-stand .ensures) in (
       omega (arith, s .pre .0, up, more, s .pre .1 .0 .place .sheet .rounds),
       (
         next-standing (a .w .now) (a .pw .now) (a .xs .now) (a .cs .now) (a .stand) (a .how) (s .pre .1 .0) (not-last (a .stand .level) (getD (a .w .now) 4 0) (s .pre .1 .0 .place .level) (c .before .before .before .before .before .before .before .before .before .before .before .before .before .before .before .before .before .before .before .before .before .if1 .left)) (c .before .before .before .before .before .before .before .before .before .before .before .before .before .before .before .before .before .before .before .before .next-stand .result) (c .before .before .before .before .before .before .before .before .before .before .before .before .before .before .before .before .before .before .before .before .next-stand .ensures) (q .result)
-    (g .0 .0) (c .before .before .next-function .result) (c .before .before .next-function .ensures) (q .last .1 .1 .1 .1 .1 .1 .0) (q .last .1 .1 .1 .1 .1 .1 .1 .0) (k .last .1 .1 .1 .1 .0) (g .1) (q .ensures .0) inside
-    (ly ∙ sym lx) (lc ∙ sym lx) (k .ensures),
+            (g .0 .0) (c .before .before .next-function .result) (c .before .before .next-function .ensures) (q .last .1 .1 .1 .1 .1 .1 .0) (q .last .1 .1 .1 .1 .1 .1 .1 .0) (k .last .1 .1 .1 .1 .0) (g .1) (q .ensures .0) inside
+            (ly ∙ sym lx) (lc ∙ sym lx) (k .ensures),
         next-served (a .w .now) (a .pw .now) (a .xs .now) (a .cs .now) (a .stand) (a .how) (s .pre .1 .0) (not-last (a .stand .level) (getD (a .w .now) 4 0) (s .pre .1 .0 .place .level) (c .before .before .before .before .before .before .before .before .before .before .before .before .before .before .before .before .before .before .before .before .before .if1 .left)) (c .before .before .before .before .before .before .before .before .before .before .before .before .before .before .before .before .before .before .before .before .next-stand .result) (c .before .before .before .before .before .before .before .before .before .before .before .before .before .before .before .before .before .before .before .before .next-stand .ensures) (q .result)
-    (g .0 .0) (c .before .before .next-function .result) (c .before .before .next-function .ensures) (q .last .1 .1 .1 .1 .1 .1 .0) (q .last .1 .1 .1 .1 .1 .1 .1 .0) (k .last .1 .1 .1 .1 .0) (g .1) (q .ensures .0) inside
-    (ly ∙ sym lx) (lc ∙ sym lx) (k .ensures) (s .pre .1 .1),
+            (g .0 .0) (c .before .before .next-function .result) (c .before .before .next-function .ensures) (q .last .1 .1 .1 .1 .1 .1 .0) (q .last .1 .1 .1 .1 .1 .1 .1 .0) (k .last .1 .1 .1 .1 .0) (g .1) (q .ensures .0) inside
+            (ly ∙ sym lx) (lc ∙ sym lx) (k .ensures) (s .pre .1 .1),
       ),
     )
 

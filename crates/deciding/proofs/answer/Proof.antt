@@ -21,7 +21,7 @@ array-borrow-prefix-rx : tie.Need-array-borrow-prefix-rx
 array-borrow-prefix-rx c = search needs
 
 slice-aggregate-answer : tie.Need-slice-aggregate-answer
-slice-aggregate-answer c = 
+slice-aggregate-answer c =
     let s = c .before .before .before .before .before .before .before .before .before .before .before .before .before in
     let r = c .before .before .before .roots in
     sym (first-k (s .args .k) (r .result) (r .ensures) (s .pre .1 .0 .few))
@@ -30,7 +30,7 @@ array-borrow-prefix-ry : tie.Need-array-borrow-prefix-ry
 array-borrow-prefix-ry c = search needs
 
 slice-aggregate-answer-2 : tie.Need-slice-aggregate-answer-2
-slice-aggregate-answer-2 c = 
+slice-aggregate-answer-2 c =
     let s = c .before .before .before .before .before .before .before .before .before .before .before .before .before .before in
     let r = c .before .before .before .roots2 in
     sym (first-k (s .args .k) (r .result) (r .ensures) (s .pre .1 .0 .few))
@@ -39,20 +39,19 @@ array-borrow-prefix-rc : tie.Need-array-borrow-prefix-rc
 array-borrow-prefix-rc c = search needs
 
 slice-aggregate-answer-3 : tie.Need-slice-aggregate-answer-3
-slice-aggregate-answer-3 c = 
+slice-aggregate-answer-3 c =
     let s = c .before .before .before .before .before .before .before .before .before .before .before .before .before .before .before in
     let r = c .before .before .before .roots3 in
     sym (first-k (s .args .k) (r .result) (r .ensures) (s .pre .1 .0 .few))
 
 answer-requires : tie.Need-answer-requires
-answer-requires c κs = 
+answer-requires c κs =
     let s = c .before .before .before .before .before .before .before .before .before .before .before .before .before .before .before .before .before in
     let a = s .args in
     let few = s .pre .1 .0 .few in
     let n₁ = first-k (a .k) (c .before .before .before .before .before .before .before .roots .result) (c .before .before .before .before .before .before .before .roots .ensures) few in
     let n₂ = first-k (a .k) (c .before .before .before .before .before .before .roots2 .result) (c .before .before .before .before .before .before .roots2 .ensures) few in
-    let n₃ = first-k (a .k) (c .before .before .before .before .before .roots3 .result) (c .before .before .before .before .before .roots3 .ensures) few in
-    (
+    let n₃ = first-k (a .k) (c .before .before .before .before .before .roots3 .result) (c .before .before .before .before .before .roots3 .ensures) few in (
       s .pre .0,
       (
         subst (Fits (length (a .pw .now)) (length (a .table .now)) (a .how)) (sym n₁) (s .pre .1 .0),
@@ -67,13 +66,12 @@ same-length-2 : tie.Need-same-length-2
 same-length-2 c = search needs
 
 returns : tie.Need-returns
-returns c = 
+returns c =
     let s = c .before .before .before .before .before .before .before .before .before .before .before .before .before .before .before .before .before .before .before .before .before .before .before .before .before in
     let a = s .args in
     let q = c .before .before .before .before .before .before .before .answer in
     let r = c .before .before .before .before .before .before .before .before .before .before .before .before .before .before .before .roots in
-    let n = first-k (a .k) (r .result) (r .ensures) (s .pre .1 .0 .few) in
-    (
+    let n = first-k (a .k) (r .result) (r .ensures) (s .pre .1 .0 .few) in (
       λ ω b f ρ eo er es sv. q .ensures .0 ω b f ρ eo er es
           (subst (Serves (a .field) ω b f (a .pw .now) (a .table .now) (a .xs .now) (a .cs .now) (a .how)) (sym n) sv),
       q .ensures .1,

@@ -26,12 +26,11 @@ slice-aggregate-rest-2 c = search needs
 rest-requires : tie.Need-rest-requires
 rest-requires c κs =
     let s = c .before .before .before .before .before .before .before in
-    let a = s .args in
-    (
+    let a = s .args in (
       first-standing (a .w .now) (a .pw .now) (c .before .before .before .before .room .result) (s .pre .0 .0) (s .pre .0 .1) (s .pre .1 .0) (s .pre .1 .1 .0) (s .pre .1 .1 .1) (c .before .before .before .before .room .ensures)
-    (c .before .before .before .first-stand .result) (c .before .before .before .first-stand .ensures) (c .before .before .first-function .result) (c .before .before .first-function .ensures),
+          (c .before .before .before .first-stand .result) (c .before .before .before .first-stand .ensures) (c .before .before .first-function .result) (c .before .before .first-function .ensures),
       first-served (a .w .now) (a .pw .now) (c .before .before .before .before .room .result) (s .pre .0 .0) (s .pre .0 .1) (s .pre .1 .0) (s .pre .1 .1 .0) (s .pre .1 .1 .1) (c .before .before .before .before .room .ensures)
-    (c .before .before .before .first-stand .result) (c .before .before .before .first-stand .ensures) (c .before .before .first-function .result) (c .before .before .first-function .ensures),
+          (c .before .before .before .first-stand .result) (c .before .before .before .first-stand .ensures) (c .before .before .first-function .result) (c .before .before .first-function .ensures),
     )
 
 returns : tie.Need-returns

@@ -21,7 +21,7 @@ array-borrow-prefix-rx : tie.Need-array-borrow-prefix-rx
 array-borrow-prefix-rx c = search needs
 
 slice-aggregate-first-difference : tie.Need-slice-aggregate-first-difference
-slice-aggregate-first-difference c = 
+slice-aggregate-first-difference c =
     let s = c .before .before .before .before .before .before .before .before .before .before in
     let r = c .before .before .before .roots in
     sym (first-k (s .args .k) (r .result) (r .ensures) (s .pre .1 .0 .few))
@@ -30,7 +30,7 @@ array-borrow-prefix-ry : tie.Need-array-borrow-prefix-ry
 array-borrow-prefix-ry c = search needs
 
 slice-aggregate-first-difference-2 : tie.Need-slice-aggregate-first-difference-2
-slice-aggregate-first-difference-2 c = 
+slice-aggregate-first-difference-2 c =
     let s = c .before .before .before .before .before .before .before .before .before .before .before in
     let r = c .before .before .before .roots2 in
     sym (first-k (s .args .k) (r .result) (r .ensures) (s .pre .1 .0 .few))
@@ -39,20 +39,19 @@ array-borrow-prefix-rc : tie.Need-array-borrow-prefix-rc
 array-borrow-prefix-rc c = search needs
 
 slice-aggregate-first-difference-3 : tie.Need-slice-aggregate-first-difference-3
-slice-aggregate-first-difference-3 c = 
+slice-aggregate-first-difference-3 c =
     let s = c .before .before .before .before .before .before .before .before .before .before .before .before in
     let r = c .before .before .before .roots3 in
     sym (first-k (s .args .k) (r .result) (r .ensures) (s .pre .1 .0 .few))
 
 first-difference-requires : tie.Need-first-difference-requires
-first-difference-requires c κs = 
+first-difference-requires c κs =
     let s = c .before .before .before .before .before .before .before .before .before .before .before .before in
     let a = s .args in
     let few = s .pre .1 .0 .few in
     let n₁ = first-k (a .k) (c .before .before .before .before .before .roots .result) (c .before .before .before .before .before .roots .ensures) few in
     let n₂ = first-k (a .k) (c .before .before .before .before .roots2 .result) (c .before .before .before .before .roots2 .ensures) few in
-    let n₃ = first-k (a .k) (c .before .before .before .roots3 .result) (c .before .before .before .roots3 .ensures) few in
-    (
+    let n₃ = first-k (a .k) (c .before .before .before .roots3 .result) (c .before .before .before .roots3 .ensures) few in (
       s .pre .0,
       (
         subst (Fits (length (a .pw .now)) (length (a .table .now)) (a .how)) (sym n₁) (s .pre .1 .0),
@@ -61,13 +60,13 @@ first-difference-requires c κs =
     )
 
 returns : tie.Need-returns
-returns c = 
+returns c =
     let s = c .before .before .before .before .before .before .before .before .before .before .before .before .before .before .before .before in
     let a = s .args in
     let r = c .before .before .before .before .before .before .before .before .before .roots in
     let n = first-k (a .k) (r .result) (r .ensures) (s .pre .1 .0 .few) in
     λ ω b f sv. c .before .before .before .first-difference .ensures ω b f
-        (subst (Serves (a .field) ω b f (a .pw .now) (a .table .now) (a .xs .now) (a .cs .now) (a .how)) (sym n) sv)
+    (subst (Serves (a .field) ω b f (a .pw .now) (a .table .now) (a .xs .now) (a .cs .now) (a .how)) (sym n) sv)
 
 pub difference-spec : {M : Type 1} → statement M
 difference-spec =

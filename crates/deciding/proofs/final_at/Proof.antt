@@ -36,26 +36,26 @@ part-requires : tie.Need-part-requires
 part-requires c κs = search needs
 
 part-requires-2 : tie.Need-part-requires-2
-part-requires-2 c κs = 
+part-requires-2 c κs =
     let s = c .before .before .before .before .before .before .before .before .before .before in
     let i = final-inside (s .args .w .now) (s .args .stand) (s .pre .0 .place) (s .pre .1) in
     omega (arith, i .there)
 
 add-part : tie.Need-add-part
-add-part c = 
+add-part c =
     let s = c .before .before .before .before .before .before .before .before .before .before .before .before in
     let i = final-inside (s .args .w .now) (s .args .stand) (s .pre .0 .place) (s .pre .1) in
     omega (arith, i .there)
 
 part-requires-3 : tie.Need-part-requires-3
-part-requires-3 c κs = 
+part-requires-3 c κs =
     let s = c .before .before .before .before .before .before .before .before .before .before .before .before in
     let i = final-inside (s .args .w .now) (s .args .stand) (s .pre .0 .place) (s .pre .1) in
     omega (arith, i .there)
 
 difference-requires : tie.Need-difference-requires
 unfolding tableOf finalsOf
-difference-requires c κs = 
+difference-requires c κs =
     let s = c .before .before .before .before .before .before .before .before .before .before .before .before .before in
     let a = s .args in
     let ok = s .pre .0 in

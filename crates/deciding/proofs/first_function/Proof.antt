@@ -1,5 +1,5 @@
+-- `deciding::first_function` meets its contract. Assumes nothing.
 use mathlib.Core.Path.{refl}
-use native.Mathlib.Omega.{arith}
 use borrow.Author.Needs.{needs}
 use Rattle.deciding.specs.Stand.{firstFunction}
 use Rattle.deciding.proofs.first_function.Statement.{statement}

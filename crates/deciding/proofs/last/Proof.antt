@@ -23,7 +23,7 @@ enum-known-f : tie.Need-enum-known-f
 enum-known-f c = search needs
 
 add-t13 : tie.Need-add-t13
-add-t13 c = 
+add-t13 c =
     let s = c .before .before .before .before .before .before .before .before .before in
     let a = s .args in
     let q = c .before .before .before .before .final-at in
@@ -32,7 +32,7 @@ add-t13 c =
     omega (arith, few)
 
 mul-t14 : tie.Need-mul-t14
-mul-t14 c = 
+mul-t14 c =
     let s = c .before .before .before .before .before .before .before .before .before in
     let a = s .args in
     let q = c .before .before .before .before .final-at in
@@ -41,7 +41,7 @@ mul-t14 c =
     omega (arith, reads-most (c .before .f .given .0 .0 + 1) (getD (a .w .now) 3 0) (omega (arith, few)) (s .pre .0 .place .sheet .folds))
 
 add-t15 : tie.Need-add-t15
-add-t15 c = 
+add-t15 c =
     let s = c .before .before .before .before .before .before .before .before .before .before in
     let a = s .args in
     let q = c .before .before .before .before .before .final-at in
@@ -52,7 +52,7 @@ add-t15 c =
 
 returns : tie.Need-returns
 unfolding verdictOf outcomeOf
-returns c = 
+returns c =
     let s = c .before .before .before .before .before .before .before .before .before .before in
     let a = s .args in
     differ-step (a .w .now) (a .pw .now) (a .xs .now) (a .cs .now) (a .stand) (a .how) (s .pre .0) (s .pre .1 .1) (c .before .before .f .given .0 .0)
@@ -74,20 +74,20 @@ cast-t20 : tie.Need-cast-t20
 cast-t20 c = omega (arith, c .shared-slice-known6 .given (6 + c .before .before .before .before .before .before .before .before .before .before .args .stand .level))
 
 mul-t21 : tie.Need-mul-t21
-mul-t21 c = 
+mul-t21 c =
     let s = c .before .before .before .before .before .before .before .before .before .before in
     let i = final-inside (s .args .w .now) (s .args .stand) (s .pre .0 .place) (s .pre .1 .1) in
     omega (arith, i .fewer, i .reads)
 
 add-t22 : tie.Need-add-t22
-add-t22 c = 
+add-t22 c =
     let s = c .before .before .before .before .before .before .before .before .before .before .before in
     let i = final-inside (s .args .w .now) (s .args .stand) (s .pre .0 .place) (s .pre .1 .1) in
     omega (arith, i .fewer, i .reads)
 
 returns-2 : tie.Need-returns-2
 unfolding verdictOf outcomeOf
-returns-2 c = 
+returns-2 c =
     let s = c .before .before .before .before .before .before .before .before .before .before .before in
     let a = s .args in
     same-step (a .w .now) (a .pw .now) (a .xs .now) (a .cs .now) (a .stand) (a .how) (s .pre .0) (s .pre .1 .1)

@@ -1,5 +1,5 @@
+-- `deciding::next_function` meets its contract. Assumes nothing.
 use mathlib.Core.Path.{refl}
-use native.Mathlib.Omega.{arith}
 use borrow.Author.Needs.{needs}
 use Rattle.deciding.specs.Stand.{nextFunction}
 use Rattle.deciding.proofs.next_function.Statement.{statement}

@@ -1,5 +1,5 @@
+-- `deciding::next_stand` meets its contract. Assumes nothing.
 use mathlib.Core.Path.{refl}
-use native.Mathlib.Omega.{arith}
 use borrow.Author.Needs.{needs}
 use Rattle.deciding.specs.Stand.{nextStand}
 use Rattle.deciding.proofs.next_stand.Statement.{statement}

@@ -23,7 +23,7 @@ part-result-end : tie.Need-part-result-end
 part-result-end c = search needs
 
 returns : tie.Need-returns
-returns c = 
+returns c =
     let a = c .before .args in
     let e : a .at + a .count - a .at ≡ a .count = omega arith in
     ap (λ (n : ℕ). take n (drop (a .at) (a .w .now))) e

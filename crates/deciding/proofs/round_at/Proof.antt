@@ -52,26 +52,26 @@ add-part-2 : tie.Need-add-part-2
 add-part-2 c = search needs
 
 part-requires-2 : tie.Need-part-requires-2
-part-requires-2 c κs = 
+part-requires-2 c κs =
     let s = c .before .before .before .before .before .before .before .before .before .before .before .before .before .before in
     let i = round-inside (s .args .w .now) (s .args .stand) (s .pre .0 .place) (s .pre .1 .0) in
     omega (arith, i .there)
 
 part-requires-3 : tie.Need-part-requires-3
-part-requires-3 c κs = 
+part-requires-3 c κs =
     let s = c .before .before .before .before .before .before .before .before .before .before .before .before .before .before .before in
     let i = round-inside (s .args .w .now) (s .args .stand) (s .pre .0 .place) (s .pre .1 .0) in
     omega (arith, i .there)
 
 part-requires-4 : tie.Need-part-requires-4
-part-requires-4 c κs = 
+part-requires-4 c κs =
     let s = c .before .before .before .before .before .before .before .before .before .before .before .before .before .before .before .before in
     let i = round-inside (s .args .w .now) (s .args .stand) (s .pre .0 .place) (s .pre .1 .0) in
     omega (arith, i .there)
 
 answer-requires : tie.Need-answer-requires
 unfolding tableOf shiftsOf outsOf repliesOf
-answer-requires c κs = 
+answer-requires c κs =
     let s = c .before .before .before .before .before .before .before .before .before .before .before .before .before .before .before .before .before .before .before in
     let a = s .args in
     let ok = s .pre .0 in
@@ -91,7 +91,7 @@ same-length-2 c = search needs
 
 returns : tie.Need-returns
 unfolding tableOf shiftsOf outsOf repliesOf
-returns c = 
+returns c =
     let s = c .before .before .before .before .before .before .before .before .before .before .before .before .before .before .before .before .before .before .before .before .before .before .before .before in
     let a = s .args in
     let ok = s .pre .0 in
@@ -101,8 +101,7 @@ returns c =
     let p₄ = c .before .before .before .before .before .before .before .part4 in
     let q = c .before .before .before .before .answer in
     let r = answer-ready (a .w .now) (a .stand) (a .how) ok (s .pre .1 .0) (p₁ .result .now) (p₂ .result .now) (p₃ .result .now) (p₄ .result .now)
-    (p₁ .ensures) (p₂ .ensures) (p₃ .ensures) (p₄ .ensures) in
-    (
+    (p₁ .ensures) (p₂ .ensures) (p₃ .ensures) (p₄ .ensures) in (
       sifted-parts (a .w .now) (a .pw .now) (a .xs .now) (a .cs .now) (a .stand) (a .how) (p₁ .result .now) (p₁ .ensures)
           (p₂ .result .now) (p₃ .result .now) (p₄ .result .now) (p₂ .ensures) (p₃ .ensures) (p₄ .ensures) (q .ensures .0),
       room-most (length (a .px .now)) (length (p₃ .result .now) + length (p₂ .result .now)) (q .result) (s .pre .1 .1 .0) (r .1 .1 .1) (q .ensures .1),
