@@ -1,4 +1,4 @@
--- Lists and tests: the few helpers that the library lacks.
+-- Lists and tests: the few functions that the library lacks.
 use Prim.Native.Nat.{ℕ, zero, suc}
 use mathlib.Core.Bool.{Bool, true, false, _||_}
 use mathlib.Core.List.{List, [], _∷_}
