@@ -28,7 +28,7 @@ use Rattle.rounds.specs.declared.Function.{Function}
 use Rattle.rounds.specs.Round.{Below, Fits}
 use Rattle.rounds.specs.RoundLaws.{Answered, Compared, Serves}
 use Rattle.deciding.specs.declared.Stand.{Stand}
-use Rattle.deciding.specs.First.{first-step, placed-first, same-powers, served-first, standing-first}
+use Rattle.deciding.specs.First.{first-step, placed-first, served-first, standing-first}
 use Rattle.deciding.specs.Inside.{final-inside, round-inside, standing-next}
 use Rattle.deciding.specs.Outs.{Scaled, outs-first, outsFrom, scaled-first}
 use Rattle.deciding.specs.Stand.{coefficientsOf, finalsOf, firstFunction, firstStand, nextFunction, nextStand, outsOf, repliesOf, shiftsOf, tableOf}
@@ -169,12 +169,12 @@ module _ (w pw xs : List ℕ) (passed : sheetTest w ≡ accepted) (ranged : rang
   pub first-served : Served w pw xs xs st how
   first-served =
       subst (λ (x : Stand). Served w pw xs xs x how) (sym es)
-      (subst (Served w pw xs xs (firstStand w)) (sym eh) (served-first w passed due pw xs xs 66 (same-powers points) empty))
+      (subst (Served w pw xs xs (firstStand w)) (sym eh) (served-first w passed due pw xs xs 66 points empty))
 
   pub first-decided : {v : Verdict} → Decided w pw xs xs st how v →
       v ≡ decide (primeField (sheetOf w .prime)) (rootOfUnity (sheetOf w)) (firstLevel (sheetOf w)) (readTranscript (sheetOf w) (drop 12 w))
   first-decided {v} d =
-      first-step w passed due pw xs xs 66 (same-powers points) empty
+      first-step w passed due pw xs xs 66 points empty
       (subst (λ (x : Function). Decided w pw xs xs (firstStand w) x v) eh (subst (λ (x : Stand). Decided w pw xs xs x how v) es d))
 
 module _ (w pw : List ℕ) (passed : sheetTest w ≡ accepted) (ranged : rangeTest (sheetOf w) w ≡ accepted) (due : wordsDue (sheetOf w) ≤ length w)

@@ -18,18 +18,13 @@ use Rattle.definition.specs.Lists.{firstTrue}
 use Rattle.definition.specs.Reading.{outOfRange, rangeTest, sheetTest}
 use Rattle.definition.specs.Sheet.{Level, between, firstLevel, foldRule, laterLevels, outCoinsRule, powerOfTwo, roundsRule, rootOfUnity, sheetOf, sheetRules, shiftCount, sizeRule}
 use Rattle.definition.specs.Verdict.{Verdict, accepted}
-use Rattle.domain.specs.Powers as domain
+use Rattle.domain.specs.Powers.{Fitting, Powers}
 use Rattle.rounds.specs.NextRound.{serves-first}
-use Rattle.rounds.specs.Powers.{Powers}
 use Rattle.rounds.specs.Round.{Fits}
 use Rattle.rounds.specs.RoundLaws.{Serves}
 use Rattle.deciding.specs.Begins.{Begins, begins-after, begins-tail, begins-tested}
 use Rattle.deciding.specs.Stand.{firstFunction, firstStand, levelOf, levelsOf, restOf, tableOf}
 use Rattle.deciding.specs.Standing.{Decided, Placed, Served, Shaped, Standing}
-
--- a table of points, as the two crates below say it
-pub same-powers : {field ω : ℕ} {pw : List ℕ} → domain.Powers field ω pw → Powers field ω pw
-same-powers p = record { entry = p .entry; round = p .round }
 
 module _ (w : List ℕ) (passed : sheetTest w ≡ accepted) (due : wordsDue (sheetOf w) ≤ length w) where
   pub shaped : Shaped w
@@ -54,7 +49,7 @@ module _ (w : List ℕ) (passed : sheetTest w ≡ accepted) (due : wordsDue (she
       }
 
   -- the field has a domain of the sheet's size
-  pub fitting : domain.Fitting (getD w 0 0) (getD w 1 0)
+  pub fitting : Fitting (getD w 0 0) (getD w 1 0)
   fitting =
       let x = exponents w passed in
       record { log = x .a; two = x .size; most = shaped .size; divides = x .divides }

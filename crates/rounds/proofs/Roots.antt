@@ -12,7 +12,7 @@ use Rattle.definition.specs.Polynomial.{pair, evaluate, interpolate}
 use Rattle.polynomial.specs.Newton.{newtonCorrected}
 use Rattle.polynomial.proofs.Backwards.{drop-store}
 use Rattle.rounds.specs.declared.Function.{Function}
-use Rattle.rounds.specs.Powers.{pointIn}
+use Rattle.rounds.specs.PointsIn.{pointIn}
 use Rattle.rounds.specs.Round.{numbersFrom, valueOf, valueIn, foldIn}
 
 -- ---- the value at a point, without samples and with some

@@ -19,7 +19,7 @@ use Rattle.samples.specs.declared.Gathered.{Gathered}
 use Rattle.samples.specs.declared.Gathered.the-variants.{Clash, From}
 use Rattle.samples.specs.SampleLaws.{put-ok, clash-drop, sifted-nil}
 use Rattle.rounds.specs.declared.Function.{Function}
-use Rattle.rounds.specs.Powers.{shiftIn}
+use Rattle.rounds.specs.PointsIn.{shiftIn}
 use Rattle.rounds.specs.Round.{Fits, Below, foldIn, sampleIn}
 use Rattle.rounds.specs.RoundLaws.{differsIn}
 

@@ -1,4 +1,4 @@
-pub mod Powers
+pub mod PointsIn
 pub mod Round
 pub mod RoundLaws
 pub mod NextRound

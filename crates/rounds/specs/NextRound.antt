@@ -18,7 +18,8 @@ use Rattle.polynomial.specs.Pairs.{pair-length}
 use Rattle.samples.specs.Samples.{sifted}
 use Rattle.samples.specs.SampleLaws.{sifted-some, sifted-more}
 use Rattle.rounds.specs.declared.Function.{Function}
-use Rattle.rounds.specs.Powers.{Powers, pointIn, point-in}
+use Rattle.rounds.specs.PointsIn.{pointIn, point-in}
+use Rattle.domain.specs.Powers.{Powers}
 use Rattle.rounds.specs.Round.{valueOf, valueIn, Fits, point-room}
 use Rattle.rounds.specs.RoundLaws.{Serves}
 

@@ -9,7 +9,7 @@ use Rattle.definition.specs.Field.{Field, fieldOf}
 use Rattle.definition.specs.Polynomial.{Sample, pair, evaluate, interpolate}
 use Rattle.polynomial.specs.Newton.{newtonCorrected}
 use Rattle.rounds.specs.declared.Function.{Function}
-use Rattle.rounds.specs.Powers.{pointIn, shiftIn}
+use Rattle.rounds.specs.PointsIn.{pointIn, shiftIn}
 
 -- the numbers j + m·step, m from `first` on
 unfoldable pub numbersFrom : ℕ → ℕ → ℕ → ℕ → List ℕ

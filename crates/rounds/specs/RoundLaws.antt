@@ -18,7 +18,8 @@ use Rattle.algebra.specs.ListFacts.{all-of-map, all-range, map-all}
 use Rattle.polynomial.specs.Pairs.{pair-map}
 use Rattle.samples.specs.Samples.{sifted}
 use Rattle.rounds.specs.declared.Function.{Function}
-use Rattle.rounds.specs.Powers.{Powers, pointIn, point-in, shift-in}
+use Rattle.rounds.specs.PointsIn.{pointIn, point-in, shift-in}
+use Rattle.domain.specs.Powers.{Powers}
 use Rattle.rounds.specs.Round.{numbersFrom, valueIn, foldIn, sampleIn, Fits, Below, point-room, root-number, root-point}
 
 -- The words in hand are those of the function f at level b, whose folding number is k.

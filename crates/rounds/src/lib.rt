@@ -12,7 +12,7 @@ ghost use lib.ListN.{length, drop};
 ghost use Rattle.definition.specs.Field.{fieldOf};
 ghost use Rattle.outcome.specs.Meaning.{placeOf};
 ghost use Rattle.samples.specs.Samples.{kept, sifted, Room};
-ghost use Rattle.rounds.specs.Powers.{pointIn, shiftIn, ShiftPoint};
+ghost use Rattle.rounds.specs.PointsIn.{pointIn, shiftIn, ShiftPoint};
 ghost use Rattle.rounds.specs.Round.{Fits, Below, numbersFrom, valueOf, valueIn, foldIn, sampleIn};
 ghost use Rattle.rounds.specs.RoundLaws.{Answered, Compared};
 

@@ -4,7 +4,7 @@ use mathlib.Core.Path.{_≡_, refl}
 use mathlib.Core.List.{map}
 use native.Mathlib.Omega.{arith}
 use lib.ListN.{length, drop, length-set}
-use Rattle.rounds.specs.Powers.{pointIn}
+use Rattle.rounds.specs.PointsIn.{pointIn}
 use Rattle.rounds.specs.Round.{numbersFrom, valueIn, root-number, root-point}
 use Rattle.rounds.proofs.Roots.{roots-end, roots-turn, roots-all}
 use Rattle.rounds.proofs.gather.Statement.{statement}

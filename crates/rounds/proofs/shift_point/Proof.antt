@@ -5,7 +5,7 @@ use native.Mathlib.Nat.{mod-lt, mul-le-mul-left}
 use native.Mathlib.Omega.{arith}
 use lib.ListN.{length}
 use borrow.Author.Needs.{needs}
-use Rattle.rounds.specs.Powers.{shiftIn, shift-power}
+use Rattle.rounds.specs.PointsIn.{shiftIn, shift-power}
 use Rattle.rounds.proofs.shift_point.Statement.{statement}
 use Rattle.rounds.proofs.shift_point.Tie as tie
 

@@ -1,22 +1,18 @@
--- A table of the powers of ω, from the first power on and once round, and the points in it.
+-- The points and the shift points of a domain in the table of the powers of ω.
 use Prim.Native.Nat.{ℕ, zero, suc, _+_, _-_, _*_, _/_, _%_, _^_, _<_}
 use mathlib.Core.Path.{_≡_, _∙_, sym, ap, refl}
 use mathlib.Core.List.{List, [], _∷_}
-use native.Mathlib.Nat.{mod-lt, div-add-mod'}
+use native.Mathlib.Nat.{mod-lt}
 use native.Mathlib.Omega.{arith}
 use lib.ListN.{length, getD}
 use Rattle.definition.specs.Field.{Field, primeField, primeOf, fieldOf, power}
 use Rattle.definition.specs.Sheet.{Level}
 use Rattle.definition.specs.Domain.{point, shiftPoint}
-use Rattle.algebra.specs.Laws.{FieldLaws}
-use Rattle.algebra.specs.RingLaws.{power-add, reduce-power}
-use Rattle.algebra.specs.RootsOfUnity.{power-mul, power-one}
+use Rattle.algebra.specs.RootsOfUnity.{power-mul}
 use Rattle.algebra.specs.PrimeField.{laws}
-
--- entry e is ω^(1 + e), and as many powers as the table has words make the round
-pub record Powers (field ω : ℕ) (pw : List ℕ) : Type 0 where
-  pub entry : (e : ℕ) → e < length pw → getD pw e 0 ≡ power (fieldOf field) ω (1 + e)
-  pub round : power (fieldOf field) ω (length pw) ≡ fieldOf field .𝟙
+use Rattle.domain.specs.Powers.{Powers}
+use Rattle.domain.specs.Roots.{around}
+use Rattle.domain.specs.Points.{point-at}
 
 -- point m of a domain: every scale-th word of the table
 unfoldable pub pointIn : List ℕ → ℕ → ℕ → ℕ
@@ -30,32 +26,19 @@ shiftIn pw scale k j = getD pw ((k - 1 + k * (scale * j)) % length pw) 0
 abbrev pub ShiftPoint : List ℕ → ℕ → ℕ → ℕ → ℕ → Type 0
 ShiftPoint pw scale k j v = (field ω : ℕ) → Powers field ω pw → v ≡ power (fieldOf field) (power (fieldOf field) ω (1 + scale * j)) k
 
-module _ {A : Type 0} (F : Field A) (L : FieldLaws F) where
-  infixl 70 _⊗_
-  open Field F using (𝟙, _⊗_)
-  open FieldLaws L using (mul-one)
-
-  -- an exponent may be reduced by the order
-  around : (ω : A) (e n : ℕ) → power F ω n ≡ 𝟙 → power F ω (1 + e % n) ≡ power F ω (1 + e)
-  around ω e n h =
-      let split : 1 + e ≡ 1 + e % n + n * (e / n) = omega (arith, div-add-mod' e n) in
-      sym (ap (power F ω) split ∙ power-add F L ω (1 + e % n) (n * (e / n))
-      ∙ ap (λ (t : A). power F ω (1 + e % n) ⊗ t) (sym (power-mul F L ω n (e / n)) ∙ ap (λ (t : A). power F t (e / n)) h ∙ power-one F L (e / n))
-      ∙ mul-one (power F ω (1 + e % n)) ∙ reduce-power F L ω (1 + e % n))
-
 pub shift-power : (pw : List ℕ) (scale k j : ℕ) → 0 < k → 0 < length pw → ShiftPoint pw scale k j (shiftIn pw scale k j)
 unfolding shiftIn
 shift-power pw scale k j some long = λ field ω w.
     let e = k - 1 + k * (scale * j) in
     let times : 1 + (k - 1 + k * (scale * j)) ≡ (1 + scale * j) * k = omega arith in
-    w .entry (e % length pw) (mod-lt e long) ∙ around (fieldOf field) (laws field) ω e (length pw) (w .round)
+    w .entry (e % length pw) (mod-lt e long) ∙ around (fieldOf field) (laws field) ω 1 e (length pw) (w .round)
     ∙ ap (power (fieldOf field) ω) times ∙ sym (power-mul (fieldOf field) (laws field) ω (1 + scale * j) k)
 
 -- the words of the table are the definition's points and shift points
 module _ {field ω : ℕ} {pw : List ℕ} (w : Powers field ω pw) (b : Level) {scale : ℕ} (scaled : scale ≡ 2 ^ b .number) where
   pub point-in : (m : ℕ) → scale * m < length pw → pointIn pw scale m ≡ point (fieldOf field) ω b m
-  unfolding pointIn point
-  point-in m l = w .entry (scale * m) l ∙ ap (λ (s : ℕ). power (fieldOf field) ω (1 + s * m)) scaled
+  unfolding pointIn
+  point-in m l = point-at field ω b pw scale m w (sym scaled) l
 
   pub shift-in : {k : ℕ} → k ≡ b .fold → (j : ℕ) → 0 < k → 0 < length pw → shiftIn pw scale k j ≡ shiftPoint (fieldOf field) ω b j
   unfolding shiftPoint point
