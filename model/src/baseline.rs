@@ -11,20 +11,21 @@ const CHECK_MODULUS: u64 = 4294967291;
 /// Most samples of a round: 64 shift points and 2 out coins.
 const MOST_SAMPLES: usize = 66;
 
+/// A field by its prime, a constant, so that the compiler sees every remainder's divisor.
 #[derive(Clone, Copy)]
-struct Prime(u64);
+struct Prime<const P: u64>;
 
-impl Prime {
+impl<const P: u64> Prime<P> {
     fn add(self, a: u32, b: u32) -> u32 {
-        ((u64::from(a) + u64::from(b)) % self.0) as u32
+        ((u64::from(a) + u64::from(b)) % P) as u32
     }
 
     fn sub(self, a: u32, b: u32) -> u32 {
-        ((u64::from(a) + self.0 - u64::from(b)) % self.0) as u32
+        ((u64::from(a) + P - u64::from(b)) % P) as u32
     }
 
     fn mul(self, a: u32, b: u32) -> u32 {
-        (u64::from(a) * u64::from(b) % self.0) as u32
+        (u64::from(a) * u64::from(b) % P) as u32
     }
 
     fn pow(self, mut base: u32, mut exponent: u64) -> u32 {
@@ -40,7 +41,7 @@ impl Prime {
     }
 
     fn inv(self, a: u32) -> u32 {
-        self.pow(a, self.0 - 2)
+        self.pow(a, P - 2)
     }
 
     fn evaluate(self, coefficients: &[u32], x: u32) -> u32 {
@@ -125,8 +126,8 @@ impl Samples {
 }
 
 /// A level's function: the table sent, corrected by the samples.
-struct Function<'a> {
-    prime: Prime,
+struct Function<'a, const P: u64> {
+    prime: Prime<P>,
     powers: &'a [u32],
     table: &'a [u32],
     scale: usize,
@@ -134,7 +135,7 @@ struct Function<'a> {
     samples: Samples,
 }
 
-impl Function<'_> {
+impl<const P: u64> Function<'_, P> {
     fn value(&self, m: usize) -> u32 {
         let Samples {
             points,
@@ -236,12 +237,24 @@ fn out_of_range(sheet: &Sheet, words: &[u32]) -> Option<usize> {
     None
 }
 
-fn points(sheet: &Sheet) -> Vec<u32> {
-    let prime = Prime(sheet.field.p);
-    let root = prime.pow(
-        sheet.field.g as u32,
-        (sheet.field.p - 1) / sheet.n0 as u64,
-    );
+/// The powers of the root of unity of order 4,096 in the largest field, from the 0th on.
+static POWERS: [u32; 4096] = {
+    let mut table = [1; 4096];
+    let mut e = 1;
+    while e < 4096 {
+        table[e] = (table[e - 1] as u64 * 1282623253 % 2013265921) as u32;
+        e += 1;
+    }
+    table
+};
+
+/// The points of domain 0: from the stored table in the largest field, else by products.
+fn points<const P: u64>(prime: Prime<P>, sheet: &Sheet) -> Vec<u32> {
+    if P == 2013265921 {
+        let step = 4096 / sheet.n0;
+        return (1..=sheet.n0).map(|e| POWERS[step * e % 4096]).collect();
+    }
+    let root = prime.pow(sheet.field.g as u32, (P - 1) / sheet.n0 as u64);
     std::iter::successors(Some(root), |&x| Some(prime.mul(x, root)))
         .take(sheet.n0)
         .collect()
@@ -271,11 +284,15 @@ pub fn verify(file: &[u8]) -> Verdict {
     if let Some(fill) = words[due..].iter().position(|&word| word != 0) {
         return refused(6, due + fill, 0);
     }
-    decide(&sheet, &words)
+    match sheet.field.p {
+        17 => decide(Prime::<17>, &sheet, &words),
+        65537 => decide(Prime::<65537>, &sheet, &words),
+        _ => decide(Prime::<2013265921>, &sheet, &words),
+    }
 }
 
-fn decide(sheet: &Sheet, words: &[u32]) -> Verdict {
-    let powers = points(sheet);
+fn decide<const P: u64>(prime: Prime<P>, sheet: &Sheet, words: &[u32]) -> Verdict {
+    let powers = points(prime, sheet);
     let (k, s) = (sheet.k, sheet.outs);
 
     let mut at = SHEET_WORDS + sheet.n0 + 1;
@@ -290,7 +307,7 @@ fn decide(sheet: &Sheet, words: &[u32]) -> Verdict {
     }
 
     let mut function = Function {
-        prime: Prime(sheet.field.p),
+        prime,
         powers: &powers,
         table: &words[SHEET_WORDS..SHEET_WORDS + sheet.n0],
         scale: 1,
@@ -345,7 +362,10 @@ fn decide(sheet: &Sheet, words: &[u32]) -> Verdict {
 
     let finals = at + sheet.d(sheet.rounds + 1);
     let coefficients = &words[at..finals];
-    for (place, &j) in words[finals..finals + sheet.t[sheet.rounds]].iter().enumerate() {
+    for (place, &j) in words[finals..finals + sheet.t[sheet.rounds]]
+        .iter()
+        .enumerate()
+    {
         let j = j as usize;
         reads += k;
         let value = function

@@ -9,7 +9,7 @@ use tevrolig_model::{generate, line, verify};
 const WORKED: [u32; 45] = [
     0, 16, 8, 2, 1, 1, 1, 1, 0, 0, 0, 0, // sheet
     3, 11, 6, 11, 5, 6, 1, 3, 13, 8, 7, 12, 5, 10, 2, 15, // table 0
-    2, // fold coin 0
+    2,  // fold coin 0
     15, 3, 15, 0, 0, 4, 7, 13, // table 1
     0, 5, 3, 4, 0, // out coin, reply, combination coin, fold coin, shift index
     14, 11, 1, // final coefficients, final index
@@ -28,7 +28,10 @@ fn files() -> Vec<(String, Vec<u8>)> {
         ("p10".into(), worked(&[])),
         ("p11".into(), worked(&[(42, 15)])),
         ("p12".into(), worked(&[(37, 9), (38, 5)])),
-        ("p13".into(), worked(&[(37, 9), (38, 16), (42, 0), (43, 15)])),
+        (
+            "p13".into(),
+            worked(&[(37, 9), (38, 16), (42, 0), (43, 15)]),
+        ),
         ("p14".into(), worked(&[(37, 3)])),
         ("empty".into(), Vec::new()),
         ("one-byte-less".into(), worked(&[])[..511].to_vec()),
