@@ -52,6 +52,13 @@ pub fn mul(field: u32, a: u32, b: u32) -> u32
     reduce(field, a as u64 * b as u64)
 }
 
+// The sum of a and the product of b and c, with one remainder for both: the step of Horner's rule.
+pub fn add_product(field: u32, a: u32, b: u32, c: u32) -> u32
+    ensures { λ r. ⌜ r ≡ fieldOf field ._⊕_ a (fieldOf field ._⊗_ b c) ⌝ }
+{
+    reduce(field, a as u64 + b as u64 * c as u64)
+}
+
 // The power a^e, by squaring; 0^0 is 1.
 pub fn pow(field: u32, a: u32, e: u32) -> u32
     ensures { λ r. ⌜ r ≡ power (fieldOf field) a e ⌝ }
