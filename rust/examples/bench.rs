@@ -2,7 +2,7 @@
 
 use std::hint::black_box;
 use std::time::Instant;
-use tevrolig_model::baseline;
+use tevrolig_model::baseline::verify as baseline;
 use tevrolig_model::generate::{self, Rng};
 
 fn honest(sheet: &[u32; 12]) -> Vec<u8> {
@@ -24,7 +24,7 @@ fn times(file: &[u8]) -> (f64, f64) {
         proved = proved.min(start.elapsed().as_secs_f64() * 1e6 / calls as f64);
         let start = Instant::now();
         for _ in 0..calls {
-            black_box(baseline::verify(black_box(file)));
+            black_box(baseline::verify::<false>(black_box(file)));
         }
         plain = plain.min(start.elapsed().as_secs_f64() * 1e6 / calls as f64);
     }
@@ -35,7 +35,10 @@ fn row(sheet: &[u32; 12]) {
     let file = honest(sheet);
     let verdict = tevrolig::verify(&file);
     assert_eq!(verdict.outcome, tevrolig::Outcome::Accepted);
-    assert_eq!(baseline::verify(&file), tevrolig_model::verify(&file));
+    assert_eq!(
+        baseline::verify::<false>(&file),
+        tevrolig_model::verify(&file)
+    );
     let (proved, plain) = times(&file);
     let words: Vec<String> = sheet.iter().map(|word| word.to_string()).collect();
     println!(

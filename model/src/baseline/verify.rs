@@ -1,8 +1,6 @@
-//! The proved code's algorithm in idiomatic Rust, for the benchmark alone.
-//!
-//! One pass over the file for the checks, the points of domain 0 as one table, Newton's form of the samples walked once for A(x) and
-//! V(x), the correction's sum by doubling, Newton's form again for the fold. The rules of the sheet are the model's.
+//! Verify. The rules of the sheet are the model's.
 
+use super::{points, Prime};
 use crate::sheet::{Sheet, SHEET_WORDS};
 use crate::{Outcome, Verdict};
 
@@ -10,47 +8,10 @@ const BLOCK_WORDS: usize = 127;
 const CHECK_MODULUS: u64 = 4294967291;
 /// Most samples of a round: 64 shift points and 2 out coins.
 const MOST_SAMPLES: usize = 66;
+/// Most roots of a shift point.
+const MOST_ROOTS: usize = 16;
 
-/// A field by its prime, a constant, so that the compiler sees every remainder's divisor.
-#[derive(Clone, Copy)]
-struct Prime<const P: u64>;
-
-impl<const P: u64> Prime<P> {
-    fn add(self, a: u32, b: u32) -> u32 {
-        ((u64::from(a) + u64::from(b)) % P) as u32
-    }
-
-    fn sub(self, a: u32, b: u32) -> u32 {
-        ((u64::from(a) + P - u64::from(b)) % P) as u32
-    }
-
-    fn mul(self, a: u32, b: u32) -> u32 {
-        (u64::from(a) * u64::from(b) % P) as u32
-    }
-
-    fn pow(self, mut base: u32, mut exponent: u64) -> u32 {
-        let mut result = 1;
-        while exponent > 0 {
-            if exponent & 1 == 1 {
-                result = self.mul(result, base);
-            }
-            base = self.mul(base, base);
-            exponent >>= 1;
-        }
-        result
-    }
-
-    fn inv(self, a: u32) -> u32 {
-        self.pow(a, P - 2)
-    }
-
-    fn evaluate(self, coefficients: &[u32], x: u32) -> u32 {
-        coefficients
-            .iter()
-            .rev()
-            .fold(0, |sum, &c| self.add(c, self.mul(x, sum)))
-    }
-
+impl<const P: u64, const TUNED: bool> Prime<P, TUNED> {
     /// A(x) and V(x) by Newton's form.
     fn newton(self, points: &[u32], coefficients: &[u32], x: u32) -> (u32, u32) {
         points
@@ -59,17 +20,53 @@ impl<const P: u64> Prime<P> {
             .rev()
             .fold((0, 1), |(value, vanish), (&a, &c)| {
                 (
-                    self.add(value, self.mul(c, vanish)),
+                    self.add_product(value, c, vanish),
                     self.mul(self.sub(x, a), vanish),
                 )
             })
     }
 
-    /// Newton's coefficients through points and values, last to first.
+    /// A and V at two points.
+    fn newton_pair(
+        self,
+        points: &[u32],
+        coefficients: &[u32],
+        x: u32,
+        y: u32,
+    ) -> ((u32, u32), (u32, u32)) {
+        if !TUNED {
+            return (
+                self.newton(points, coefficients, x),
+                self.newton(points, coefficients, y),
+            );
+        }
+        let (mut at_x, mut at_y) = ((0, 1), (0, 1));
+        for (&a, &c) in points.iter().zip(coefficients).rev() {
+            at_x.0 = self.add_product(at_x.0, c, at_x.1);
+            at_x.1 = self.mul(self.sub(x, a), at_x.1);
+            at_y.0 = self.add_product(at_y.0, c, at_y.1);
+            at_y.1 = self.mul(self.sub(y, a), at_y.1);
+        }
+        (at_x, at_y)
+    }
+
+    /// Newton's coefficients through points and values, last to first, two a turn.
     fn newton_coefficients(self, points: &[u32], values: &[u32], out: &mut [u32]) {
-        for i in (0..points.len()).rev() {
-            let (value, vanish) = self.newton(&points[i + 1..], &out[i + 1..], points[i]);
-            out[i] = self.mul(self.sub(values[i], value), self.inv(vanish));
+        let mut left = points.len();
+        while left >= 2 {
+            let (i, j) = (left - 1, left - 2);
+            let (at_i, at_j) =
+                self.newton_pair(&points[left..], &out[left..], points[i], points[j]);
+            let vanish = self.mul(self.sub(points[j], points[i]), at_j.1);
+            let (inverse_i, inverse_j) = self.inverse_pair(at_i.1, vanish);
+            out[i] = self.mul(self.sub(values[i], at_i.0), inverse_i);
+            let value = self.add_product(at_j.0, out[i], at_j.1);
+            out[j] = self.mul(self.sub(values[j], value), inverse_j);
+            left -= 2;
+        }
+        if left == 1 {
+            let (value, vanish) = self.newton(&points[1..], &out[1..], points[0]);
+            out[0] = self.mul(self.sub(values[0], value), self.inv(vanish));
         }
     }
 
@@ -126,8 +123,8 @@ impl Samples {
 }
 
 /// A level's function: the table sent, corrected by the samples.
-struct Function<'a, const P: u64> {
-    prime: Prime<P>,
+struct Function<'a, const P: u64, const TUNED: bool> {
+    prime: Prime<P, TUNED>,
     powers: &'a [u32],
     table: &'a [u32],
     scale: usize,
@@ -135,8 +132,9 @@ struct Function<'a, const P: u64> {
     samples: Samples,
 }
 
-impl<const P: u64> Function<'_, P> {
-    fn value(&self, m: usize) -> u32 {
+impl<const P: u64, const TUNED: bool> Function<'_, P, TUNED> {
+    /// The values at points m and n.
+    fn values(&self, m: usize, n: usize) -> (u32, u32) {
         let Samples {
             points,
             coefficients,
@@ -144,31 +142,53 @@ impl<const P: u64> Function<'_, P> {
             coin,
             ..
         } = &self.samples;
-        let (x, y) = (self.powers[self.scale * m], self.table[m]);
         if *count == 0 {
-            return y;
+            return (self.table[m], self.table[n]);
         }
         let f = self.prime;
-        let (value, vanish) = f.newton(&points[..*count], &coefficients[..*count], x);
-        let quotient = f.mul(f.sub(y, value), f.inv(vanish));
-        f.mul(quotient, f.geometric(*coin, *count, x))
+        let (x, y) = (self.powers[self.scale * m], self.powers[self.scale * n]);
+        let (at_x, at_y) = f.newton_pair(&points[..*count], &coefficients[..*count], x, y);
+        let (inverse_x, inverse_y) = f.inverse_pair(at_x.1, at_y.1);
+        let corrected = |x, value, a, inverse| {
+            f.mul(
+                f.mul(f.sub(value, a), inverse),
+                f.geometric(*coin, *count, x),
+            )
+        };
+        (
+            corrected(x, self.table[m], at_x.0, inverse_x),
+            corrected(y, self.table[n], at_y.0, inverse_y),
+        )
     }
 
     fn shift_point(&self, j: usize) -> u32 {
         self.powers[(self.k - 1 + self.k * self.scale * j) % self.powers.len()]
     }
 
+    /// The fold at shift point j: by two, as often as k halves. The inverse of a point is a power of the root too.
     fn fold(&self, j: usize, r: u32) -> u32 {
+        let f = self.prime;
+        let order = self.powers.len();
         let step = self.table.len() / self.k;
-        let (mut points, mut values, mut coefficients) = ([0; 16], [0; 16], [0; 16]);
-        for m in 0..self.k {
-            points[m] = self.powers[self.scale * (j + m * step)];
-            values[m] = self.value(j + m * step);
+        let mut values = [0; MOST_ROOTS];
+        let mut count = self.k / 2;
+        for m in 0..count {
+            (values[m], values[m + count]) = self.values(j + m * step, j + (m + count) * step);
         }
-        let k = self.k;
-        self.prime
-            .newton_coefficients(&points[..k], &values[..k], &mut coefficients[..k]);
-        self.prime.newton(&points[..k], &coefficients[..k], r).0
+        let (mut exponent, mut between) = (1 + self.scale * j, self.scale * step);
+        let mut coin = r;
+        while count > 0 {
+            for m in 0..count {
+                let inverse = self.powers[order - 1 - (exponent + m * between) % order];
+                let (low, high) = (values[m], values[m + count]);
+                let odd = f.mul(f.mul(coin, inverse), f.sub(low, high));
+                values[m] = f.mul(Prime::<P, TUNED>::HALF, f.add(f.add(low, high), odd));
+            }
+            (exponent, between) = (2 * exponent, 2 * between);
+            coin = f.mul(coin, coin);
+            count /= 2;
+        }
+        values[0]
     }
 }
 
@@ -237,31 +257,8 @@ fn out_of_range(sheet: &Sheet, words: &[u32]) -> Option<usize> {
     None
 }
 
-/// The powers of the root of unity of order 4,096 in the largest field, from the 0th on.
-static POWERS: [u32; 4096] = {
-    let mut table = [1; 4096];
-    let mut e = 1;
-    while e < 4096 {
-        table[e] = (table[e - 1] as u64 * 1282623253 % 2013265921) as u32;
-        e += 1;
-    }
-    table
-};
-
-/// The points of domain 0: from the stored table in the largest field, else by products.
-fn points<const P: u64>(prime: Prime<P>, sheet: &Sheet) -> Vec<u32> {
-    if P == 2013265921 {
-        let step = 4096 / sheet.n0;
-        return (1..=sheet.n0).map(|e| POWERS[step * e % 4096]).collect();
-    }
-    let root = prime.pow(sheet.field.g as u32, (P - 1) / sheet.n0 as u64);
-    std::iter::successors(Some(root), |&x| Some(prime.mul(x, root)))
-        .take(sheet.n0)
-        .collect()
-}
-
 /// Judges a file as the proved code does.
-pub fn verify(file: &[u8]) -> Verdict {
+pub fn verify<const TUNED: bool>(file: &[u8]) -> Verdict {
     if file.is_empty() || file.len() % 512 != 0 {
         return refused(1, 0, 0);
     }
@@ -285,14 +282,18 @@ pub fn verify(file: &[u8]) -> Verdict {
         return refused(6, due + fill, 0);
     }
     match sheet.field.p {
-        17 => decide(Prime::<17>, &sheet, &words),
-        65537 => decide(Prime::<65537>, &sheet, &words),
-        _ => decide(Prime::<2013265921>, &sheet, &words),
+        17 => decide(Prime::<17, TUNED>, &sheet, &words),
+        65537 => decide(Prime::<65537, TUNED>, &sheet, &words),
+        _ => decide(Prime::<2013265921, TUNED>, &sheet, &words),
     }
 }
 
-fn decide<const P: u64>(prime: Prime<P>, sheet: &Sheet, words: &[u32]) -> Verdict {
-    let powers = points(prime, sheet);
+fn decide<const P: u64, const TUNED: bool>(
+    prime: Prime<P, TUNED>,
+    sheet: &Sheet,
+    words: &[u32],
+) -> Verdict {
+    let powers = points(prime, sheet.field.g as u32, sheet.n0);
     let (k, s) = (sheet.k, sheet.outs);
 
     let mut at = SHEET_WORDS + sheet.n0 + 1;
