@@ -11,20 +11,17 @@ mul-e c = search needs
 slice-read-e : tie.Need-slice-read-e
 slice-read-e c = search needs
 
-add-mul : tie.Need-add-mul
-add-mul c = search needs
+add-o : tie.Need-add-o
+add-o c = search needs
 
-mul-mul : tie.Need-mul-mul
-mul-mul c = search needs
+mul-o : tie.Need-mul-o
+mul-o c = search needs
 
-slice-read-mul : tie.Need-slice-read-mul
-slice-read-mul c = search needs
+slice-read-o : tie.Need-slice-read-o
+slice-read-o c = search needs
 
-mul-requires : tie.Need-mul-requires
-mul-requires c κs = search needs
-
-add-requires : tie.Need-add-requires
-add-requires c κs = search needs
+add-product-requires : tie.Need-add-product-requires
+add-product-requires c κs = search needs
 
 mul-out : tie.Need-mul-out
 mul-out c = search needs
@@ -32,8 +29,8 @@ mul-out c = search needs
 slice-write-out : tie.Need-slice-write-out
 slice-write-out c = search needs
 
-sub-requires : tie.Need-sub-requires
-sub-requires c κs = search needs
+add-product-requires-2 : tie.Need-add-product-requires-2
+add-product-requires-2 c κs = search needs
 
 add-out : tie.Need-add-out
 add-out c = search needs
@@ -56,14 +53,13 @@ turn-spec =
     (tie.spec
     mul-e
     slice-read-e
-    add-mul
-    mul-mul
-    slice-read-mul
-    mul-requires
-    add-requires
+    add-o
+    mul-o
+    slice-read-o
+    add-product-requires
     mul-out
     slice-write-out
-    sub-requires
+    add-product-requires-2
     add-out
     mul-out-2
     slice-write-out-2
