@@ -1,4 +1,5 @@
 -- `reader::word_at` meets its contract: its test is that of the stream's length. Assumes nothing.
+use native.Mathlib.Omega.{arith}
 use borrow.Author.Needs.{needs}
 use Rattle.reader.proofs.ByNumber.{word-there, word-past}
 use Rattle.reader.proofs.word_at.Statement.{statement}
@@ -19,12 +20,12 @@ word-requires c κs = search needs
 returns : tie.Need-returns
 returns c =
     let a = c .before .before .before .args in
-    word-there (a .file .now) (a .n) (c .before .if1 .taken) (c .word .ensures)
+    word-there (a .file .now) (a .n) (omega arith) (c .word .ensures)
 
 returns-2 : tie.Need-returns-2
 returns-2 c =
     let a = c .before .before .args in
-    word-past (a .file .now) (a .n) (c .if1 .left)
+    word-past (a .file .now) (a .n) (omega arith)
 
 pub word-at-spec : {M : Type 1} → statement M
 word-at-spec = tie.close (tie.spec mul-if1 add-word mul-word word-requires returns returns-2)
