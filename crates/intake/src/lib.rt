@@ -1,16 +1,19 @@
 // Words from a descriptor, least significant byte first.
 
-ghost use Prim.Native.Nat.{_*_, _≤_};
-ghost use lib.ListN.{length};
+ghost use mathlib.Core.Path.{_≡_};
+ghost use Prim.Native.Nat.{ℕ, _*_, _≤_, _<_};
+ghost use lib.ListN.{length, getD};
+ghost use Rattle.stream.specs.FileWords.{wordAt};
 // What a descriptor gave: so many words, or bytes that are no whole words.
 pub enum Taken {
     Words(usize),
     Ragged,
 }
 
-// The words of the first `count` bytes.
+// Places `count` words, each of four bytes.
 fn place(bytes: &[u8], count: usize, words: &mut [u32])
     requires { ⌜ (4 * count ≤ length (now bytes)) × (count ≤ length (now words)) ⌝ }
+    ensures { λ _. ⌜ ((i : ℕ) → i < count → getD (now (words .exit)) i 0 ≡ wordAt (now (bytes .entry)) (4 * i)) ⌝ }
 {
     let mut i = 0;
     while i < count {
