@@ -5,17 +5,17 @@ use mathlib.Core.Path.{_≡_, _∙_, sym, ap, _≡⟨_⟩_, _∎}
 use Rattle.definition.specs.Field.{Field, primeField, primeOf, fieldOf}
 use Rattle.algebra.specs.Laws.{FieldLaws}
 use Rattle.algebra.specs.PrimeField.{laws}
-use Rattle.algebra.specs.RingLaws.{zero-mul, one-mul}
+use Rattle.algebra.specs.RingLaws.{one-mul}
 
 module _ {A : Type 0} (F : Field A) (L : FieldLaws F) (inverse-reduced : (x : A) → L .reduce (F .inverse x) ≡ F .inverse x) where
   infixl 70 _⊗_
   open Field F using (𝟘, 𝟙, _⊗_, inverse)
-  open FieldLaws L using (reduce, mul-comm, mul-assoc, mul-one, mul-reduce, reduce-mul, one≢zero, mul-inverse)
+  open FieldLaws L using (reduce, mul-comm, mul-assoc, mul-one, mul-zero, mul-reduce, reduce-mul, one≢zero, mul-inverse)
 
   -- what has the product 1 with another element is not zero
   unit-not-zero : (x y : A) → x ⊗ y ≡ 𝟙 → reduce x ≡ 𝟘 → ⊥
   unit-not-zero x y e z =
-      one≢zero (sym e ∙ mul-comm x y ∙ sym (mul-reduce y x) ∙ ap (λ (v : A). y ⊗ v) z ∙ mul-comm y 𝟘 ∙ zero-mul F L y)
+      one≢zero (sym e ∙ mul-comm x y ∙ sym (mul-reduce y x) ∙ ap (λ (v : A). y ⊗ v) z ∙ mul-zero y)
 
   -- the inverse is the one reduced element whose product with x is 1
   pub inverse-unique : (x y : A) → x ⊗ y ≡ 𝟙 → reduce y ≡ inverse x

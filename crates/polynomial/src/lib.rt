@@ -7,7 +7,7 @@ ghost use Prim.Native.Nat.{_-_, _≤_, _<_};
 ghost use lib.ListN.{length, drop};
 ghost use Rattle.definition.specs.Field.{Field, fieldOf};
 ghost use Rattle.definition.specs.Polynomial.{evaluate, geometric, interpolate, pair};
-ghost use Rattle.polynomial.specs.Newton.{Corrected, vanishAt, newtonAt, newton, newtonCorrected};
+ghost use Rattle.polynomial.specs.Newton.{Corrected, vanishAt, newtonAt, nextCoefficient, coefficientInFront, newton, newtonCorrected};
 
 // The value at x of the polynomial with these coefficients, by Horner's rule.
 pub fn value_at(field: u32, coefficients: &[u32], x: u32) -> u32
@@ -114,20 +114,67 @@ pub fn inverse_two(field: u32, a: u32, b: u32) -> Two
     }
 }
 
-// The coefficients of Newton's form through the points xs and values ys from number `from` on, into the same places of out.
+// The coefficient of Newton's form in front of those from number i on, which stand in out.
+fn one_more(field: u32, xs: &[u32], ys: &[u32], i: usize, out: &mut [u32])
+    requires { ⌜ (0 < i) × ((i ≤ length (now xs)) × ((length (now ys) ≡ length (now xs)) × (length (now out) ≡ length (now xs)))) ⌝ }
+    requires { ⌜ drop i (now out) ≡ newton (fieldOf field) (drop i (now xs)) (drop i (now ys)) ⌝ }
+    ensures { λ _. ⌜ drop (i - 1) (now (out .exit)) ≡ newton (fieldOf field) (drop (i - 1) (now (xs .entry))) (drop (i - 1) (now (ys .entry))) ⌝ }
+{
+    let b = newton_at(field, xs, out, i, xs[i - 1]);
+    out[i - 1] = field::mul(
+        field,
+        field::sub(field, ys[i - 1], b.value),
+        field::inv(field, b.vanish),
+    );
+}
+
+// The coefficients of two samples more, one at a and in front of it one at b, by what a walk over the samples behind them gave at a and at b.
+fn next_two(field: u32, walk: BothTwo, a: u32, ya: u32, b: u32, yb: u32) -> Two
+    ensures { λ r. ⌜ r .first ≡ nextCoefficient (fieldOf field) (walk .first .value) (walk .first .vanish) ya ⌝ }
+    ensures { λ r. ⌜ r .second ≡ coefficientInFront (fieldOf field) (walk .second .value) (walk .second .vanish) a (r .first) b yb ⌝ }
+{
+    let vanish = field::mul(field, field::sub(field, b, a), walk.second.vanish);
+    let inverses = inverse_two(field, walk.first.vanish, vanish);
+    let first = field::mul(
+        field,
+        field::sub(field, ya, walk.first.value),
+        inverses.first,
+    );
+    let value = field::add_product(field, walk.second.value, first, walk.second.vanish);
+    Two {
+        first: first,
+        second: field::mul(field, field::sub(field, yb, value), inverses.second),
+    }
+}
+
+// The two coefficients of Newton's form in front of those from number i on, which stand in out.
+fn two_more(field: u32, xs: &[u32], ys: &[u32], i: usize, out: &mut [u32])
+    requires { ⌜ (1 < i) × ((i ≤ length (now xs)) × ((length (now ys) ≡ length (now xs)) × (length (now out) ≡ length (now xs)))) ⌝ }
+    requires { ⌜ drop i (now out) ≡ newton (fieldOf field) (drop i (now xs)) (drop i (now ys)) ⌝ }
+    ensures { λ _. ⌜ drop (i - 2) (now (out .exit)) ≡ newton (fieldOf field) (drop (i - 2) (now (xs .entry))) (drop (i - 2) (now (ys .entry))) ⌝ }
+{
+    let a = xs[i - 1];
+    let b = xs[i - 2];
+    let walk = newton_two(field, xs, out, i, a, b);
+    let next = next_two(field, walk, a, ys[i - 1], b, ys[i - 2]);
+    out[i - 1] = next.first;
+    out[i - 2] = next.second;
+}
+
+// The coefficients of Newton's form through the points xs and values ys from number `from` on, into the same places of out, two samples a turn.
+// Of an odd number the last goes first and by itself, as its walk is the shortest.
 pub fn coefficients(field: u32, xs: &[u32], ys: &[u32], from: usize, out: &mut [u32])
     requires { ⌜ (from ≤ length (now xs)) × ((length (now ys) ≡ length (now xs)) × (length (now out) ≡ length (now xs))) ⌝ }
     ensures { λ _. ⌜ drop from (now (out .exit)) ≡ newton (fieldOf field) (drop from (now (xs .entry))) (drop from (now (ys .entry))) ⌝ }
 {
     let mut i = xs.len();
-    while from < i {
-        let b = newton_at(field, xs, out, i, xs[i - 1]);
+    if (i - from) % 2 == 1 {
+        one_more(field, xs, ys, i, out);
         i -= 1;
-        out[i] = field::mul(
-            field,
-            field::sub(field, ys[i], b.value),
-            field::inv(field, b.vanish),
-        );
+    }
+    while from < i {
+        two_more(field, xs, ys, i, out);
+        i -= 2;
     }
 }
 
