@@ -1,7 +1,7 @@
 -- A table over the points of a domain is the definition's table, as a list. Assumes nothing.
 use mathlib.Core.Path.{_≡_, _∙_, sym, ap, refl}
 use mathlib.Core.List.{List, [], _∷_, map}
-use Prim.Native.Nat.{ℕ, zero, suc, _+_, _*_, _^_, _<_}
+use Prim.Native.Nat.{ℕ, zero, suc, _+_, _*_, _<_}
 use native.Mathlib.Nat.{add-zero}
 use native.Mathlib.Omega.{arith}
 use lib.ListN.{length, getD, drop, drop-of-length-le}
@@ -9,7 +9,6 @@ use lib.Seq.{drop-cons}
 use Rattle.definition.specs.Field.{fieldOf}
 use Rattle.definition.specs.Lists.{range}
 use Rattle.definition.specs.Polynomial.{evaluate}
-use Rattle.definition.specs.Sheet.{Level}
 use Rattle.definition.specs.Domain.{point, domain}
 use Rattle.definition.specs.Prover.{tableOf}
 use Rattle.algebra.specs.ListFacts.{map-map}
@@ -26,7 +25,7 @@ strided-rest f (suc n) k e =
     let next : k + 1 ≡ suc k = omega arith in
     rw (drop-cons f k 0 (omega arith), next, strided-rest f n (suc k) (omega arith))
 
-pub strided-all : (f : List ℕ) → strided f 0 1 (length f) ≡ f
+strided-all : (f : List ℕ) → strided f 0 1 (length f) ≡ f
 strided-all f = strided-rest f (length f) 0 (omega arith)
 
 -- a list of the values at from, from + 1, ..

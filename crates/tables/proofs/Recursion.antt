@@ -9,17 +9,18 @@ use Rattle.definition.specs.Field.{fieldOf}
 use Rattle.tables.specs.Halving.{strided, Halves, Spaced, Table, Joined}
 use Rattle.tables.proofs.Joining.{joined-table}
 use Rattle.tables.proofs.Lists.{begun, second, first-length, second-length, both}
-use Rattle.tables.proofs.Sizes.{half, spaced-half}
+use Rattle.tables.proofs.Sizes.{half}
 
 -- what a call for one half asks: fewer coefficients than t, which this level has, and the function's own terms
-pub half-asks : (t from stride count at step n m src words : ℕ) → count ≡ t → from < 2 * stride → stride * count ≤ src → Halves count n → Spaced at step n words
-    → 1 < count → m ≡ n / 2
-    → (count / 2 < t) × (((from < 2 * stride) × (2 * stride * (count / 2) ≤ src)) × (Halves (count / 2) m × Spaced (2 * at + 1) (2 * step) m words))
-half-asks t from stride count at step n m src words et hf hs hh hp hc em =
+pub half-asks : (t from stride count at2 step n m src words : ℕ) → count ≡ t → from < 2 * stride → stride * count ≤ src → Halves count n → at2 < 2 * step
+    → step * n ≡ words → 1 < count → m ≡ n / 2
+    → (count / 2 < t) × (((from < 2 * stride) × (2 * stride * (count / 2) ≤ src)) × (Halves (count / 2) m × Spaced at2 (2 * step) m words))
+half-asks t from stride count at2 step n m src words et hf hs hh hp hw hc em =
     let q = half count n hh hc in
     let e : stride * count ≡ stride * (count / 2 + count / 2) = ap (λ (x : ℕ). stride * x) (q .count-is) in
-    let spaced = spaced-half at step (n / 2) (subst (λ (x : ℕ). Spaced at step x words) (q .size-is) hp) in
-    (omega arith, ((hf, omega arith), (rw em (q .halves), rw em spaced)))
+    let r : step * n ≡ step * (n / 2 + n / 2) = ap (λ (x : ℕ). step * x) (q .size-is) in
+    let round : 2 * step * (n / 2) ≡ words = omega arith in
+    (omega arith, ((hf, omega arith), (rw em (q .halves), (hp, rw em round))))
 
 -- the whole table, from the two calls and the join
 pub whole-table : (field : ℕ) (src : List ℕ) (from stride count : ℕ) (pw : List ℕ) (at step h : ℕ) (l l₁ l₂ out : List ℕ) → h ≡ length l / 2

@@ -1,4 +1,4 @@
--- A polynomial's table over the points at every step-th place of a table of powers, from the tables of its even and its odd half over their squares.
+-- A polynomial's table over points that stand in a table of powers, from the tables of its even and its odd half over their squares.
 use mathlib.Core.Path.{_≡_}
 use mathlib.Core.List.{List, [], _∷_}
 use Prim.Native.Nat.{ℕ, zero, suc, _+_, _*_, _^_, _≤_, _<_}
@@ -20,7 +20,7 @@ pub record Halves (count n : ℕ) : Type 0 where
   pub size-is : n ≡ 2 ^ logSize
   pub fits : log ≤ logSize
 
--- at, at + step, at + 2·step, .. go once round a table of so many words in n places
+-- the n places at, at + step, at + 2·step, .. go once round a table of so many words
 abbrev pub Spaced : ℕ → ℕ → ℕ → ℕ → Type 0
 Spaced at step n words = (at < step) × (step * n ≡ words)
 

@@ -1,6 +1,6 @@
 // A polynomial's table over a domain, from its even and its odd half: f(y) = E(y²) + y·O(y²) at every point y. The points are read from the table of the
-// powers of ω. The squares of n points that go round the table are n/2 points that go round it with twice the step, and points n/2 apart have the same
-// square: so the tables of E and O over the squares give f's table with one product a value.
+// powers of ω. The squares of n points that go once round it are n/2 points that go round it with twice the step, and points n/2 apart have the same
+// square: so the tables of E and O over the squares give f's table with one product for each value.
 ghost use mathlib.Core.Path.{_≡_};
 ghost use Prim.Native.Nat.{_+_, _*_, _%_, _≤_, _<_};
 ghost use lib.ListN.{length, replicate};
@@ -20,7 +20,7 @@ fn fill(field: u32, c: u32, out: &mut [u32])
     }
 }
 
-// The j-th of the points at at, at + step, .. of pw.
+// Point j of those that stand in pw from place `at` on, step places apart.
 fn point(pw: &[u32], at: usize, step: usize, j: usize) -> u32
     requires { ⌜ at + step * j < length (now pw) ⌝ }
     ensures { λ r. ⌜ r ≡ pointAt (now (pw .entry)) at step j ⌝ }
@@ -39,7 +39,7 @@ fn turn(field: u32, h: usize, j: usize, x: u32, y: u32, out: &mut [u32])
     out[h + j] = field::add_product(field, e, y, o);
 }
 
-// The tables of the even and of the odd half, h values each, joined in place over the points at at, at + step, .. of pw.
+// The tables of the even and of the odd half, h values each, joined in place. The points stand in pw from place `at` on, step places apart.
 fn join(field: u32, h: usize, pw: &[u32], at: usize, step: usize, out: &mut [u32])
     requires { ⌜ (length (now out) ≡ h + h) × Spaced at step (h + h) (length (now pw)) ⌝ }
     ensures { λ _. ⌜ Joined (fieldOf field) (now (pw .entry)) at step h h (now (out .entry)) (now (out .exit)) ⌝ }
@@ -53,7 +53,8 @@ fn join(field: u32, h: usize, pw: &[u32], at: usize, step: usize, out: &mut [u32
     }
 }
 
-// The table, over the points at at, at + step, .. of pw, of the polynomial whose count coefficients stand in src at from, from + stride, ..
+// The table of the polynomial whose count coefficients stand in src from place `from` on, stride places apart, over the points that stand in pw from
+// place `at` on, step places apart.
 fn table(
     field: u32,
     src: &[u32],
@@ -73,33 +74,14 @@ fn table(
         fill(field, src[from], out);
     } else {
         let odd = from + stride;
-        let pairs = 2 * stride;
-        let half = count / 2;
+        let stride2 = 2 * stride;
+        let d = count / 2;
+        // where the squares of the points stand
+        let at2 = 2 * at + 1;
+        let step2 = 2 * step;
         let h = out.len() / 2;
-        let first = 2 * at + 1;
-        let squares = 2 * step;
-        table(
-            field,
-            src,
-            from,
-            pairs,
-            half,
-            pw,
-            first,
-            squares,
-            &mut out[..h],
-        );
-        table(
-            field,
-            src,
-            odd,
-            pairs,
-            half,
-            pw,
-            first,
-            squares,
-            &mut out[h..],
-        );
+        table(field, src, from, stride2, d, pw, at2, step2, &mut out[..h]);
+        table(field, src, odd, stride2, d, pw, at2, step2, &mut out[h..]);
         join(field, h, pw, at, step, out);
     }
 }

@@ -5,7 +5,7 @@ use native.Mathlib.Omega.{arith}
 use lib.ListN.{length}
 use lib.Seq.{length-take-le}
 use borrow.Author.Needs.{needs}
-use Prim.Native.Nat.{ℕ, _+_, _*_, _/_, _<_, _≤_}
+use Prim.Native.Nat.{ℕ, _/_, _<_, _≤_}
 use borrow.Fn.Kinds.{In}
 use borrow.Fn.PlainCycle.{Measures, is, falls, and}
 use Rattle.tables.specs.Halving.{Spaced}
@@ -58,27 +58,27 @@ table-add-odd t c =
     let two : 2 ≤ a .count = omega arith in
     omega (arith, mul-le-mul-left (a .stride) two)
 
-table-mul-pairs : (t : ℕ) → table-lts.Need-mul-pairs (called t) (table-at t) table.Post
-table-mul-pairs t c =
+table-mul-stride2 : (t : ℕ) → table-lts.Need-mul-stride2 (called t) (table-at t) table.Post
+table-mul-stride2 t c =
     let s = c .before .before .before .before in
     let a = s .args in
     let two : 2 ≤ a .count = omega arith in
     omega (arith, mul-le-mul-left (a .stride) two)
 
-table-mul-first : (t : ℕ) → table-lts.Need-mul-first (called t) (table-at t) table.Post
-table-mul-first t c =
+table-mul-at2 : (t : ℕ) → table-lts.Need-mul-at2 (called t) (table-at t) table.Post
+table-mul-at2 t c =
     let s = c .before .before .before .before in
     let a = s .args in
     omega (arith, step-twice (a .at) (a .step) (a .count) (length (a .out .now)) (s .pre .1 .1 .0) (s .pre .1 .1 .1) (c .if1 .left))
 
-table-add-first : (t : ℕ) → table-lts.Need-add-first (called t) (table-at t) table.Post
-table-add-first t c =
+table-add-at2 : (t : ℕ) → table-lts.Need-add-at2 (called t) (table-at t) table.Post
+table-add-at2 t c =
     let s = c .before .before .before .before in
     let a = s .args in
     omega (arith, step-twice (a .at) (a .step) (a .count) (length (a .out .now)) (s .pre .1 .1 .0) (s .pre .1 .1 .1) (c .if1 .left))
 
-table-mul-squares : (t : ℕ) → table-lts.Need-mul-squares (called t) (table-at t) table.Post
-table-mul-squares t c =
+table-mul-step2 : (t : ℕ) → table-lts.Need-mul-step2 (called t) (table-at t) table.Post
+table-mul-step2 t c =
     let s = c .before .before .before .before in
     let a = s .args in
     omega (arith, step-twice (a .at) (a .step) (a .count) (length (a .out .now)) (s .pre .1 .1 .0) (s .pre .1 .1 .1) (c .if1 .left))
@@ -94,8 +94,8 @@ table-table-requires t c κs =
     let s = c .before .before .before .before .before in
     let a = s .args in
     let q = half (a .count) (length (a .out .now)) (s .pre .1 .1 .0) (c .before .if1 .left) in
-    half-asks t (a .from) (a .stride) (a .count) (a .at) (a .step) (length (a .out .now)) _ (length (a .src .now)) (length (a .pw .now))
-    (s .pre .0) (omega arith) (s .pre .1 .0 .1) (s .pre .1 .1 .0) (s .pre .1 .1 .1) (c .before .if1 .left)
+    half-asks t _ (a .stride) (a .count) _ (a .step) (length (a .out .now)) _ (length (a .src .now)) (length (a .pw .now))
+    (s .pre .0) (omega arith) (s .pre .1 .0 .1) (s .pre .1 .1 .0) (omega arith) (s .pre .1 .1 .1 .1) (c .before .if1 .left)
     (first-length (a .out .now) (length (a .out .now) / 2) (q .size-is))
 
 table-mul-table : (t : ℕ) → table-lts.Need-mul-table (called t) (table-at t) table.Post
@@ -132,8 +132,8 @@ table-table-requires-2 t c κs =
     let t₁ = c .before .before .before .table in
     let l₁ = t₁ .last .1 .1 .1 .1 .1 .1 .1 .1 .0 in
     let n₁ = t₁ .kept .1 .1 .1 .1 .1 .1 .1 .1 .0 in
-    half-asks t (a .from + a .stride) (a .stride) (a .count) (a .at) (a .step) (length (a .out .now)) _ (length (a .src .now)) (length (a .pw .now))
-    (s .pre .0) (omega arith) (s .pre .1 .0 .1) (s .pre .1 .1 .0) (s .pre .1 .1 .1) (c .before .before .before .before .before .if1 .left)
+    half-asks t _ (a .stride) (a .count) _ (a .step) (length (a .out .now)) _ (length (a .src .now)) (length (a .pw .now))
+    (s .pre .0) (omega arith) (s .pre .1 .0 .1) (s .pre .1 .1 .0) (omega arith) (s .pre .1 .1 .1 .1) (c .before .before .before .before .before .if1 .left)
     (second-length (a .out .now) l₁ (length (a .out .now) / 2) (q .size-is) n₁)
 
 table-join-requires : (t : ℕ) → table-lts.Need-join-requires (called t) (table-at t) table.Post
@@ -185,8 +185,10 @@ table-returns-2 t c =
     let l₂ = t₂ .last .1 .1 .1 .1 .1 .1 .1 .1 .0 in
     let n₂ = t₂ .kept .1 .1 .1 .1 .1 .1 .1 .1 .0 in
     let j = c .before .before .join in
-    whole-table (a .field) (a .src .now) (a .from) (a .stride) (a .count) (a .pw .now) (a .at) (a .step) (length (a .out .now) / 2) (a .out .now) l₁ l₂ (j .last .1 .1 .1 .1 .1 .0)
-    refl (s .pre .1 .1 .0) (s .pre .1 .1 .1) (c .before .before .before .before .before .before .before .before .before .before .before .before .if1 .left) n₁ (t₁ .ensures) n₂ (t₂ .ensures) (j .ensures)
+    whole-table (a .field) (a .src .now) (a .from) (a .stride) (a .count) (a .pw .now) (a .at) (a .step) (length (a .out .now) / 2)
+    (a .out .now) l₁ l₂ (j .last .1 .1 .1 .1 .1 .0) refl (s .pre .1 .1 .0) (s .pre .1 .1 .1)
+    (c .before .before .before .before .before .before .before .before .before .before .before .before .if1 .left)
+    n₁ (t₁ .ensures) n₂ (t₂ .ensures) (j .ensures)
 
 pub +table-spec : {M : Type 1} → statement M
 +table-spec = close μ-table λ t. table-lts.spec (called t)
@@ -196,10 +198,10 @@ pub +table-spec : {M : Type 1} → statement M
     (table-shared-slice-read-fill t)
     (table-fill-requires t)
     (table-add-odd t)
-    (table-mul-pairs t)
-    (table-mul-first t)
-    (table-add-first t)
-    (table-mul-squares t)
+    (table-mul-stride2 t)
+    (table-mul-at2 t)
+    (table-add-at2 t)
+    (table-mul-step2 t)
     (table-slice-relend-prefix-table t)
     (table-slice-aggregate-table t)
     (table-table-requires t)
