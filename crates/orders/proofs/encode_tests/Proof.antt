@@ -1,0 +1,39 @@
+-- `orders::encode_tests`: the sheet's tests, then those after them.
+use borrow.Author.Needs.{needs}
+use Rattle.outcome.specs.Meaning.{outcomeOf}
+use Rattle.orders.proofs.Stages.{sheet-refused, sheet-long, sheet-passed, after-sheet}
+use Rattle.orders.proofs.encode_tests.Statement.{statement}
+use Rattle.orders.proofs.encode_tests.Tie as tie
+
+sheet-tests-requires : tie.Need-sheet-tests-requires
+sheet-tests-requires c κs = search needs
+
+enum-known-sheet : tie.Need-enum-known-sheet
+enum-known-sheet c = search needs
+
+returns : tie.Need-returns
+unfolding outcomeOf
+returns c = λ output l. sheet-refused (c .before .before .before .before .before .before .args .w .now) (c .before .before .before .sheet-tests .ensures) _ (c .before .sheet .given .1)
+
+enum-told : tie.Need-enum-told
+enum-told c = search needs
+
+encode-after-sheet-requires : tie.Need-encode-after-sheet-requires
+encode-after-sheet-requires c κs =
+    let w = c .before .before .before .before .before .args .w .now in
+    let first = c .before .before .sheet-tests .ensures in
+    (sheet-long w first (c .enum-told .given .1), sheet-passed w first (c .enum-told .given .1))
+
+returns-2 : tie.Need-returns-2
+returns-2 c = λ output l. after-sheet (c .before .before .before .before .before .before .args .w .now) (c .before .before .before .sheet-tests .ensures) (c .before .enum-told .given .1) (c .encode-after-sheet .ensures output l)
+
+pub encode-tests-spec : {M : Type 1} → statement M
+encode-tests-spec =
+    tie.close
+    (tie.spec
+    sheet-tests-requires
+    enum-known-sheet
+    returns
+    enum-told
+    encode-after-sheet-requires
+    returns-2)
