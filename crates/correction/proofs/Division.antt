@@ -24,12 +24,12 @@ module _ (F : Field ℕ) where
   first [] = refl
   first (x ∷ l) = refl
 
-  scheme-cons : (a d : ℕ) (f rest : List ℕ) {v m r : ℕ} → v ∷ rest ≡ scheme a f → m ≡ a ⊗ v → r ≡ d ⊕ m →
+  scheme-cons : (a d : ℕ) (f rest : List ℕ) {v r : ℕ} → v ∷ rest ≡ scheme a f → r ≡ d ⊕ a ⊗ v →
       r ∷ v ∷ rest ≡ scheme a (d ∷ f)
   unfolding scheme horner
-  scheme-cons a d f rest e em er =
+  scheme-cons a d f rest e er =
       let head = ap (λ (l : List ℕ). getD l 0 𝟘) e ∙ first (horner F a f) in
-      λ i. (er ∙ ap (λ (t : ℕ). d ⊕ t) (em ∙ ap (λ (t : ℕ). a ⊗ t) head)) i ∷ e i
+      λ i. (er ∙ ap (λ (t : ℕ). d ⊕ a ⊗ t) head) i ∷ e i
 
   pub scheme-start : (f₀ f : List ℕ) (n a : ℕ) → 𝟘 ∷ take (n - n) (drop n f) ≡ scheme a (take (n - n) (drop n f₀))
   unfolding scheme horner
@@ -37,13 +37,13 @@ module _ (F : Field ℕ) where
       let z : n - n ≡ 0 = omega arith in
       rw z
 
-  pub scheme-turn : (f₀ f : List ℕ) (n i a : ℕ) {v m r : ℕ} → 0 < i → i ≤ n → n ≤ length f → n ≤ length f₀ →
+  pub scheme-turn : (f₀ f : List ℕ) (n i a : ℕ) {v r : ℕ} → 0 < i → i ≤ n → n ≤ length f → n ≤ length f₀ →
       getD f (i - 1) 0 ≡ getD f₀ (i - 1) 0 →
-      v ∷ take (n - i) (drop i f) ≡ scheme a (take (n - i) (drop i f₀)) → m ≡ a ⊗ v → r ≡ getD f (i - 1) 0 ⊕ m →
+      v ∷ take (n - i) (drop i f) ≡ scheme a (take (n - i) (drop i f₀)) → r ≡ getD f (i - 1) 0 ⊕ a ⊗ v →
       r ∷ take (n - (i - 1)) (drop (i - 1) (set f (i - 1) v)) ≡ scheme a (take (n - (i - 1)) (drop (i - 1) f₀))
-  scheme-turn f₀ f n i a {v} {m} {r} h k l l₀ same e em er =
+  scheme-turn f₀ f n i a {v} {r} h k l l₀ same e er =
       rw (part-store f n i v h k l, part-back f₀ n i h k l₀)
-      (scheme-cons a (getD f₀ (i - 1) 0) (take (n - i) (drop i f₀)) (take (n - i) (drop i f)) e em (er ∙ ap (λ (t : ℕ). t ⊕ m) same))
+      (scheme-cons a (getD f₀ (i - 1) 0) (take (n - i) (drop i f₀)) (take (n - i) (drop i f)) e (er ∙ ap (λ (t : ℕ). t ⊕ a ⊗ v) same))
 
   -- the places of the scheme without its head are those of the quotient
   scheme-tail : (a : ℕ) (f rest : List ℕ) {v : ℕ} → v ∷ rest ≡ scheme a f → take (length f - 1) rest ≡ divide F f a

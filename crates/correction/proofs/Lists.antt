@@ -39,16 +39,6 @@ part-store l n i v h k e =
     let b : i ≤ length l = omega arith in
     rw (one-more n i h k, drop-store l i v h b)
 
--- the n elements from number `from` on, from the one at i - 1 on
-pub window-back : (l : List ℕ) (from n i : ℕ) → 0 < i → i ≤ n → from + n ≤ length l →
-    take (n - (i - 1)) (drop (from + (i - 1)) l) ≡ getD l (from + (i - 1)) 0 ∷ take (n - i) (drop (from + i) l)
-window-back l from n i h k e =
-    let place : from + i - 1 ≡ from + (i - 1) = omega arith in
-    let a : 0 < from + i = omega arith in
-    let b : from + i ≤ length l = omega arith in
-    let d : drop (from + (i - 1)) l ≡ getD l (from + (i - 1)) 0 ∷ drop (from + i) l = rw place at (drop-back l (from + i) a b) in
-    rw (one-more n i h k, d)
-
 -- a store leaves the places below it
 pub unchanged : (l m : List ℕ) (i v : ℕ) → ((j : ℕ) → j < i → getD l j 0 ≡ getD m j 0) → 0 < i →
     (j : ℕ) → j < i - 1 → getD (set l (i - 1) v) j 0 ≡ getD m j 0

@@ -4,23 +4,9 @@ ghost use mathlib.Core.Path.{_≡_};
 ghost use Prim.Native.Nat.{_+_, _-_, _*_, _≤_, _<_};
 ghost use lib.ListN.{length, take, drop, replicate};
 ghost use Rattle.definition.specs.Field.{fieldOf};
-ghost use Rattle.definition.specs.Polynomial.{evaluate, addPoly, mulPoly, divide, quotient, geometric, foldPoly};
+ghost use Rattle.definition.specs.Polynomial.{addPoly, mulPoly, divide, quotient, geometric, foldPoly};
 ghost use Rattle.correction.specs.Products.{multiples};
 ghost use Rattle.correction.specs.Corrected.{Corrected};
-
-// The value at x of the polynomial with the `count` coefficients from number `from` on, by Horner's rule.
-pub fn value_of(field: u32, f: &[u32], from: usize, count: usize, x: u32) -> u32
-    requires { ⌜ from + count ≤ length (now f) ⌝ }
-    ensures { λ r. ⌜ r ≡ evaluate (fieldOf field) (take count (drop from (now (f .entry)))) x ⌝ }
-{
-    let mut value: u32 = 0;
-    let mut i = count;
-    while 0 < i {
-        i -= 1;
-        value = field::add(field, f[from + i], field::mul(field, x, value));
-    }
-    value
-}
 
 // The fold of f at r: coefficient j is the value at r of f's coefficients from number j·k on, k of them.
 pub fn fold(field: u32, k: usize, r: u32, f: &[u32], out: &mut [u32])
@@ -30,7 +16,8 @@ pub fn fold(field: u32, k: usize, r: u32, f: &[u32], out: &mut [u32])
     let mut j = out.len();
     while 0 < j {
         j -= 1;
-        out[j] = value_of(field, f, j * k, k, r);
+        let from = j * k;
+        out[j] = polynomial::value_at(field, &f[from..from + k], r);
     }
 }
 
@@ -46,7 +33,7 @@ pub fn divide(field: u32, a: u32, f: &mut [u32], count: usize)
         i -= 1;
         let coefficient = f[i];
         f[i] = above;
-        above = field::add(field, coefficient, field::mul(field, a, above));
+        above = field::add_product(field, coefficient, a, above);
     }
 }
 

@@ -38,26 +38,23 @@ mul-f c = omega arith
 slice-write-f : tie.Need-slice-write-f Inv-loop μ-loop
 slice-write-f c = omega arith
 
-mul-requires : tie.Need-mul-requires Inv-loop μ-loop
-mul-requires c κs = omega arith
-
-add-requires : tie.Need-add-requires Inv-loop μ-loop
-add-requires c κs = omega arith
+add-product-requires : tie.Need-add-product-requires Inv-loop μ-loop
+add-product-requires c κs = omega arith
 
 loop-less : tie.Need-loop-less Inv-loop μ-loop
 loop-less c = omega arith
 
 loop-again : tie.Need-loop-again Inv-loop μ-loop
 loop-again c =
-    let l = c .before .before .before .before .loop in
-    let a = c .before .before .before .before .before .before .args in
+    let l = c .before .before .before .loop in
+    let a = c .before .before .before .before .before .args in
     let n = l .inv .1 in (
       omega arith,
       (
         simp length-set (n .0),
         (
           unchanged (l .f) (a .f .now) (l .i) (l .above) (n .1 .0) (omega arith),
-          scheme-turn (fieldOf (a .field)) (a .f .now) (l .f) (a .count) (l .i) (a .a) (omega arith) (omega arith) (omega arith) (omega arith) (n .1 .0 (l .i - 1) (omega arith)) (n .1 .1) (c .before .mul .ensures) (c .add .ensures),
+          scheme-turn (fieldOf (a .field)) (a .f .now) (l .f) (a .count) (l .i) (a .a) (omega arith) (omega arith) (omega arith) (omega arith) (n .1 .0 (l .i - 1) (omega arith)) (n .1 .1) (c .add-product .ensures),
         ),
       ),
     )
@@ -83,8 +80,7 @@ divide-spec =
     slice-read-coefficient
     mul-f
     slice-write-f
-    mul-requires
-    add-requires
+    add-product-requires
     loop-less
     loop-again
     same-length
