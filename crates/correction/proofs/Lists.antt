@@ -46,15 +46,3 @@ unchanged l m i v e h j k = getD-set-other l (i - 1) j v 0 (λ z. less j (i - 1)
   where
     less : (a b : ℕ) → a < b → a ≡ b → ⊥
     less a b x y = omega arith
-
--- noughts stored one by one
-pub clear-start : (out : List ℕ) → drop (length out) out ≡ replicate (length out - length out) 0
-clear-start out =
-    let z : length out - length out ≡ 0 = omega arith in
-    rw z (drop-length out)
-
-pub clear-turn : (out : List ℕ) (n i : ℕ) → 0 < i → i ≤ n → n ≡ length out → drop i out ≡ replicate (n - i) 0 →
-    drop (i - 1) (set out (i - 1) 0) ≡ replicate (n - (i - 1)) 0
-clear-turn out n i h k l e =
-    let b : i ≤ length out = omega arith in
-    drop-store out i 0 h b ∙ ap (λ (t : List ℕ). 0 ∷ t) e ∙ sym (ap (λ (m : ℕ). replicate m 0) (one-more n i h k))

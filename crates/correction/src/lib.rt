@@ -1,11 +1,11 @@
 // The prover's round polynomial: fold, quotient, degree correction. Polynomials are slices of coefficients, lowest first; each function takes the
 // field by its number and any words.
 ghost use mathlib.Core.Path.{_≡_};
-ghost use Prim.Native.Nat.{_+_, _-_, _*_, _≤_, _<_};
-ghost use lib.ListN.{length, take, drop, replicate};
-ghost use Rattle.definition.specs.Field.{fieldOf};
-ghost use Rattle.definition.specs.Polynomial.{addPoly, mulPoly, divide, quotient, geometric, foldPoly};
-ghost use Rattle.correction.specs.Products.{multiples};
+ghost use mathlib.Core.List.{_++_};
+ghost use Prim.Native.Nat.{suc, _+_, _-_, _*_, _≤_, _<_};
+ghost use lib.ListN.{length, take, drop, getD, replicate};
+ghost use Rattle.definition.specs.Field.{Field, fieldOf, power};
+ghost use Rattle.definition.specs.Polynomial.{mulPoly, divide, quotient, geometric, foldPoly};
 ghost use Rattle.correction.specs.Corrected.{Corrected};
 
 // The fold of f at r: coefficient j is the value at r of f's coefficients from number j·k on, k of them.
@@ -51,43 +51,42 @@ pub fn quotient(field: u32, xs: &[u32], from: usize, f: &mut [u32], count: usize
     }
 }
 
-// Noughts from place `from` on.
-fn clear(out: &mut [u32], from: usize)
-    requires { ⌜ from ≤ length (now out) ⌝ }
-    ensures { λ _. ⌜ drop from (now (out .exit)) ≡ replicate (length (now (out .entry)) - from) 0 ⌝ }
+// Coefficient i of X^n·q.
+fn shifted(q: &[u32], n: usize, i: usize) -> u32
+    ensures { λ r. ⌜ r ≡ getD (replicate n 0 ++ now (q .entry)) i 0 ⌝ }
 {
-    let mut i = out.len();
-    while from < i {
-        i -= 1;
-        out[i] = 0;
+    if i < n {
+        return 0;
     }
+    let j = i - n;
+    if q.len() <= j {
+        return 0;
+    }
+    q[j]
 }
 
-// Adds w, cw, c²w, .., `count` terms, to the coefficients from place `at` on.
-fn add_multiples(field: u32, c: u32, w: u32, out: &mut [u32], at: usize, count: usize)
-    requires { ⌜ at + count ≤ length (now out) ⌝ }
-    ensures { λ _. ⌜ drop at (now (out .exit)) ≡ addPoly (fieldOf field) (multiples (fieldOf field) c w count) (drop at (now (out .entry))) ⌝ }
+// -c^(e+1), from (1 - c)·(1 + c + .. + c^e) = 1 - c^(e+1): the sum is at hand by doubling, for an exponent of any size.
+fn minus_power(field: u32, c: u32, e: usize) -> u32
+    ensures { λ r. ⌜ r ≡ fieldOf field ._⊖_ 0 (power (fieldOf field) c (suc e)) ⌝ }
 {
-    let mut term = w;
-    let mut m = 0;
-    while m < count {
-        out[at + m] = field::add(field, term, out[at + m]);
-        term = field::mul(field, c, term);
-        m += 1;
-    }
+    let sum = polynomial::geometric_at(field, c, e, 1);
+    field::sub(field, field::mul(field, field::sub(field, 1, c), sum), 1)
 }
 
-// The product of q and 1 + cX + .. + (cX)^e, from the last coefficient of q to the first.
+// The product of q and g = 1 + cX + .. + (cX)^e, from the lowest coefficient up. (1 - cX)·g is 1 - (cX)^(e+1), so that each coefficient is c times the
+// one before it and what q·(1 - (cX)^(e+1)) has in its place.
 pub fn correct(field: u32, c: u32, e: usize, q: &[u32], out: &mut [u32])
     requires { ⌜ (0 < length (now q)) × (length (now out) ≡ length (now q) + e) ⌝ }
     ensures { λ _. ⌜ now (out .exit) ≡ mulPoly (fieldOf field) (now (q .entry)) (geometric (fieldOf field) c e) ⌝ }
 {
-    let mut i = q.len();
-    clear(out, i);
-    while 0 < i {
-        i -= 1;
-        out[i] = 0;
-        add_multiples(field, c, field::mul(field, q[i], 1), out, i, e + 1);
+    let t = minus_power(field, c, e);
+    let mut last: u32 = 0;
+    let mut i = 0;
+    while i < out.len() {
+        let fresh = field::add_product(field, shifted(q, 0, i), t, shifted(q, e + 1, i));
+        last = field::add_product(field, fresh, c, last);
+        out[i] = last;
+        i += 1;
     }
 }
 
