@@ -37,6 +37,24 @@ pub fn divide(field: u32, a: u32, f: &mut [u32], count: usize)
     }
 }
 
+// The quotient by X - a and of that by X - b, in one pass. The first quotient is not stored: each of its coefficients goes to the second scheme as it
+// leaves the first, and the two schemes take the time of one.
+fn divide_two(field: u32, a: u32, b: u32, f: &mut [u32], count: usize)
+    requires { ⌜ count ≤ length (now f) ⌝ }
+    ensures { λ _. ⌜ take (count - 2) (now (f .exit)) ≡ divide (fieldOf field) (divide (fieldOf field) (take count (now (f .entry))) a) b ⌝ }
+{
+    let mut first: u32 = 0;
+    let mut second: u32 = 0;
+    let mut i = count;
+    while 0 < i {
+        i -= 1;
+        let coefficient = f[i];
+        f[i] = second;
+        second = field::add_product(field, first, b, second);
+        first = field::add_product(field, coefficient, a, first);
+    }
+}
+
 // The quotient of the polynomial in the first `count` coefficients by the product of X - a over the points from number `from` on, in place.
 pub fn quotient(field: u32, xs: &[u32], from: usize, f: &mut [u32], count: usize)
     requires { ⌜ (from ≤ length (now xs)) × ((length (now xs) - from ≤ count) × (count ≤ length (now f))) ⌝ }
@@ -44,10 +62,13 @@ pub fn quotient(field: u32, xs: &[u32], from: usize, f: &mut [u32], count: usize
 {
     let mut left = count;
     let mut i = from;
-    while i < xs.len() {
+    while i + 1 < xs.len() {
+        divide_two(field, xs[i], xs[i + 1], f, left);
+        left -= 2;
+        i += 2;
+    }
+    if i < xs.len() {
         divide(field, xs[i], f, left);
-        left -= 1;
-        i += 1;
     }
 }
 
