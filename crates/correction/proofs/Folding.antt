@@ -4,7 +4,7 @@ use mathlib.Core.Path.{_≡_, refl, sym, ap, _∙_}
 use mathlib.Core.List.{List, [], _∷_, map}
 use native.Mathlib.Nat.{not-suc-le-zero, suc-mul, zero-mul, mul-comm, mul-le-mul-left, mul-div-cancel-left}
 use native.Mathlib.Omega.{arith}
-use lib.ListN.{length, take, drop, getD, set}
+use lib.ListN.{length, take, drop, set}
 use lib.Seq.{drop-drop, drop-length}
 use Rattle.definition.specs.Lists.{chunks}
 use Rattle.definition.specs.Field.{Field}

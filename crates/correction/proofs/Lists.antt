@@ -1,11 +1,11 @@
 -- A list walked from its back to its front, with or without a store at each place.
-use Prim.Native.Nat.{ℕ, zero, suc, _+_, _-_, _≤_, _<_}
-use mathlib.Core.Path.{_≡_, sym, ap, _∙_}
+use Prim.Native.Nat.{ℕ, zero, suc, _-_, _≤_, _<_}
+use mathlib.Core.Path.{_≡_, _∙_}
 use mathlib.Core.List.{List, _∷_}
 use native.Mathlib.Nat.{not-suc-le-zero}
 use native.Mathlib.Omega.{arith}
-use lib.ListN.{length, take, drop, getD, set, length-set, replicate}
-use lib.Seq.{drop-cons, drop-length, drop-set-lt, getD-set-same, getD-set-other}
+use lib.ListN.{length, take, drop, getD, set, length-set}
+use lib.Seq.{drop-cons, drop-set-lt, getD-set-same, getD-set-other}
 
 pub sub-one : (i : ℕ) → suc i - 1 ≡ i
 sub-one i = omega arith

@@ -1,17 +1,17 @@
 -- The start, the turn and the end of the product's recurrence in its loop.
-use Prim.Native.Nat.{ℕ, zero, suc, _+_, _-_, _≤_, _<_}
-use mathlib.Core.Path.{_≡_, refl, sym, ap, _∙_}
+use Prim.Native.Nat.{ℕ, suc, _+_, _-_, _≤_, _<_}
+use mathlib.Core.Path.{_≡_, sym, _∙_}
 use mathlib.Core.List.{List, [], _∷_, _++_}
 use native.Mathlib.Numerals.{add-one}
 use native.Mathlib.Omega.{arith}
 use lib.ListN.{length, take, drop, getD, set, replicate, length-drop, length-replicate, getD-replicate, List·getD-append}
 use lib.Seq.{take-suc, take-suc-set, take-all, getD-append-add}
-use Rattle.definition.specs.Field.{Field}
+use Rattle.definition.specs.Field.{Field, power}
 use Rattle.definition.specs.Polynomial.{Sample, points, mulPoly, quotient, geometric, correctedPoly}
 use Rattle.algebra.specs.Laws.{FieldLaws}
 use Rattle.algebra.specs.Lengths.{length-geometric, length-mul-pos}
 use Rattle.correction.specs.Corrected.{corrected-is}
-use Rattle.correction.proofs.Recurrence.{at, shifted, minus, recurrence}
+use Rattle.correction.proofs.Recurrence.{at, shifted, recurrence}
 
 -- a list behind n noughts, at a place among these and at one behind them
 pub among-noughts : (l : List ℕ) (n i : ℕ) → i < n → getD (replicate n 0 ++ l) i 0 ≡ 0
@@ -27,9 +27,9 @@ pub take-end : (l m : List ℕ) (i : ℕ) → length l ≤ i → length m ≤ i 
 take-end l m i hl hm e = sym (take-all i l hl) ∙ e ∙ take-all i m hm
 
 module _ (F : Field ℕ) (L : FieldLaws F) where
-  infixl 65 _⊕_
+  infixl 65 _⊕_ _⊖_
   infixl 70 _⊗_
-  open Field F using (𝟘, _⊕_, _⊗_)
+  open Field F using (𝟘, _⊕_, _⊖_, _⊗_)
 
   pub product-length : (q : List ℕ) (c e : ℕ) → 0 < length q → length (mulPoly F q (geometric F c e)) ≡ length q + e
   product-length q c e h =
@@ -40,7 +40,7 @@ module _ (F : Field ℕ) (L : FieldLaws F) where
   -- one coefficient more by the recurrence
   pub product-turn : (q out : List ℕ) (c e i : ℕ) {t u v fresh last next : ℕ} → 0 < length q → length out ≡ length q + e → i < length out →
       let p = mulPoly F q (geometric F c e) in
-      take i out ≡ take i p → last ≡ at F (𝟘 ∷ p) i → t ≡ minus F L c e → u ≡ shifted F 0 q i → v ≡ shifted F (e + 1) q i → fresh ≡ u ⊕ t ⊗ v →
+      take i out ≡ take i p → last ≡ at F (𝟘 ∷ p) i → t ≡ 𝟘 ⊖ power F c (e + 1) → u ≡ shifted F 0 q i → v ≡ shifted F (e + 1) q i → fresh ≡ u ⊕ t ⊗ v →
       next ≡ fresh ⊕ c ⊗ last → (take (i + 1) (set out i next) ≡ take (i + 1) p) × (next ≡ at F (𝟘 ∷ p) (i + 1))
   product-turn q out c e i {next = next} hq ho hi et el em eu ev ef en =
       let p = mulPoly F q (geometric F c e) in

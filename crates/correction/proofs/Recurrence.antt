@@ -1,5 +1,5 @@
 -- The product with g = 1 + cX + .. + (cX)^e by a recurrence: (1 - cX)·g is 1 - (cX)^(e+1), so that each coefficient of q·g follows from the one
--- below it and from two coefficients of q. No coefficient is divided by, so c may be 0 too.
+-- below it and from two coefficients of q. Nothing is divided by, so it holds for every c.
 use Prim.Native.Nat.{ℕ, zero, suc}
 use mathlib.Core.Path.{_≡_, refl, sym, ap, _∙_}
 use mathlib.Core.List.{List, [], _∷_, _++_}

@@ -2,7 +2,7 @@
 // field by its number and any words.
 ghost use mathlib.Core.Path.{_≡_};
 ghost use mathlib.Core.List.{_++_};
-ghost use Prim.Native.Nat.{suc, _+_, _-_, _*_, _≤_, _<_};
+ghost use Prim.Native.Nat.{_+_, _-_, _*_, _≤_, _<_};
 ghost use lib.ListN.{length, take, drop, getD, replicate};
 ghost use Rattle.definition.specs.Field.{Field, fieldOf, power};
 ghost use Rattle.definition.specs.Polynomial.{mulPoly, divide, quotient, geometric, foldPoly};
@@ -88,7 +88,7 @@ fn shifted(q: &[u32], n: usize, i: usize) -> u32
 
 // -c^(e+1), from (1 - c)·(1 + c + .. + c^e) = 1 - c^(e+1): the sum is at hand by doubling, for an exponent of any size.
 fn minus_power(field: u32, c: u32, e: usize) -> u32
-    ensures { λ r. ⌜ r ≡ fieldOf field ._⊖_ 0 (power (fieldOf field) c (suc e)) ⌝ }
+    ensures { λ r. ⌜ r ≡ fieldOf field ._⊖_ 0 (power (fieldOf field) c (e + 1)) ⌝ }
 {
     let sum = polynomial::geometric_at(field, c, e, 1);
     field::sub(field, field::mul(field, field::sub(field, 1, c), sum), 1)

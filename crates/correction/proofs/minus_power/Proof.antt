@@ -1,5 +1,5 @@
 -- `correction::minus_power` meets its contract.
-use mathlib.Core.Path.{_≡_}
+use native.Mathlib.Numerals.{add-one}
 use Rattle.definition.specs.Field.{fieldOf, primeField}
 use Rattle.algebra.specs.PrimeField.{laws}
 use Rattle.correction.proofs.Recurrence.{minus-by-sum}
@@ -28,6 +28,7 @@ returns c =
       c .before .mul .ensures,
       c .before .before .sub .ensures,
       c .before .before .before .geometric-at .ensures,
+      add-one (a .e),
       minus-by-sum (fieldOf (a .field)) (laws (a .field)) (a .c) (a .e),
     )
 

@@ -1,6 +1,6 @@
 -- `correction::shifted` meets its contract.
 use native.Mathlib.Omega.{arith}
-use mathlib.Core.Path.{_≡_, sym, _∙_}
+use mathlib.Core.Path.{sym, _∙_}
 use lib.ListN.{List·getD-eq-default}
 use Rattle.correction.proofs.Products.{among-noughts, behind-noughts}
 use borrow.Author.Needs.{needs}
