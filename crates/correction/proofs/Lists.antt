@@ -1,8 +1,9 @@
 -- A list walked from its back to its front, with or without a store at each place.
-use Prim.Native.Nat.{ℕ, zero, suc, _-_, _≤_, _<_}
+use Prim.Native.Nat.{ℕ, zero, suc, _+_, _-_, _≤_, _<_}
 use mathlib.Core.Path.{_≡_, _∙_}
 use mathlib.Core.List.{List, _∷_}
 use native.Mathlib.Nat.{not-suc-le-zero}
+use native.Mathlib.Numerals.{add-one}
 use native.Mathlib.Omega.{arith}
 use lib.ListN.{length, take, drop, getD, set, length-set}
 use lib.Seq.{drop-cons, drop-set-lt, getD-set-same, getD-set-other}
@@ -46,3 +47,14 @@ unchanged l m i v e h j k = getD-set-other l (i - 1) j v 0 (λ z. less j (i - 1)
   where
     less : (a b : ℕ) → a < b → a ≡ b → ⊥
     less a b x y = omega arith
+
+-- one element more at the front, and four
+pub drop-one : (l : List ℕ) (i : ℕ) → i < length l → drop i l ≡ getD l i 0 ∷ drop (i + 1) l
+drop-one l i h = rw add-one (drop-cons l i 0 h)
+
+pub drop-four : (l : List ℕ) (i : ℕ) → i + 3 < length l → drop i l ≡ getD l i 0 ∷ getD l (i + 1) 0 ∷ getD l (i + 2) 0 ∷ getD l (i + 3) 0 ∷ drop (i + 4) l
+drop-four l i h =
+    let a : i + 1 + 1 ≡ i + 2 = omega arith in
+    let b : i + 2 + 1 ≡ i + 3 = omega arith in
+    let c : i + 3 + 1 ≡ i + 4 = omega arith in
+    cc (a, b, c, drop-one l i (omega arith), drop-one l (i + 1) (omega arith), drop-one l (i + 2) (omega arith), drop-one l (i + 3) h)

@@ -1,7 +1,7 @@
 // The prover's round polynomial: fold, quotient, degree correction. Polynomials are slices of coefficients, lowest first; each function takes the
 // field by its number and any words.
 ghost use mathlib.Core.Path.{_≡_};
-ghost use mathlib.Core.List.{_++_};
+ghost use mathlib.Core.List.{[], _∷_, _++_};
 ghost use Prim.Native.Nat.{_+_, _-_, _*_, _≤_, _<_};
 ghost use lib.ListN.{length, take, drop, getD, replicate};
 ghost use Rattle.definition.specs.Field.{Field, fieldOf, power};
@@ -37,39 +37,56 @@ pub fn divide(field: u32, a: u32, f: &mut [u32], count: usize)
     }
 }
 
-// The quotient by X - a and of that by X - b, in one pass. The first quotient is not stored: each of its coefficients goes to the second scheme as it
-// leaves the first, and the two schemes take the time of one.
-fn divide_two(field: u32, a: u32, b: u32, f: &mut [u32], count: usize)
+// The quotient by X - a, X - b, X - c and X - d, in one pass. Only the last is stored: each coefficient of a quotient goes to the next scheme as it leaves
+// its own. The four schemes do not wait for one another, and so take little more time than one.
+fn divide_four(field: u32, a: u32, b: u32, c: u32, d: u32, f: &mut [u32], count: usize)
     requires { ⌜ count ≤ length (now f) ⌝ }
-    ensures { λ _. ⌜ take (count - 2) (now (f .exit)) ≡ divide (fieldOf field) (divide (fieldOf field) (take count (now (f .entry))) a) b ⌝ }
+    ensures { λ _. ⌜ take (count - 4) (now (f .exit)) ≡ quotient (fieldOf field) (take count (now (f .entry))) (a ∷ b ∷ c ∷ d ∷ []) ⌝ }
 {
     let mut first: u32 = 0;
     let mut second: u32 = 0;
+    let mut third: u32 = 0;
+    let mut fourth: u32 = 0;
     let mut i = count;
     while 0 < i {
         i -= 1;
         let coefficient = f[i];
-        f[i] = second;
+        f[i] = fourth;
+        fourth = field::add_product(field, third, d, fourth);
+        third = field::add_product(field, second, c, third);
         second = field::add_product(field, first, b, second);
         first = field::add_product(field, coefficient, a, first);
     }
 }
 
-// The quotient of the polynomial in the first `count` coefficients by the product of X - a over the points from number `from` on, in place.
+// The quotient of the polynomial in the first `count` coefficients by the product of X - a over the points from number `from` on, in place, by one
+// point after the other.
+fn divide_each(field: u32, xs: &[u32], from: usize, f: &mut [u32], count: usize)
+    requires { ⌜ (from ≤ length (now xs)) × ((length (now xs) - from ≤ count) × (count ≤ length (now f))) ⌝ }
+    ensures { λ _. ⌜ take (count - (length (now (xs .entry)) - from)) (now (f .exit)) ≡ quotient (fieldOf field) (take count (now (f .entry))) (drop from (now (xs .entry))) ⌝ }
+{
+    let mut left = count;
+    let mut i = from;
+    while i < xs.len() {
+        divide(field, xs[i], f, left);
+        left -= 1;
+        i += 1;
+    }
+}
+
+// The same by four points at a time, and what is left of them one by one.
 pub fn quotient(field: u32, xs: &[u32], from: usize, f: &mut [u32], count: usize)
     requires { ⌜ (from ≤ length (now xs)) × ((length (now xs) - from ≤ count) × (count ≤ length (now f))) ⌝ }
     ensures { λ _. ⌜ take (count - (length (now (xs .entry)) - from)) (now (f .exit)) ≡ quotient (fieldOf field) (take count (now (f .entry))) (drop from (now (xs .entry))) ⌝ }
 {
     let mut left = count;
     let mut i = from;
-    while i + 1 < xs.len() {
-        divide_two(field, xs[i], xs[i + 1], f, left);
-        left -= 2;
-        i += 2;
+    while i + 3 < xs.len() {
+        divide_four(field, xs[i], xs[i + 1], xs[i + 2], xs[i + 3], f, left);
+        left -= 4;
+        i += 4;
     }
-    if i < xs.len() {
-        divide(field, xs[i], f, left);
-    }
+    divide_each(field, xs, i, f, left);
 }
 
 // Coefficient i of X^n·q.
