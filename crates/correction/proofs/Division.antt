@@ -5,7 +5,7 @@ use mathlib.Core.List.{List, [], _∷_, _++_, tail, append-assoc, append-nil}
 use native.Mathlib.Numerals.{add-one}
 use native.Mathlib.Omega.{arith}
 use lib.ListN.{length, take, drop, getD, set, replicate, drop-of-length-le, replicate-append-replicate}
-use lib.Seq.{drop-cons, take-take, take-at, drop-at, length-take-le}
+use lib.Seq.{take-take, take-at, drop-at, length-take-le}
 use Rattle.definition.specs.Field.{Field}
 use Rattle.definition.specs.Polynomial.{horner, divide, quotient}
 use Rattle.algebra.specs.Laws.{FieldLaws}
@@ -21,6 +21,7 @@ module _ (F : Field ℕ) where
   abbrev pub noughts : ℕ → List ℕ
   noughts m = replicate m 𝟘
 
+  -- noughts behind a list leave its head
   first : (l : List ℕ) (m : ℕ) → getD (l ++ noughts m) 0 𝟘 ≡ getD l 0 𝟘
   first [] zero = refl
   first [] (suc m) = refl
@@ -35,8 +36,7 @@ module _ (F : Field ℕ) where
   scheme-head a [] = refl
   scheme-head a (x ∷ f) = refl
 
-  -- The schemes for a list of points, of which each but the first is of what stands in the places of the one before it: their heads, and the places of
-  -- the last.
+  -- The schemes for a list of points, each but the first of what stands in the places of the one before it: their heads, and the places of the last.
   unfoldable pub schemes : List ℕ → List ℕ → List ℕ
   schemes [] f = f
   schemes (a ∷ ps) f = getD (horner F a f) 0 𝟘 ∷ schemes ps (tail (scheme a f))
@@ -99,7 +99,7 @@ module _ (F : Field ℕ) where
   unfolding quotient
   quotient-nil f = refl
 
-  -- some points more: what is left to divide by has the same quotient
+  -- some points more, and all: what is left has, by the points that are left, the same quotient
   pub quotient-turn : (ps xs f f' : List ℕ) (i j n m : ℕ) {q : List ℕ} → drop i xs ≡ ps ++ drop j xs → quotient F (take n f) (drop i xs) ≡ q →
       take m f' ≡ quotient F (take n f) ps → quotient F (take m f') (drop j xs) ≡ q
   quotient-turn ps xs f f' i j n m d e t = cc (quotient-append (take n f) ps (drop j xs))
@@ -157,5 +157,6 @@ module _ (F : Field ℕ) (L : FieldLaws F) where
       let b : n - 0 ≡ n = omega arith in
       let whole : heads ++ take n f ≡ schemes F ps (take n f₀) = rw (z, b) at e in
       let m : length (take n f₀) ≡ n = length-take-le n f₀ l in
-      sym (take-take (n - length ps) n f (omega arith)) ∙ ap (take (n - length ps)) (sym (drop-at heads (take n f) (length ps) s) ∙ ap (drop (length ps)) (whole ∙ ap (schemes F ps) (sym (append-nil (take n f₀)))))
-      ∙ (rw m at (schemes-places ps (take n f₀) 0))
+      let none : take n f₀ ++ noughts F 0 ≡ take n f₀ = append-nil (take n f₀) in
+      let places : take n f ≡ drop (length ps) (schemes F ps (take n f₀)) = sym (drop-at heads (take n f) (length ps) s) ∙ ap (drop (length ps)) whole in
+      sym (take-take (n - length ps) n f (omega arith)) ∙ ap (take (n - length ps)) places ∙ (rw (none, m) at (schemes-places ps (take n f₀) 0))

@@ -1,4 +1,4 @@
--- The start, the turn and the end of the product's recurrence in its loop.
+-- The product's recurrence in its loop, and quotient and product together.
 use Prim.Native.Nat.{ℕ, suc, _+_, _-_, _≤_, _<_}
 use mathlib.Core.Path.{_≡_, sym, _∙_}
 use mathlib.Core.List.{List, [], _∷_, _++_}

@@ -103,7 +103,7 @@ module _ {A : Type 0} (F : Field A) (L : FieldLaws F) where
       (solve F L 7 (λ c s u v w x y. given (u :+ x) (y :+ c :* v) :1 (u :+ (s :+ x :+ c :* w) := s :+ y :+ c :* (v :+ w))) tt
       c (at F q i) (a ⊗ at F g (suc i)) (a ⊗ at F g i) (at F (𝟘 ∷ mulPoly F q g) i) (m ⊗ shifted F (suc e) q i) (m ⊗ shifted F e (a ∷ q) i) (next a c q e i))
 
-  -- c^(e+1) by the sum of the powers below it
+  -- -c^(e+1) by the sum of the lower powers
   pub minus-by-sum : (c : A) (e : ℕ) → (𝟙 ⊖ c) ⊗ evaluate F (geometric F c e) 𝟙 ⊖ 𝟙 ≡ minus c e
   unfolding geometric power
   minus-by-sum c zero = rw (evaluate-cons F 𝟙, evaluate-nil F) (solve₁ F L (λ c. (:1 :- c) :* (:1 :+ :1 :* :0) :- :1 := :- (c :* :1)) tt c)

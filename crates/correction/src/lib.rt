@@ -4,7 +4,7 @@ ghost use mathlib.Core.Path.{_≡_};
 ghost use mathlib.Core.List.{[], _∷_, _++_};
 ghost use Prim.Native.Nat.{_+_, _-_, _*_, _≤_, _<_};
 ghost use lib.ListN.{length, take, drop, getD, replicate};
-ghost use Rattle.definition.specs.Field.{Field, fieldOf, power};
+ghost use Rattle.definition.specs.Field.{fieldOf, power};
 ghost use Rattle.definition.specs.Polynomial.{mulPoly, divide, quotient, geometric, foldPoly};
 ghost use Rattle.correction.specs.Corrected.{Corrected};
 
@@ -38,7 +38,7 @@ pub fn divide(field: u32, a: u32, f: &mut [u32], count: usize)
 }
 
 // The quotient by X - a, X - b, X - c and X - d, in one pass. Only the last is stored: each coefficient of a quotient goes to the next scheme as it leaves
-// its own. The four schemes do not wait for one another, and so take little more time than one.
+// its own. The four schemes do not wait for one another, and so take less time than two passes would.
 fn divide_four(field: u32, a: u32, b: u32, c: u32, d: u32, f: &mut [u32], count: usize)
     requires { ⌜ count ≤ length (now f) ⌝ }
     ensures { λ _. ⌜ take (count - 4) (now (f .exit)) ≡ quotient (fieldOf field) (take count (now (f .entry))) (a ∷ b ∷ c ∷ d ∷ []) ⌝ }
@@ -111,8 +111,8 @@ fn minus_power(field: u32, c: u32, e: usize) -> u32
     field::sub(field, field::mul(field, field::sub(field, 1, c), sum), 1)
 }
 
-// The product of q and g = 1 + cX + .. + (cX)^e, from the lowest coefficient up. (1 - cX)·g is 1 - (cX)^(e+1), so that each coefficient is c times the
-// one before it and what q·(1 - (cX)^(e+1)) has in its place.
+// The product of q and g = 1 + cX + .. + (cX)^e, from the lowest coefficient up. (1 - cX)·g is 1 - (cX)^(e+1), so that each coefficient is the sum of
+// c times the one before it and of `fresh`, the coefficient of q·(1 - (cX)^(e+1)) in its place.
 pub fn correct(field: u32, c: u32, e: usize, q: &[u32], out: &mut [u32])
     requires { ⌜ (0 < length (now q)) × (length (now out) ≡ length (now q) + e) ⌝ }
     ensures { λ _. ⌜ now (out .exit) ≡ mulPoly (fieldOf field) (now (q .entry)) (geometric (fieldOf field) c e) ⌝ }

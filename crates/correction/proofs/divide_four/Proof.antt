@@ -13,7 +13,8 @@ use Rattle.correction.proofs.divide_four.Statement.{statement}
 use Rattle.correction.proofs.divide_four.Tie as tie
 
 abbrev Inv-loop : tie.InvT-loop
-Inv-loop field a b c d f₀ count first₀ second₀ third₀ fourth₀ i₀ f first second third fourth i = (i ≤ count) × ((length f ≡ length f₀) × (((j : ℕ) → j < i → getD f j 0 ≡ getD f₀ j 0) × (first ∷ second ∷ third ∷ fourth ∷ take (count - i) (drop i f) ≡ schemes (fieldOf field) (a ∷ b ∷ c ∷ d ∷ []) (take (count - i) (drop i f₀)))))
+Inv-loop field a b c d f₀ count first₀ second₀ third₀ fourth₀ i₀ f first second third fourth i =
+    (i ≤ count) × ((length f ≡ length f₀) × (((j : ℕ) → j < i → getD f j 0 ≡ getD f₀ j 0) × (first ∷ second ∷ third ∷ fourth ∷ take (count - i) (drop i f) ≡ schemes (fieldOf field) (a ∷ b ∷ c ∷ d ∷ []) (take (count - i) (drop i f₀)))))
 
 abbrev μ-loop : tie.MeasureT-loop
 μ-loop field a b c d f₀ count first₀ second₀ third₀ fourth₀ i₀ f first second third fourth i = i
@@ -78,7 +79,8 @@ returns : tie.Need-returns Inv-loop μ-loop
 returns c =
     let l = c .before .loop in
     let a = c .before .before .before .args in
-    schemes-end (fieldOf (a .field)) (laws (a .field)) (a .a ∷ a .b ∷ a .c ∷ a .d ∷ []) (l .first ∷ l .second ∷ l .third ∷ l .fourth ∷ []) (a .f .now) (l .f) (a .count) (l .i) refl (omega arith) (omega arith) (l .inv .1 .1 .1)
+    schemes-end (fieldOf (a .field)) (laws (a .field)) (a .a ∷ a .b ∷ a .c ∷ a .d ∷ []) (l .first ∷ l .second ∷ l .third ∷ l .fourth ∷ []) (a .f .now) (l .f)
+    (a .count) (l .i) refl (omega arith) (omega arith) (l .inv .1 .1 .1)
 
 pub divide-four-spec : {M : Type 1} → statement M
 divide-four-spec =
