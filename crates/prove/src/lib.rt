@@ -2,24 +2,16 @@
 use outcome::Answer;
 use outcome::Outcome;
 ghost use mathlib.Core.Path.{_≡_};
-ghost use mathlib.Core.List.{List, _++_};
-ghost use Prim.Native.Nat.{ℕ, _*_, _≤_};
+ghost use mathlib.Core.List.{_++_};
+ghost use Prim.Native.Nat.{_*_, _≤_};
 ghost use lib.ListN.{length, drop};
 ghost use Rattle.definition.specs.Block.{blockCount, fileOf};
 ghost use Rattle.definition.specs.Layout.{wordsDue};
-ghost use Rattle.definition.specs.Prove.{prove, proveTests, sheetLengthTest};
+ghost use Rattle.definition.specs.Prove.{prove};
 ghost use Rattle.definition.specs.Prover.{honestStream};
-ghost use Rattle.definition.specs.Reading.{sheetTest};
 ghost use Rattle.definition.specs.Sheet.{sheetOf};
-ghost use Rattle.definition.specs.Verdict.{_then_};
 ghost use Rattle.completeness.specs.Numbered.{Allowed};
-ghost use Rattle.outcome.specs.Meaning.{answerOf, outcomeOf};
-
-fn prove_tests(w: &[u32], f: &[u32], coins: &[u32], room: usize) -> Outcome
-    ensures { λ r. ⌜ ((output : List ℕ) → length output ≡ room → outcomeOf r ≡ (sheetLengthTest (now (w .entry)) then sheetTest (now (w .entry)) then proveTests (sheetOf (now (w .entry))) (now (f .entry)) (now (coins .entry)) output)) ⌝ }
-{
-    Outcome::Accepted
-}
+ghost use Rattle.outcome.specs.Meaning.{answerOf};
 
 fn stream(w: &[u32], f: &[u32], coins: &[u32], out: &mut [u32])
     requires { ⌜ Allowed (now w) (now f) (now coins) ⌝ }
@@ -50,7 +42,7 @@ pub fn prove(sheet: &[u32], coefficients: &[u32], coins: &[u32], output: &mut [u
     ensures { λ r. ⌜ answerOf r ≡ prove (now (sheet .entry)) (now (coefficients .entry)) (now (coins .entry)) (now (output .entry)) .answer ⌝ }
     ensures { λ r. ⌜ now (output .exit) ≡ prove (now (sheet .entry)) (now (coefficients .entry)) (now (coins .entry)) (now (output .entry)) .output ⌝ }
 {
-    let tests = prove_tests(sheet, coefficients, coins, output.len());
+    let tests = orders::prove_tests(sheet, coefficients, coins, output.len());
     if let Outcome::Refused(number, place) = tests {
         return Answer::Refusal(number, place);
     }

@@ -12,7 +12,6 @@ use Rattle.prove.proofs.prove.Statement.{statement}
 use Rattle.prove.proofs.prove.Tie as tie
 use Rattle.prove.proofs.prove.Reads as reads
 use Rattle.prove.proofs.prove.Lts as lts
-use Rattle.prove.proofs.prove_tests.Reads as prove-tests-reads
 use Rattle.prove.proofs.room.Reads as room-reads
 use Rattle.prove.proofs.write.Reads as write-reads
 use Rattle.sheet.proofs.words_due.Reads as words-due-reads
