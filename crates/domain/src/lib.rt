@@ -1,4 +1,4 @@
-// The points of domain 0 as a table, which holds those of every later domain, and membership in a domain.
+// The points of domain 0 as a table, which holds those of every later domain, and membership in a domain, of one word and of a run of words.
 use outcome::Found;
 ghost use mathlib.Core.Path.{_≡_};
 ghost use Prim.Native.Nat.{ℕ, _+_, _*_, _%_, _≤_, _<_};

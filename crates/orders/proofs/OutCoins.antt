@@ -132,6 +132,9 @@ module _ {w coins : List ℕ} {points rounds s at scale i : ℕ} (r : AtRound w 
     pub round-there : at + (s + 2 + t) ≤ length coins
     round-there = omega (arith, r .there, round-left)
 
+    pub round-small : at + (s + 2 + t) ≤ 405
+    round-small = omega (arith, round-there, r .most)
+
     by-rounds : firstOf w (coinsAfter w i) coins at
         ≡ orElse (firstInside (getD w 0 0) (rootOfUnity (sheetOf w)) (levelOf w (i + 1)) coins at s) (firstOf w (coinsAfter w (i + 1)) coins (at + (s + 2 + t)))
     unfolding sheetOf fieldOf
@@ -144,7 +147,8 @@ module _ {w coins : List ℕ} {points rounds s at scale i : ℕ} (r : AtRound w 
         ∙ ap (λ (n : ℕ). firstOf w (replicate n (out l) ++ (laterCoins w i ++ coinsAfter w (i + 1))) coins at) (sym (r .outs))
         ∙ outs-run (sheetOf w) (getD w 0 0) refl l (laterCoins w i ++ coinsAfter w (i + 1)) coins s at (omega (arith, round-there))
         ∙ ap (orElse (firstInside (getD w 0 0) (rootOfUnity (sheetOf w)) l coins at s))
-        (quiet test (laterCoins w i) (coinsAfter w (i + 1)) coins (at + s) (2 + t) (later-length w i) (coin-quiet (sheetOf w), (coin-quiet (sheetOf w), indices-quiet (sheetOf w) t c)) (omega (arith, round-there))
+        (quiet test (laterCoins w i) (coinsAfter w (i + 1)) coins (at + s) (2 + t) (later-length w i)
+        (coin-quiet (sheetOf w), (coin-quiet (sheetOf w), indices-quiet (sheetOf w) t c)) (omega (arith, round-there))
         ∙ ap (λ (n : ℕ). firstOf w (coinsAfter w (i + 1)) coins n) e)
 
     scale-next : scale * 2 ≡ 2 ^ (i + 1)

@@ -69,7 +69,8 @@ module _ (w f : List ℕ) (right : length f ≡ getD w 2 0) where
       let d = getD w 2 0 in
       ap (refuseAt 5) e
       ∙ ap (λ (bs : List Bool). refuseAt 5 (firstTrue 0 bs))
-      (sym (ap {B = List Bool} (zipWith test (replicate d message ++ [])) (sym (append-nil f)) ∙ input-tests (sheetOf w) [] f [] d right ∙ append-nil (map (leb (primeOf (getD w 0 0))) f)))
+      (sym (ap {B = List Bool} (zipWith test (replicate d message ++ [])) (sym (append-nil f)) ∙ input-tests (sheetOf w) [] f [] d right
+      ∙ append-nil (map (leb (primeOf (getD w 0 0))) f)))
 
   module _ (ks : List Kind) (coins : List ℕ) where
     abbrev first-coefficient : Option ℕ
@@ -107,6 +108,7 @@ module _ (w f : List ℕ) (right : length f ≡ getD w 2 0) where
   pub place-small : (coins : List ℕ) (place : ℕ) → 12 ≤ length w → sheetTest w ≡ accepted → length coins ≡ length (coinKinds (layout (sheetOf w))) →
       some place ≡ firstTrue 0 (zipWith (outOfRange (sheetOf w)) (coinKinds (layout (sheetOf w))) coins) → length f + place ≤ 4501
   place-small coins place long passed full e =
-      let tests = zipWith (outOfRange (sheetOf w)) (coinKinds (layout (sheetOf w))) coins in
+      let test = outOfRange (sheetOf w) in
+      let ks = coinKinds (layout (sheetOf w)) in
       let r = ranges w passed in
-      omega (arith, right, r .degree, r .size, full, coins-most w long passed, first-below 0 place tests e, zip-short (outOfRange (sheetOf w)) (coinKinds (layout (sheetOf w))) coins)
+      omega (arith, right, r .degree, r .size, full, coins-most w long passed, first-below 0 place (zipWith test ks coins) e, zip-short test ks coins)

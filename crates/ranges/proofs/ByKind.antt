@@ -39,7 +39,8 @@ module _ (w : List ℕ) (twelve : 12 ≤ length w) (passed : sheetTest w ≡ acc
     unfolding sheetOf
     as-many = sym (ap length (layout-limits w (fine .most) twelve alone)) ∙ length-map (chosen alone (layout (sheetOf w))) _
 
-    same-word : (words : List ℕ) (from : ℕ) → beyond alone w words from ≡ firstTrue from (zipWith (outOfRange (sheetOf w)) (chosen alone (layout (sheetOf w))) (drop from words))
+    same-word : (words : List ℕ) (from : ℕ) →
+        beyond alone w words from ≡ firstTrue from (zipWith (outOfRange (sheetOf w)) (chosen alone (layout (sheetOf w))) (drop from words))
     unfolding sheetOf
     same-word words from =
         ap (λ (l : List ℕ). firstTrue from (zipWith leb l (drop from words))) (sym (layout-limits w (fine .most) twelve alone))

@@ -43,8 +43,8 @@ pub record AtWord (alone : Bool) (w words : List ℕ) (from p rounds round first
   pub nothing : found ≡ Nothing
   pub walking : Walking (beyond alone w words from) words at (drop j (roundLimits alone w round) ++ limitsFrom alone w (round + 1) (rounds - (round + 1)))
 
-pub start : {p rounds : ℕ} (alone : Bool) (w words : List ℕ) (from : ℕ) → Fine w → from + length (allLimits alone w) ≤ length words → p ≡ primeOf (getD w 0 0) → rounds ≡ getD w 4 0 + 2 →
-    AtRound alone w words from p rounds 0 from Nothing
+pub start : {p rounds : ℕ} (alone : Bool) (w words : List ℕ) (from : ℕ) → Fine w → from + length (allLimits alone w) ≤ length words →
+    p ≡ primeOf (getD w 0 0) → rounds ≡ getD w 4 0 + 2 → AtRound alone w words from p rounds 0 from Nothing
 start {p} {rounds} alone w words from f due ep em = record {
   fine = f;
   prime = ep;

@@ -97,7 +97,8 @@ module _ (w : List ℕ) where
   last-round false i h = rw (le-ltb i (getD w 4 0) h) (final-limits prime (getD w 5 0) (levelAt i))
   last-round true i h = rw (le-ltb i (getD w 4 0) h) (final-coin-limits prime (getD w 5 0) (levelAt i))
 
-  middle-round : (alone : Bool) (i : ℕ) → i < getD w 4 0 → map (limit prime) (chosen alone (roundLayout (getD w 5 0) (levelAt i) (levelAt (suc i)))) ≡ roundLimits alone w (suc i)
+  middle-round : (alone : Bool) (i : ℕ) → i < getD w 4 0 →
+      map (limit prime) (chosen alone (roundLayout (getD w 5 0) (levelAt i) (levelAt (suc i)))) ≡ roundLimits alone w (suc i)
   unfolding chosen roundLimits elementCount indexCount indexLimit shiftCount divided
   middle-round false i h = rw (lt-ltb i (getD w 4 0) h) (round-limits prime (getD w 5 0) (levelAt i) (levelAt (suc i)))
   middle-round true i h = rw (lt-ltb i (getD w 4 0) h) (coin-limits prime (getD w 5 0) (levelAt i) (levelAt (suc i)))
@@ -110,7 +111,8 @@ module _ (w : List ℕ) where
       ∙ join-runs (getD w 1 0) 1 prime _
       ∙ ap {B = List ℕ} (λ r. r ++ map (limit prime) ks) (sym (append-nil (replicate (getD w 1 0 + 1) prime)))
   first-round true ks =
-      ap {B = List ℕ} (map (limit prime)) (coins-append (replicate (getD w 1 0) message) (coin ∷ ks) ∙ ap {B = List Kind} (λ r. r ++ coinKinds (coin ∷ ks)) (coins-messages (getD w 1 0)))
+      ap {B = List ℕ} (map (limit prime)) (coins-append (replicate (getD w 1 0) message) (coin ∷ ks)
+      ∙ ap {B = List Kind} (λ r. r ++ coinKinds (coin ∷ ks)) (coins-messages (getD w 1 0)))
 
   module _ (most : getD w 4 0 ≤ 5) (long : 12 ≤ length w) where
     -- the levels after level i begin with level i + 1

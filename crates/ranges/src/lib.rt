@@ -55,7 +55,8 @@ fn coin_elements(w: &[u32], round: usize) -> usize
     0
 }
 
-// How many elements a round begins with: table 0 and a fold coin; then table, out coins, replies and two coins; at last the final coefficients.
+// How many elements a round begins with: table 0 and a fold coin; then table, out coins, replies and two coins; at last the final coefficients. Where the
+// coins stand alone, only they count.
 fn elements(w: &[u32], alone: bool, round: usize) -> usize
     requires { ⌜ 12 ≤ length (now w) ⌝ }
     requires { ⌜ 0 < getD (now w) 3 0 ⌝ }
@@ -152,12 +153,12 @@ pub fn coefficient_out_of_range(field: u32, f: &[u32]) -> Found
     ensures { λ r. ⌜ placeOf r ≡ firstTrue 0 (map (leb (primeOf field)) (now (f .entry))) ⌝ }
 {
     let p = field::modulus(field);
-    let mut at = 0;
-    while at < f.len() {
-        if p <= f[at] {
-            return Found::At(at);
+    let mut i = 0;
+    while i < f.len() {
+        if p <= f[i] {
+            return Found::At(i);
         }
-        at += 1;
+        i += 1;
     }
     Found::Nothing
 }

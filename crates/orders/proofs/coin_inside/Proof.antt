@@ -6,7 +6,7 @@ use lib.ListN.{length}
 use borrow.Author.Needs.{needs}
 use Rattle.outcome.specs.Answers.{at-place, nowhere}
 use Rattle.outcome.specs.Meaning.{placeOf}
-use Rattle.orders.proofs.OutCoins.{AtRound, start, ended, small-scale, some-scale, round-there, found, turned}
+use Rattle.orders.proofs.OutCoins.{AtRound, start, ended, small-scale, some-scale, round-there, round-small, found, turned}
 use Rattle.orders.proofs.coin_inside.Statement.{statement}
 use Rattle.orders.proofs.coin_inside.Tie as tie
 
@@ -49,45 +49,49 @@ enum-known-first c = search needs
 returns : tie.Need-returns Inv-loop μ-loop
 unfolding placeOf
 returns c =
-    let s = c .before .before .before .before .before .before .before .before .before .before .before in
-    let a = s .args in
-    found (c .before .before .before .before .before .loop .inv) (c .before .before .before .before .loop-test .taken) (a .pw .now) refl (s .pre .1 .1 .0) (c .before .before .before .first-inside .ensures) (at-place refl (c .before .first .given .1))
+    let f = c .before .before .before in
+    let l = f .before .before .loop .inv in
+    let s = f .before .before .before .before .before .before .before .before in
+    found l (f .before .loop-test .taken) (s .args .pw .now) refl (s .pre .1 .1 .0) (f .first-inside .ensures) (at-place refl (c .before .first .given .1))
 
 enum-told : tie.Need-enum-told Inv-loop μ-loop
 enum-told c = search needs
 
 add-at : tie.Need-add-at Inv-loop μ-loop
-add-at c = omega (arith, c .before .before .before .before .loop .inv .most, round-there (c .before .before .before .before .loop .inv) (c .before .before .before .loop-test .taken))
+add-at c = let t = c .before .before .before in omega (arith, round-small (t .before .loop .inv) (t .loop-test .taken))
 
 add-at-2 : tie.Need-add-at-2 Inv-loop μ-loop
-add-at-2 c = omega (arith, c .before .before .before .before .loop .inv .few, c .before .before .before .loop-test .taken)
+add-at-2 c = let t = c .before .before .before in omega (arith, t .before .loop .inv .few, t .loop-test .taken)
 
 mul-at : tie.Need-mul-at Inv-loop μ-loop
-mul-at c = omega (arith, c .before .before .before .before .loop .inv .few, c .before .before .before .loop-test .taken)
+mul-at c = let t = c .before .before .before in omega (arith, t .before .loop .inv .few, t .loop-test .taken)
 
 shared-slice-read-at : tie.Need-shared-slice-read-at Inv-loop μ-loop
-shared-slice-read-at c = omega (arith, c .before .before .before .before .before .loop .inv .few, c .before .before .before .before .loop-test .taken, c .before .before .before .before .before .before .before .before .before .before .before .pre .0 .0)
+shared-slice-read-at c =
+    let t = c .before .before .before .before in
+    omega (arith, t .before .loop .inv .few, t .loop-test .taken, t .before .before .before .before .before .before .before .pre .0 .0)
 
 cast-at : tie.Need-cast-at Inv-loop μ-loop
-cast-at c = omega (arith, c .before .before .before .before .before .loop .inv .most, round-there (c .before .before .before .before .before .loop .inv) (c .before .before .before .before .loop-test .taken))
+cast-at c = let t = c .before .before .before .before in omega (arith, round-small (t .before .loop .inv) (t .loop-test .taken))
 
 add-at-3 : tie.Need-add-at-3 Inv-loop μ-loop
-add-at-3 c = omega (arith, c .before .before .before .before .before .loop .inv .most, round-there (c .before .before .before .before .before .loop .inv) (c .before .before .before .before .loop-test .taken))
+add-at-3 c = let t = c .before .before .before .before in omega (arith, round-small (t .before .loop .inv) (t .loop-test .taken))
 
 add-at-4 : tie.Need-add-at-4 Inv-loop μ-loop
-add-at-4 c = omega (arith, c .before .before .before .before .before .loop .inv .most, round-there (c .before .before .before .before .before .loop .inv) (c .before .before .before .before .loop-test .taken))
+add-at-4 c = let t = c .before .before .before .before in omega (arith, round-small (t .before .loop .inv) (t .loop-test .taken))
 
 add-i : tie.Need-add-i Inv-loop μ-loop
-add-i c = omega (arith, c .before .before .before .before .before .loop .inv .few, c .before .before .before .before .loop-test .taken)
+add-i c = let t = c .before .before .before .before in omega (arith, t .before .loop .inv .few, t .loop-test .taken)
 
 loop-less : tie.Need-loop-less Inv-loop μ-loop
 loop-less c = omega (arith, c .before .before .before .before .loop-test .taken)
 
 loop-again : tie.Need-loop-again Inv-loop μ-loop
 loop-again c =
-    let s = c .before .before .before .before .before .before .before .before .before .before .before in
-    let a = s .args in
-    turned (c .before .before .before .before .before .loop .inv) (c .before .before .before .before .loop-test .taken) (a .pw .now) refl (s .pre .1 .1 .0) (c .before .before .before .first-inside .ensures) (nowhere refl (c .before .enum-told .given .1))
+    let f = c .before .before .before in
+    let l = f .before .before .loop .inv in
+    let s = f .before .before .before .before .before .before .before .before in
+    turned l (f .before .loop-test .taken) (s .args .pw .now) refl (s .pre .1 .1 .0) (f .first-inside .ensures) (nowhere refl (c .before .enum-told .given .1))
 
 returns-2 : tie.Need-returns-2 Inv-loop μ-loop
 unfolding placeOf

@@ -29,9 +29,9 @@ enum-known-range c = search needs
 returns-2 : tie.Need-returns-2
 unfolding outcomeOf
 returns-2 c = λ output l.
-    let a = c .before .before .before .before .before .before .before .before .before .args in
     let r = c .before .before .before in
-    let right = c .before .before .before .before .before .if1 .left in
+    let a = r .before .before .before .before .before .before .args in
+    let right = r .before .before .if1 .left in
     no-element (a .w .now) (a .f .now) output right (coefficients-test (a .w .now) (a .f .now) right (r .coefficient-out-of-range .ensures)) (c .before .range .given .1)
 
 enum-told : tie.Need-enum-told
@@ -46,18 +46,20 @@ cast-size c = omega (arith, c .shared-slice-known5 .given 1)
 returns-3 : tie.Need-returns-3
 unfolding outcomeOf
 returns-3 c = λ output l.
-    let a = c .before .before .before .before .before .before .before .before .before .before .args in
     let r = c .before .before .before .before in
-    let right = c .before .before .before .before .before .before .if1 .left in
-    few-words (a .w .now) (a .f .now) output right (coefficients-test (a .w .now) (a .f .now) right (r .coefficient-out-of-range .ensures)) (c .before .before .enum-told .given .1) l (c .if2 .taken)
+    let a = r .before .before .before .before .before .before .args in
+    let right = r .before .before .if1 .left in
+    few-words (a .w .now) (a .f .now) output right (coefficients-test (a .w .now) (a .f .now) right (r .coefficient-out-of-range .ensures))
+    (c .before .before .enum-told .given .1) l (c .if2 .taken)
 
 returns-4 : tie.Need-returns-4
 unfolding outcomeOf
 returns-4 c = λ output l.
-    let a = c .before .before .before .before .before .before .before .before .before .before .args in
     let r = c .before .before .before .before in
-    let right = c .before .before .before .before .before .before .if1 .left in
-    encodes (a .w .now) (a .f .now) output right (coefficients-test (a .w .now) (a .f .now) right (r .coefficient-out-of-range .ensures)) (c .before .before .enum-told .given .1) l (c .if2 .left)
+    let a = r .before .before .before .before .before .before .args in
+    let right = r .before .before .if1 .left in
+    encodes (a .w .now) (a .f .now) output right (coefficients-test (a .w .now) (a .f .now) right (r .coefficient-out-of-range .ensures))
+    (c .before .before .enum-told .given .1) l (c .if2 .left)
 
 pub encode-after-sheet-spec : {M : Type 1} → statement M
 encode-after-sheet-spec =

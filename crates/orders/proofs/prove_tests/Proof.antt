@@ -13,19 +13,23 @@ enum-known-sheet c = search needs
 
 returns : tie.Need-returns
 unfolding outcomeOf
-returns c = λ output l. sheet-refused (c .before .before .before .before .before .before .before .args .w .now) (c .before .before .before .sheet-tests .ensures) _ (c .before .sheet .given .1)
+returns c = λ output l.
+    let t = c .before .before .before in
+    sheet-refused (t .before .before .before .before .args .w .now) (t .sheet-tests .ensures) _ (c .before .sheet .given .1)
 
 enum-told : tie.Need-enum-told
 enum-told c = search needs
 
 prove-after-sheet-requires : tie.Need-prove-after-sheet-requires
 prove-after-sheet-requires c κs =
-    let w = c .before .before .before .before .before .before .args .w .now in
-    let first = c .before .before .sheet-tests .ensures in
-    (sheet-long w first (c .enum-told .given .1), sheet-passed w first (c .enum-told .given .1))
+    let t = c .before .before in
+    let w = t .before .before .before .before .args .w .now in
+    (sheet-long w (t .sheet-tests .ensures) (c .enum-told .given .1), sheet-passed w (t .sheet-tests .ensures) (c .enum-told .given .1))
 
 returns-2 : tie.Need-returns-2
-returns-2 c = λ output l. after-sheet (c .before .before .before .before .before .before .before .args .w .now) (c .before .before .before .sheet-tests .ensures) (c .before .enum-told .given .1) (c .prove-after-sheet .ensures output l)
+returns-2 c = λ output l.
+    let t = c .before .before .before in
+    after-sheet (t .before .before .before .before .args .w .now) (t .sheet-tests .ensures) (c .before .enum-told .given .1) (c .prove-after-sheet .ensures output l)
 
 pub prove-tests-spec : {M : Type 1} → statement M
 prove-tests-spec =

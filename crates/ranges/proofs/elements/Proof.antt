@@ -45,10 +45,12 @@ add-result-3 c = omega (arith, divided-most (c .before .before .word3 .result) 2
 
 returns-3 : tie.Need-returns-3
 returns-3 c =
-    let a = c .before .before .before .before .before .before .before .before .args in
-    let m = c .before .before .before .before .word2 .ensures .0 in
-    counted-as (a .w .now) (a .round) (c .before .before .before .before .before .before .if1 .left)
-    (round-elements (a .w .now) (a .round) (c .before .before .before .before .before .if2 .left) m (c .before .before .before .if3 .taken) (c .before .before .word3 .ensures .0) (c .before .divide .ensures) (c .word4 .ensures .0))
+    let d = c .before .before in
+    let m = d .before .before in
+    let a = m .before .before .before .before .args in
+    counted-as (a .w .now) (a .round) (m .before .before .if1 .left)
+    (round-elements (a .w .now) (a .round) (m .before .if2 .left) (m .word2 .ensures .0) (d .before .if3 .taken)
+    (d .word3 .ensures .0) (c .before .divide .ensures) (c .word4 .ensures .0))
 
 word-requires-5 : tie.Need-word-requires-5
 word-requires-5 c κs = search needs
@@ -61,10 +63,12 @@ divide-requires-2 c κs = search needs
 
 returns-4 : tie.Need-returns-4
 returns-4 c =
-    let a = c .before .before .before .before .before .before .before .before .args in
-    let m = c .before .before .before .before .word2 .ensures .0 in
-    counted-as (a .w .now) (a .round) (c .before .before .before .before .before .before .if1 .left)
-    (final-elements (a .w .now) (a .round) (c .before .before .before .before .before .if2 .left) m (c .before .before .before .if3 .left) (c .before .before .word5 .ensures .0) (c .before .word6 .ensures .0) (c .divide2 .ensures))
+    let d = c .before .before in
+    let m = d .before .before in
+    let a = m .before .before .before .before .args in
+    counted-as (a .w .now) (a .round) (m .before .before .if1 .left)
+    (final-elements (a .w .now) (a .round) (m .before .if2 .left) (m .word2 .ensures .0) (d .before .if3 .left)
+    (d .word5 .ensures .0) (c .before .word6 .ensures .0) (c .divide2 .ensures))
 
 pub elements-spec : {M : Type 1} → statement M
 elements-spec =

@@ -35,7 +35,10 @@ add-rounds : tie.Need-add-rounds Inv-loop μ-loop Inv-walk μ-walk
 add-rounds c = omega arith
 
 walk-holds : tie.Need-walk-holds Inv-loop μ-loop Inv-walk μ-walk
-walk-holds c = let s = c .before .before .before .before .before in start (s .args .alone) (s .args .w .now) (s .args .words .now) (s .args .from) (s .pre .0) (s .pre .1) (c .before .modulus .ensures) (ap (λ (n : ℕ). n + 2) (c .word .ensures .0))
+walk-holds c =
+    let s = c .before .before .before .before .before in
+    start (s .args .alone) (s .args .w .now) (s .args .words .now) (s .args .from) (s .pre .0) (s .pre .1)
+    (c .before .modulus .ensures) (ap (λ (n : ℕ). n + 2) (c .word .ensures .0))
 
 elements-requires : tie.Need-elements-requires Inv-loop μ-loop Inv-walk μ-walk
 elements-requires c κs = omega arith
@@ -44,13 +47,17 @@ indices-requires : tie.Need-indices-requires Inv-loop μ-loop Inv-walk μ-walk
 indices-requires c κs = omega arith
 
 add-count : tie.Need-add-count Inv-loop μ-loop Inv-walk μ-walk
-add-count c = record { fits = omega (arith, fits (c .before .before .before .walk .inv) (c .before .before .walk-test .taken), c .before .elements .ensures, c .indices .ensures) }
+add-count c =
+    let e = c .before in
+    record { fits = omega (arith, fits (e .before .before .walk .inv) (e .before .walk-test .taken), e .elements .ensures, c .indices .ensures) }
 
 limit-requires : tie.Need-limit-requires Inv-loop μ-loop Inv-walk μ-walk
 limit-requires c κs = omega arith
 
 loop-holds : tie.Need-loop-holds Inv-loop μ-loop Inv-walk μ-walk
-loop-holds c = opened (c .before .before .before .before .walk .inv) (c .before .before .before .walk-test .taken) (c .before .before .elements .ensures) (c .before .indices .ensures) (c .limit .ensures)
+loop-holds c =
+    let e = c .before .before in
+    opened (e .before .before .walk .inv) (e .before .walk-test .taken) (e .elements .ensures) (c .before .indices .ensures) (c .limit .ensures)
 
 word-requires-2 : tie.Need-word-requires-2 Inv-loop μ-loop Inv-walk μ-walk
 word-requires-2 c κs = there (c .before .before .loop .inv) (c .before .loop-test .taken)
