@@ -4,6 +4,7 @@ use intake::Taken;
 use libc::STDIN_FILENO;
 use libc::STDOUT_FILENO;
 use outcome::Answer;
+ghost use Prim.Native.Nat.{_<_};
 
 fn main() {
     let mut words = [0u32; 4096];
@@ -15,48 +16,47 @@ fn main() {
     let mut x = [0u32; 2048];
     x[1] = 1;
     let mut points = [0u32; 4096];
-    let degree = degree_bound(&words);
-    let answer = encode::encode(part(&words, count), part(&x, degree), &mut points);
+    let answer = encode::encode(intake::front(&words, count), intake::front(&x, intake::degree_bound(&words)), &mut points);
     match answer {
-        Answer::Done(size) => show(words[4], part(&points, size)),
+        Answer::Done(size) => show(rounds(&words), intake::front(&points, size)),
         Answer::Refusal(number, place) => report::refuse(STDOUT_FILENO, number, place),
     }
 }
 
-// The sheet's d0.
-fn degree_bound(words: &[u32; 4096]) -> usize {
-    words[2] as usize
-}
-
-// The first `count` of the words, or all.
-fn part(words: &[u32], count: usize) -> &[u32] {
-    if count < words.len() {
-        return &words[..count];
+// The number of rounds, M.
+fn rounds(words: &[u32]) -> u32 {
+    if words.len() < 5 {
+        return 0;
     }
-    words
+    words[4]
 }
 
-// A line for each domain: its number, its size and its points.
+// A line for each domain: its number and its points.
 fn show(rounds: u32, points: &[u32]) {
     io::write_all(STDOUT_FILENO, b"keeps its rules\n");
-    let mut step = 1;
     for i in 0..6u32 {
         if i <= rounds {
-            line(i, step, points);
+            line(i, points);
         }
-        step *= 2;
     }
 }
 
-fn line(number: u32, step: usize, points: &[u32]) {
+// Domain i: every 2^i-th point.
+fn line(i: u32, points: &[u32])
+    requires { ⌜ i < 6 ⌝ }
+{
     io::write_all(STDOUT_FILENO, b"domain ");
-    io::print_decimal(STDOUT_FILENO, number as u64);
+    io::print_decimal(STDOUT_FILENO, i as u64);
     io::write_all(STDOUT_FILENO, b":");
-    let mut j = 0;
-    while j < points.len() {
-        io::write_all(STDOUT_FILENO, b" ");
-        io::print_decimal(STDOUT_FILENO, points[j] as u64);
-        j += step;
+    for j in 0..points.len() {
+        if (j >> i) << i == j {
+            point(points[j]);
+        }
     }
     io::write_all(STDOUT_FILENO, b"\n");
+}
+
+fn point(x: u32) {
+    io::write_all(STDOUT_FILENO, b" ");
+    io::print_decimal(STDOUT_FILENO, x as u64);
 }

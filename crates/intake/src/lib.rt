@@ -22,13 +22,42 @@ fn place(bytes: &[u8], count: usize, words: &mut [u32])
     }
 }
 
-// At most the first 16,384 bytes, which are 4,096 words. No order that the prover takes is so long.
-pub fn words(fd: i32, words: &mut [u32; 4096]) -> Taken {
+// As many words as there are places for, of at most the first 16,384 bytes. No order that the prover takes is so long.
+pub fn words(fd: i32, words: &mut [u32]) -> Taken {
     let mut bytes = [0u8; 16384];
     let n = io::read_full(fd, &mut bytes);
     if n % 4 != 0 {
         return Taken::Ragged;
     }
-    place(&bytes, n / 4, words);
-    Taken::Words(n / 4)
+    let count = n / 4;
+    if words.len() < count {
+        place(&bytes, words.len(), words);
+        return Taken::Words(words.len());
+    }
+    place(&bytes, count, words);
+    Taken::Words(count)
+}
+
+// The first `count` words, or all.
+pub fn front(words: &[u32], count: usize) -> &[u32] {
+    if words.len() < count {
+        return words;
+    }
+    &words[..count]
+}
+
+// The words after the first `count`, or none.
+pub fn after(words: &[u32], count: usize) -> &[u32] {
+    if words.len() < count {
+        return &words[words.len()..];
+    }
+    &words[count..]
+}
+
+// The sheet's d0, which says how many coefficients an order has.
+pub fn degree_bound(words: &[u32]) -> usize {
+    if words.len() < 3 {
+        return 0;
+    }
+    words[2] as usize
 }
