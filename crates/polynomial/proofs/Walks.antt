@@ -1,6 +1,6 @@
 -- One turn of each walk over points and coefficients, with the words that the calls in the loop's body give. Assumes nothing.
 use Prim.Native.Nat.{ℕ, _-_, _≤_, _<_}
-use mathlib.Core.Path.{_≡_, refl}
+use mathlib.Core.Path.{_≡_, refl, subst}
 use mathlib.Core.List.{List, _∷_}
 use lib.ListN.{length, drop, getD, set, length-drop}
 use lib.Seq.{drop-length}
@@ -23,9 +23,9 @@ module _ (F : Field ℕ) where
   unfolding evaluate
   evaluate-end f x = rw drop-length
 
-  pub evaluate-turn : (f : List ℕ) (i x : ℕ) {a m r : ℕ} → 0 < i → i ≤ length f → a ≡ evaluate F (drop i f) x →
-      m ≡ x ⊗ a → r ≡ getD f (i - 1) 0 ⊕ m → r ≡ evaluate F (drop (i - 1) f) x
-  evaluate-turn f i x h l ea em er = cc (drop-back f i h l, evaluate-cons F (getD f (i - 1) 0) (drop i f) x)
+  pub evaluate-turn : (f : List ℕ) (i x : ℕ) {a r : ℕ} → 0 < i → i ≤ length f → a ≡ evaluate F (drop i f) x →
+      r ≡ getD f (i - 1) 0 ⊕ x ⊗ a → r ≡ evaluate F (drop (i - 1) f) x
+  evaluate-turn f i x h l ea er = cc (drop-back f i h l, evaluate-cons F (getD f (i - 1) 0) (drop i f) x)
 
   -- ---- Newton's form and the vanishing polynomial
 
@@ -37,23 +37,26 @@ module _ (F : Field ℕ) where
   unfolding vanishAt
   vanish-cons a xs x = refl
 
-  pub newton-end : (xs cs : List ℕ) (x : ℕ) → 𝟘 ≡ newtonAt F (drop (length xs) xs) cs x
-  unfolding newtonAt
-  newton-end xs cs x = rw drop-length
+  -- what a walk has at hand for x when the points from number i on are done
+  abbrev pub Walked : List ℕ → List ℕ → ℕ → ℕ → ℕ → ℕ → Type 0
+  Walked xs cs x i value vanish = (value ≡ newtonAt F (drop i xs) (drop i cs) x) × (vanish ≡ vanishAt F (drop i xs) x)
 
-  pub vanish-end : (xs : List ℕ) (x : ℕ) → 𝟙 ≡ vanishAt F (drop (length xs) xs) x
-  unfolding vanishAt
-  vanish-end xs x = rw drop-length
+  pub walked-end : (xs cs : List ℕ) (x : ℕ) → Walked xs cs x (length xs) 𝟘 𝟙
+  unfolding newtonAt vanishAt
+  walked-end xs cs x = (rw drop-length, rw drop-length)
 
-  pub newton-turn : (xs cs : List ℕ) (i x : ℕ) {a v m r : ℕ} → 0 < i → i ≤ length xs → i ≤ length cs →
-      a ≡ newtonAt F (drop i xs) (drop i cs) x → v ≡ vanishAt F (drop i xs) x →
-      m ≡ getD cs (i - 1) 0 ⊗ v → r ≡ a ⊕ m → r ≡ newtonAt F (drop (i - 1) xs) (drop (i - 1) cs) x
-  newton-turn xs cs i x h l k ea ev em er =
-      cc (drop-back xs i h l, drop-back cs i h k, newton-cons (getD xs (i - 1) 0) (getD cs (i - 1) 0) (drop i xs) (drop i cs) x)
+  pub walked-turn : (xs cs : List ℕ) (x i : ℕ) {a v r d u : ℕ} → 0 < i → i ≤ length xs → i ≤ length cs → Walked xs cs x i a v →
+      r ≡ a ⊕ getD cs (i - 1) 0 ⊗ v → d ≡ x ⊖ getD xs (i - 1) 0 → u ≡ d ⊗ v → Walked xs cs x (i - 1) r u
+  walked-turn xs cs x i h l k w er ed eu =
+      let ea = w .0 in
+      let ev = w .1 in
+      let point = getD xs (i - 1) 0 in (
+        cc (drop-back xs i h l, drop-back cs i h k, newton-cons point (getD cs (i - 1) 0) (drop i xs) (drop i cs) x),
+        cc (drop-back xs i h l, vanish-cons point (drop i xs) x),
+      )
 
-  pub vanish-turn : (xs : List ℕ) (i x : ℕ) {v d r : ℕ} → 0 < i → i ≤ length xs → v ≡ vanishAt F (drop i xs) x →
-      d ≡ x ⊖ getD xs (i - 1) 0 → r ≡ d ⊗ v → r ≡ vanishAt F (drop (i - 1) xs) x
-  vanish-turn xs i x h l ev ed er = cc (drop-back xs i h l, vanish-cons (getD xs (i - 1) 0) (drop i xs) x)
+  pub walked-from : (xs cs : List ℕ) (x : ℕ) {i from value vanish : ℕ} → i ≡ from → Walked xs cs x i value vanish → Walked xs cs x from value vanish
+  walked-from xs cs x {value = value} {vanish = vanish} e w = subst (λ (n : ℕ). Walked xs cs x n value vanish) e w
 
   -- ---- the coefficients of Newton's form
 
@@ -76,12 +79,15 @@ module _ (F : Field ℕ) where
 
   -- ---- the corrected value
 
-  pub corrected : (xs cs : List ℕ) (from c x y : ℕ) {a v d u q g r : ℕ} →
-      a ≡ newtonAt F (drop from xs) cs x → v ≡ vanishAt F (drop from xs) x →
-      d ≡ y ⊖ a → u ≡ inverse v → q ≡ d ⊗ u → g ≡ evaluate F (geometric F c (length xs - from)) x → r ≡ q ⊗ g →
-      r ≡ newtonCorrected F (drop from xs) cs c x y
+  pub corrected-by : (c e x y value u : ℕ) {d q g r : ℕ} → d ≡ y ⊖ value → q ≡ d ⊗ u → g ≡ evaluate F (geometric F c e) x → r ≡ q ⊗ g →
+      r ≡ (y ⊖ value) ⊗ u ⊗ evaluate F (geometric F c e) x
+  corrected-by c e x y value u ed eq eg er = cc er
+
+  pub corrected : (xs cs : List ℕ) (from c x y : ℕ) {a v u r : ℕ} →
+      a ≡ newtonAt F (drop from xs) cs x → v ≡ vanishAt F (drop from xs) x → u ≡ inverse v →
+      r ≡ (y ⊖ a) ⊗ u ⊗ evaluate F (geometric F c (length xs - from)) x → r ≡ newtonCorrected F (drop from xs) cs c x y
   unfolding newtonCorrected
-  corrected xs cs from c x y ea ev ed eu eq eg er = cc (length-drop from xs)
+  corrected xs cs from c x y ea ev eu er = cc (length-drop from xs)
 
 module _ (F : Field ℕ) (L : FieldLaws F) where
   pub through : (xs ys : List ℕ) (x : ℕ) {cs : List ℕ} {v : ℕ} → length ys ≡ length xs → cs ≡ newton F xs ys → v ≡ newtonAt F xs cs x →
