@@ -1,6 +1,6 @@
 -- The fold by halves in place: one turn's walk over the pairs, and the turns. Assumes nothing.
 use Prim.Native.Nat.{ℕ, zero, suc, _+_, _*_, _/_, _^_, _≤_, _<_}
-use mathlib.Core.Path.{_≡_, _∙_, refl, sym, ap}
+use mathlib.Core.Path.{_≡_, _∙_, refl, ap}
 use mathlib.Core.List.{List}
 use native.Mathlib.Nat.{pow-suc, pow-zero}
 use native.Mathlib.Omega.{arith}
@@ -13,7 +13,7 @@ use Rattle.rounds.specs.declared.Function.{Function}
 use Rattle.rounds.specs.Halving.{joined, halving, exponentOf}
 use Rattle.rounds.specs.HalvingLaw.{halving-same}
 use Rattle.rounds.specs.PointsIn.{backIn}
-use Rattle.rounds.specs.Round.{Fits, halfOf, valueIn, foldIn, power-of}
+use Rattle.rounds.specs.Round.{Fits, halfOf, rootIn, foldIn, power-of}
 
 -- ---- two values joined
 
@@ -92,7 +92,7 @@ module _ (F : Field ℕ) (half : ℕ) (back : ℕ → ℕ) (whole : ℕ) where
 -- ---- the fold
 
 pub folded : (field : ℕ) (pw table xs cs : List ℕ) (how : Function) (k r j : ℕ) (values : List ℕ) {points n v : ℕ} → Fits points n how k → length values ≡ k →
-    ((m : ℕ) → m < k → getD values m 0 ≡ valueIn field pw table xs cs how (j + m * how .step)) →
+    ((m : ℕ) → m < k → getD values m 0 ≡ rootIn field pw table xs cs how j m) →
     v ≡ halving (fieldOf field) (halfOf field) (backIn pw) (exponentOf (length values)) (1 + how .scale * j) (how .scale * how .step) r (λ m. getD values m 0) →
     v ≡ foldIn field pw table xs cs how k r j
 unfolding foldIn
@@ -100,5 +100,5 @@ folded field pw table xs cs how k r j values fits long there e =
     let d = how .scale * how .step in
     let w : ℕ → ℕ = λ m. getD values m 0 in
     e ∙ ap (λ (l : ℕ). halving (fieldOf field) (halfOf field) (backIn pw) (exponentOf l) (1 + how .scale * j) d r w) long
-    ∙ halving-same (fieldOf field) (halfOf field) (backIn pw) (exponentOf k) (1 + how .scale * j) d r w (λ m. valueIn field pw table xs cs how (j + m * how .step))
+    ∙ halving-same (fieldOf field) (halfOf field) (backIn pw) (exponentOf k) (1 + how .scale * j) d r w (rootIn field pw table xs cs how j)
     (λ m l. there m (omega (arith, power-of fits)))

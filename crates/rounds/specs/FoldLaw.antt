@@ -1,11 +1,11 @@
 -- The definition's fold by halves: at the k roots of a shift point the polynomial through the values has just those values, so that halving them gives it at r.
-use Prim.Native.Nat.{ℕ, zero, suc, _+_, _*_, _^_, _<_}
+use Prim.Native.Nat.{ℕ, suc, _+_, _*_, _^_, _<_}
 use native.Mathlib.Nat
 use native.Mathlib.Nat.{le-of-eq, pow-suc}
 use native.Mathlib.Omega.{arith}
-use mathlib.Core.Path.{_≡_, refl, sym, ap, ap₂, _∙_, subst}
+use mathlib.Core.Path.{_≡_, sym, ap, _∙_, subst}
 use mathlib.Core.List.{List, map}
-use lib.ListN.{length, length-map}
+use lib.ListN.{length-map}
 use Rattle.definition.specs.Lists.{range}
 use Rattle.definition.specs.Field.{Field, power}
 use Rattle.definition.specs.Sheet.{Level, shiftCount}

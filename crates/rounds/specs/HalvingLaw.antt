@@ -1,6 +1,6 @@
 -- The fold by halves of the values of a polynomial with at most k coefficients is its value at r, k = 2^a.
 use Prim.Native.Nat.{ℕ, zero, suc, _+_, _*_, _/_, _^_, _≤_, _<_}
-use native.Mathlib.Nat.{pow-suc, pow-zero}
+use native.Mathlib.Nat.{pow-suc}
 use native.Mathlib.Omega.{arith}
 use mathlib.Core.Path.{_≡_, refl, sym, ap, ap₂, _∙_}
 use mathlib.Core.List.{List, [], _∷_}
@@ -13,17 +13,17 @@ use Rattle.algebra.specs.Laws.{FieldLaws}
 use Rattle.algebra.specs.RingLaws.{power-add}
 use Rattle.algebra.specs.RootsOfUnity.{minusOne}
 use Rattle.algebra.specs.Lengths.{length-scale, length-add-le}
-use Rattle.algebra.specs.Evaluation.{evaluate-add, evaluate-cons, evaluate-nil, evaluate-scale, reduce-evaluate}
+use Rattle.algebra.specs.Evaluation.{evaluate-add, evaluate-scale, reduce-evaluate}
 use Rattle.algebra.specs.Solver.{:0, :1, _:+_, _:-_, _:*_, :-_, _:=_, given, solve₁, solve₂, solve₃, solve₅, solve₈}
 use Rattle.rounds.specs.Halving.{joined, halving, halvings, exponentOf}
 
 -- the coefficients with even and with odd numbers
-pub evens : {A : Type 0} → List A → List A
+evens : {A : Type 0} → List A → List A
 evens [] = []
 evens (c ∷ []) = c ∷ []
 evens (c ∷ b ∷ cs) = c ∷ evens cs
 
-pub odds : {A : Type 0} → List A → List A
+odds : {A : Type 0} → List A → List A
 odds [] = []
 odds (c ∷ []) = []
 odds (c ∷ b ∷ cs) = b ∷ odds cs
@@ -46,7 +46,7 @@ module _ {A : Type 0} (F : Field A) (L : FieldLaws F) where
   infixl 65 _⊕_ _⊖_
   infixl 70 _⊗_
   open Field F using (𝟘, 𝟙, _⊕_, _⊖_, _⊗_)
-  open FieldLaws L using (reduce, add-zero, mul-zero)
+  open FieldLaws L using (reduce, add-zero)
 
   -- q(x) = E(x²) + x·O(x²)
   even-odd : (q : List A) (x : A) → evaluate F q x ≡ evaluate F (evens q) (x ⊗ x) ⊕ x ⊗ evaluate F (odds q) (x ⊗ x)
@@ -58,7 +58,7 @@ module _ {A : Type 0} (F : Field A) (L : FieldLaws F) where
       ∙ solve₅ F L (λ c b e o x. c :+ x :* (b :+ x :* (e :+ x :* o)) := (c :+ x :* x :* e) :+ x :* (b :+ x :* x :* o)) tt c b _ _ x
 
   -- E + r·O
-  unfoldable pub halved : A → List A → List A
+  halved : A → List A → List A
   halved r q = addPoly F (evens q) (scale F r (odds q))
 
   halved-at : (q : List A) (r x : A) → evaluate F (halved r q) x ≡ evaluate F (evens q) x ⊕ r ⊗ evaluate F (odds q) x

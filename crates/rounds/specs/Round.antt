@@ -24,6 +24,10 @@ unfoldable pub valueIn : ℕ → List ℕ → List ℕ → List ℕ → List ℕ
 valueIn field pw table xs cs how m =
     valueOf (fieldOf field) (drop (how .from) xs) (drop (how .from) cs) (how .coin) (pointIn pw (how .scale) m) (getD table m 0)
 
+-- the value at root m of shift point j
+abbrev pub rootIn : ℕ → List ℕ → List ℕ → List ℕ → List ℕ → Function → ℕ → ℕ → ℕ
+rootIn field pw table xs cs how j m = valueIn field pw table xs cs how (j + m * how .step)
+
 -- 1/2 is (p + 1)/2, and p is odd
 unfoldable pub halfOf : ℕ → ℕ
 halfOf field = primeOf field / 2 + 1
@@ -31,8 +35,7 @@ halfOf field = primeOf field / 2 + 1
 -- the fold at shift index j with coin r, by halves of the values at the k roots: the first root is ω^(1 + scale·j), the next are scale·step powers apart
 unfoldable pub foldIn : ℕ → List ℕ → List ℕ → List ℕ → List ℕ → Function → ℕ → ℕ → ℕ → ℕ
 foldIn field pw table xs cs how k r j =
-    halving (fieldOf field) (halfOf field) (backIn pw) (exponentOf k) (1 + how .scale * j) (how .scale * how .step) r
-    (λ m. valueIn field pw table xs cs how (j + m * how .step))
+    halving (fieldOf field) (halfOf field) (backIn pw) (exponentOf k) (1 + how .scale * j) (how .scale * how .step) r (rootIn field pw table xs cs how j)
 
 -- the sample at shift index j
 unfoldable pub sampleIn : ℕ → List ℕ → List ℕ → List ℕ → List ℕ → Function → ℕ → ℕ → ℕ → Sample ℕ

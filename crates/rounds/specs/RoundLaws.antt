@@ -23,7 +23,7 @@ use Rattle.domain.specs.Powers.{Powers}
 use Rattle.rounds.specs.Halving.{halving}
 use Rattle.rounds.specs.HalvingLaw.{halving-same}
 use Rattle.rounds.specs.FoldLaw.{fold-by-halves}
-use Rattle.rounds.specs.Round.{valueIn, halfOf, foldIn, sampleIn, Fits, Below, exponent, first-point, folded, half-way, root-number}
+use Rattle.rounds.specs.Round.{valueIn, rootIn, halfOf, foldIn, sampleIn, Fits, Below, exponent, first-point, folded, half-way, root-number}
 
 -- The words in hand are those of the function f at level b, whose folding number is k.
 pub record Serves (field ω : ℕ) (b : Level) (f : ℕ → ℕ) (pw table xs cs : List ℕ) (how : Function) (k : ℕ) : Type 0 where
@@ -80,8 +80,8 @@ module _ {field ω : ℕ} {b : Level} {f : ℕ → ℕ} {pw table xs cs : List �
       let back = backIn pw in
       let e = 1 + how .scale * j in
       let d = how .scale * how .step in
-      ap (λ (a : ℕ). halving F half back a e d r (λ m. valueIn field pw table xs cs how (j + m * how .step))) (exponent fits)
-      ∙ halving-same F half back (suc (fits .log)) e d r (λ m. valueIn field pw table xs cs how (j + m * how .step)) (λ m. f (j + m * how .step))
+      ap (λ (a : ℕ). halving F half back a e d r (rootIn field pw table xs cs how j)) (exponent fits)
+      ∙ halving-same F half back (suc (fits .log)) e d r (rootIn field pw table xs cs how j) (λ m. f (j + m * how .step))
       (λ m h. s .values (j + m * how .step) (root-number fits l m (omega (arith, fits .two))))
       ∙ (λ i. halving F half back (suc (fits .log)) (1 + s .scale i * j) (s .scale i * s .step i) r (λ m. f (j + m * s .step i)))
       ∙ fold-by-halves F (laws field) ω half back (opposite-signs field) (two-halves field) (back-power (s .powers) (long l)) b f r j (fits .log) (sym (s .fold) ∙ fits .two) turn

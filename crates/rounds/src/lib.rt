@@ -19,7 +19,7 @@ ghost use Rattle.outcome.specs.Meaning.{placeOf};
 ghost use Rattle.samples.specs.Samples.{kept, sifted, Room};
 ghost use Rattle.rounds.specs.Halving.{joined, halving, exponentOf};
 ghost use Rattle.rounds.specs.PointsIn.{backIn, shiftIn, ShiftPoint};
-ghost use Rattle.rounds.specs.Round.{Fits, Below, halfOf, valueIn, foldIn, sampleIn};
+ghost use Rattle.rounds.specs.Round.{Fits, Below, halfOf, valueIn, rootIn, foldIn, sampleIn};
 ghost use Rattle.rounds.specs.RoundLaws.{Answered, Compared};
 
 // How the function of a level is worked out: its point m stands at scale·m in pw, the roots of a shift point have numbers that are `step` apart, and the
@@ -76,12 +76,12 @@ fn gather(
     requires { ⌜ (how .from ≤ length (now xs)) × (length (now xs) ≤ length (now cs)) ⌝ }
     requires { ⌜ Fits (length (now pw)) (length (now table)) how (length (now values)) ⌝ }
     requires { ⌜ j < how .step ⌝ }
-    ensures { λ _. ⌜ ((m : ℕ) → m < length (now (values .entry)) → getD (now (values .exit)) m 0 ≡ valueIn field (now (pw .entry)) (now (table .entry)) (now (xs .entry)) (now (cs .entry)) how (j + m * how .step)) ⌝ }
+    ensures { λ _. ⌜ ((m : ℕ) → m < length (now (values .entry)) → getD (now (values .exit)) m 0 ≡ rootIn field (now (pw .entry)) (now (table .entry)) (now (xs .entry)) (now (cs .entry)) how j m) ⌝ }
 {
     let step = how.step;
     let h = values.len() / 2;
-    let mut i = 0;
-    while i < h {
+    let mut m = 0;
+    while m < h {
         let v = value_two(
             field,
             pw,
@@ -89,12 +89,12 @@ fn gather(
             xs,
             cs,
             how,
-            j + i * step,
-            j + (h + i) * step,
+            j + m * step,
+            j + (h + m) * step,
         );
-        values[i] = v.first;
-        values[h + i] = v.second;
-        i += 1;
+        values[m] = v.first;
+        values[h + m] = v.second;
+        m += 1;
     }
 }
 

@@ -1,35 +1,35 @@
--- `rounds::gather` meets its contract: the values at i pairs of opposite roots are there. Assumes nothing.
+-- `rounds::gather` meets its contract: the values at m pairs of opposite roots are there. Assumes nothing.
 use Prim.Native.Nat.{_+_, _-_, _*_, _/_, _≤_}
 use mathlib.Core.Path.{_≡_, refl, sym, _∙_}
 use native.Mathlib.Omega.{arith}
 use lib.ListN.{length, length-set}
-use Rattle.rounds.specs.Round.{valueIn, even, point-room, root-number}
+use Rattle.rounds.specs.Round.{rootIn, even, point-room, root-number}
 use Rattle.rounds.proofs.Roots.{Paired, paired-none, paired-next, paired-all}
 use Rattle.rounds.proofs.gather.Statement.{statement}
 use Rattle.rounds.proofs.gather.Tie as tie
 
 abbrev Inv-loop : tie.InvT-loop
-Inv-loop field pw table xs cs how j values₀ step h i₀ values i =
-    (i ≤ h) × ((length values ≡ length values₀) × Paired (λ m. valueIn field pw table xs cs how (j + m * how .step)) h i values)
+Inv-loop field pw table xs cs how j values₀ step h m₀ values m =
+    (m ≤ h) × ((length values ≡ length values₀) × Paired (rootIn field pw table xs cs how j) h m values)
 
 abbrev μ-loop : tie.MeasureT-loop
-μ-loop field pw table xs cs how j values₀ step h i₀ values i = h - i
+μ-loop field pw table xs cs how j values₀ step h m₀ values m = h - m
 
 loop-holds : tie.Need-loop-holds Inv-loop μ-loop
 loop-holds c =
     let a = c .before .before .before .before .before .args in
     let h = length (a .values .now) / 2 in
-    (omega arith, (refl, paired-none (λ m. valueIn (a .field) (a .pw .now) (a .table .now) (a .xs .now) (a .cs .now) (a .how) (a .j + m * a .how .step)) h (a .values .now)))
+    (omega arith, (refl, paired-none (rootIn (a .field) (a .pw .now) (a .table .now) (a .xs .now) (a .cs .now) (a .how) (a .j)) h (a .values .now)))
 
 mul-value-two : tie.Need-mul-value-two Inv-loop μ-loop
 mul-value-two c =
     let s = c .before .before .before .before .before .before .before in
-    omega (arith, root-number (s .pre .1 .0) (s .pre .1 .1) (c .before .loop .i) (omega arith))
+    omega (arith, root-number (s .pre .1 .0) (s .pre .1 .1) (c .before .loop .m) (omega arith))
 
 add-value-two : tie.Need-add-value-two Inv-loop μ-loop
 add-value-two c =
     let s = c .before .before .before .before .before .before .before in
-    omega (arith, root-number (s .pre .1 .0) (s .pre .1 .1) (c .before .loop .i) (omega arith))
+    omega (arith, root-number (s .pre .1 .0) (s .pre .1 .1) (c .before .loop .m) (omega arith))
 
 add-value-two-2 : tie.Need-add-value-two-2 Inv-loop μ-loop
 add-value-two-2 c = omega arith
@@ -38,22 +38,22 @@ mul-value-two-2 : tie.Need-mul-value-two-2 Inv-loop μ-loop
 mul-value-two-2 c =
     let s = c .before .before .before .before .before .before .before in
     let h = length (s .args .values .now) / 2 in
-    omega (arith, root-number (s .pre .1 .0) (s .pre .1 .1) (h + c .before .loop .i) (omega arith))
+    omega (arith, root-number (s .pre .1 .0) (s .pre .1 .1) (h + c .before .loop .m) (omega arith))
 
 add-value-two-3 : tie.Need-add-value-two-3 Inv-loop μ-loop
 add-value-two-3 c =
     let s = c .before .before .before .before .before .before .before in
     let h = length (s .args .values .now) / 2 in
-    omega (arith, root-number (s .pre .1 .0) (s .pre .1 .1) (h + c .before .loop .i) (omega arith))
+    omega (arith, root-number (s .pre .1 .0) (s .pre .1 .1) (h + c .before .loop .m) (omega arith))
 
 value-two-requires : tie.Need-value-two-requires Inv-loop μ-loop
 value-two-requires c κs =
     let s = c .before .before .before .before .before .before .before in
-    let i = c .before .loop .i in
+    let m = c .before .loop .m in
     let h = length (s .args .values .now) / 2 in
     let fits = s .pre .1 .0 in
-    let low = root-number fits (s .pre .1 .1) i (omega arith) in
-    let high = root-number fits (s .pre .1 .1) (h + i) (omega arith) in
+    let low = root-number fits (s .pre .1 .1) m (omega arith) in
+    let high = root-number fits (s .pre .1 .1) (h + m) (omega arith) in
     (s .pre .0, ((low, high), (point-room fits _ low, point-room fits _ high)))
 
 mul-values : tie.Need-mul-values Inv-loop μ-loop
@@ -71,8 +71,8 @@ mul-values-2 c = omega arith
 slice-write-values-2 : tie.Need-slice-write-values-2 Inv-loop μ-loop
 slice-write-values-2 c = simp length-set (omega (arith, c .before .before .loop .inv .1 .0))
 
-add-i : tie.Need-add-i Inv-loop μ-loop
-add-i c = omega arith
+add-m : tie.Need-add-m Inv-loop μ-loop
+add-m c = omega arith
 
 loop-less : tie.Need-loop-less Inv-loop μ-loop
 loop-less c = omega arith
@@ -84,8 +84,7 @@ loop-again c =
     let a = s .args in
     let h = length (a .values .now) / 2 in
     let two : length (l .values) ≡ h + h = l .inv .1 .0 ∙ sym (even (s .pre .1 .0)) in
-    let more = paired-next (λ m. valueIn (a .field) (a .pw .now) (a .table .now) (a .xs .now) (a .cs .now) (a .how) (a .j + m * a .how .step)) h (l .values) (l .i)
-    (omega arith) two (l .inv .1 .1) (c .value-two .ensures .0) (c .value-two .ensures .1) in
+    let more = paired-next (rootIn (a .field) (a .pw .now) (a .table .now) (a .xs .now) (a .cs .now) (a .how) (a .j)) h (l .values) (l .m) (omega arith) two (l .inv .1 .1) (c .value-two .ensures .0) (c .value-two .ensures .1) in
     (omega arith, (simp length-set (l .inv .1 .0), more))
 
 same-length : tie.Need-same-length Inv-loop μ-loop
@@ -97,8 +96,7 @@ returns c =
     let s = c .before .before .before .before .before .before .before in
     let a = s .args in
     let h = length (a .values .now) / 2 in
-    λ m u. paired-all (λ m. valueIn (a .field) (a .pw .now) (a .table .now) (a .xs .now) (a .cs .now) (a .how) (a .j + m * a .how .step)) h (l .values) (l .i)
-    (omega arith) (l .inv .1 .1) m (omega (arith, u, even (s .pre .1 .0)))
+    λ m u. paired-all (rootIn (a .field) (a .pw .now) (a .table .now) (a .xs .now) (a .cs .now) (a .how) (a .j)) h (l .values) (l .m) (omega arith) (l .inv .1 .1) m (omega (arith, u, even (s .pre .1 .0)))
 
 pub gather-spec : {M : Type 1} → statement M
 gather-spec =
@@ -118,7 +116,7 @@ gather-spec =
     add-values
     mul-values-2
     slice-write-values-2
-    add-i
+    add-m
     loop-less
     loop-again
     same-length
