@@ -57,6 +57,7 @@ abbrev pub Below : ℕ → List ℕ → Type 0
 Below count js = (i : ℕ) → i < length js → getD js i 0 < count
 
 module _ {points n : ℕ} {how : Function} {k : ℕ} (fits : Fits points n how k) where
+  -- k is a power of two, and not 1
   pub folded : 1 < k
   folded = omega (arith, fits .two, pow-suc 2 (fits .log), pow-pos (fits .log))
 
@@ -76,7 +77,7 @@ module _ {points n : ℕ} {how : Function} {k : ℕ} (fits : Fits points n how k
       less : (s : ℕ) → 0 < s → s * n ≤ points → s * m < points
       less s h r = let e : s * (m + 1) ≤ s * n = mul-le-mul-left s (omega arith) in omega arith
 
-  -- root i of shift index j stands in the table of values, and its point in that of points
+  -- root i of shift index j stands in the table of values, and the point of index j in that of points
   pub root-number : {j : ℕ} → j < how .step → (i : ℕ) → i < k → j + i * how .step < n
   root-number below i l = let r = fits .roots in omega (arith, suc-mul i (how .step), mul-le-mul-right (how .step) l)
 

@@ -6,7 +6,7 @@
 //
 // The fold at a shift point takes no inversion. Its k roots are x·ζ^m, where ζ^(k/2) is -1, so root m and root m + k/2 are opposite. From the values v at x
 // and w at -x the polynomial E + r·O, made of the even and the odd half of the one through all k values, has (v + w + r·(v - w)/x)/2 at x², and at r² what
-// that one has at r. So k values halve to k/2, until one is left. values is scratch for them, k words.
+// that one has at r. So k values halve to k/2, until one is left. The caller lends `values` for them, k words of scratch.
 use outcome::Found;
 use polynomial::Two;
 use samples::Gathered;
@@ -62,7 +62,7 @@ fn value_two(
     polynomial::corrected_two(field, xs, cs, how.from, how.coin, x1, y1, x2, y2)
 }
 
-// The values at the k roots of shift point j into values, two opposite roots at a time.
+// The values at the k roots of shift point j into `values`, two opposite roots at a time.
 fn gather(
     field: u32,
     pw: &[u32],
@@ -142,7 +142,7 @@ fn turn(field: u32, pw: &[u32], half: u32, e: usize, d: usize, r: u32, h: usize,
     }
 }
 
-// The values values, at the powers e, e + d, .. of ω, folded with r. Each turn doubles the exponents and squares the coin.
+// The values at the powers e, e + d, .. of ω, folded with r. Each turn doubles the exponents and squares the coin.
 fn fold_values(field: u32, pw: &[u32], e: usize, d: usize, r: u32, values: &mut [u32]) -> u32
     requires { ⌜ (0 < length (now pw)) × ((e ≤ 4096) × (d ≤ 4096)) ⌝ }
     requires { ⌜ (length (now values) ≡ 2 ^ exponentOf (length (now values))) × (length (now values) ≤ 16) ⌝ }
