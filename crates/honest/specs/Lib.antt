@@ -1,0 +1,5 @@
+pub mod Points
+pub mod Standing
+pub mod Levels
+pub mod Sizes
+pub mod Beginning

@@ -1,0 +1,183 @@
+-- What a sheet that passes gives at the level where the prover stands: the sizes of its words, of the polynomial, of the table and of the next level.
+use Prim.Native.Nat.{ℕ, suc, _+_, _-_, _*_, _/_, _%_, _^_, _≤_, _<_}
+use native.Mathlib.Nat.{div-le-self, div-mul-le-self, mod-mod, mul-comm, mul-div-cancel, mul-one, mul-le-mul-left, pow-suc, suc-mul}
+use native.Mathlib.Numerals.{add-one}
+use native.Mathlib.Omega.{arith}
+use mathlib.Core.Bool.{_&&_}
+use mathlib.Core.List.{List}
+use mathlib.Core.Path.{_≡_, sym, ap, _∙_, subst}
+use lib.ListN.{length, getD}
+use lib.Pow.{pow-mono, pow-pos}
+use Rattle.definition.specs.Field.{fieldOf, power, primeField, primeOf}
+use Rattle.definition.specs.Prover.{tableOf}
+use Rattle.definition.specs.Reading.{sheetTest}
+use Rattle.definition.specs.Sheet.{between, degreeRule, foldRule, powerOfTwo, rootOfUnity, sheetOf, sheetRules, shiftCount}
+use Rattle.definition.specs.Verdict.{accepted}
+use Rattle.algebra.specs.ListFacts.{All}
+use Rattle.algebra.specs.ModularArithmetic.{pow-pow}
+use Rattle.completeness.specs.ByPlace.{at-place}
+use Rattle.completeness.specs.LevelSizes
+use Rattle.completeness.specs.LevelsByNumber.{folded}
+use Rattle.completeness.specs.Numbered.{levelOf, outsOf, roundsOf}
+use Rattle.completeness.specs.Ready.{ready, ready-sized}
+use Rattle.completeness.specs.SheetLevels
+use Rattle.completeness.specs.SheetRules.{Exponents, between-true, exponents, rules-hold}
+use Rattle.completeness.specs.Tests.{and-true}
+use Rattle.domain.specs.Powers.{Powers}
+use Rattle.sheet.specs.Bounds.{ranges}
+use Rattle.tables.specs.OnDomain.{DomainFits, DomainTable, domain-fits, scale-fits}
+use Rattle.honest.specs.Points.{InTable}
+use Rattle.honest.specs.Standing.{OnLevel, Standing, fieldAt, repetitionsOf, rootAt}
+
+-- k is at most 16 and d0 at most 2048
+few-folds : (w : List ℕ) → sheetTest w ≡ accepted → getD w 3 0 ≤ 16
+unfolding sheetRules foldRule
+few-folds w e =
+    let k = getD w 3 0 in
+    between-true 2 16 k (and-true (powerOfTwo k) _ (and-true (powerOfTwo k && between 2 16 k) _ (rules-hold w e .1 .1 .1 .0) .0) .1) .1
+
+few-coefficients : (w : List ℕ) → sheetTest w ≡ accepted → getD w 2 0 ≤ 2048
+unfolding sheetRules degreeRule
+few-coefficients w e =
+    let d = getD w 2 0 in
+    omega (arith, ranges w e .size, between-true 2 (getD w 1 0 / 2) d (and-true (powerOfTwo d) _ (rules-hold w e .1 .1 .0) .1) .1)
+
+-- the bounds of the sheet's words, of the polynomial, of its fold and of the scale
+pub record Sizes (w : List ℕ) (i scale count points : ℕ) : Type 0 where
+  pub fold : 2 ≤ getD w 3 0
+  pub folds : getD w 3 0 ≤ 16
+  pub rounds : getD w 4 0 ≤ 5
+  pub outs : outsOf w ≤ 2
+  pub repetitions : repetitionsOf w i ≤ 64
+  pub points-most : points ≤ 4096
+  pub some-points : 0 < points
+  pub divides : count ≡ getD w 3 0 * (count / getD w 3 0)
+  pub most : count / getD w 3 0 ≤ 1024
+  pub scaled : 0 < scale
+  pub small : scale ≤ 32
+  pub whole : scale * levelOf w i .size ≡ points
+
+pub sizes : (w pw : List ℕ) (i scale count : ℕ) → Standing w pw i scale count → Sizes w i scale count (length pw)
+sizes w pw i scale count st =
+    let r = ranges w (st .passed) in
+    let k = getD w 3 0 in
+    let x = exponents w (st .passed) in
+    let z = SheetLevels.sized w (st .long) (st .passed) i (st .level) in
+    let n : length pw ≡ 2 ^ suc (x .a) = st .points ∙ x .size in
+    let d : count ≤ 2048 = omega (arith, st .degree, div-le-self (getD w 2 0) (k ^ i), few-coefficients w (st .passed)) in
+    record {
+      fold = r .fold;
+      folds = few-folds w (st .passed);
+      rounds = r .rounds;
+      outs = r .outCoins;
+      repetitions = r .repetitions i (omega (arith, st .level, r .rounds));
+      points-most = omega (arith, st .points, r .size);
+      some-points = omega (arith, n, pow-pos (suc (x .a)));
+      divides = rw (st .degree) (sym (z .degrees) ∙ mul-comm _ k);
+      most = omega (arith, div-mul-le-self count k, mul-le-mul-left (count / k) (r .fold), d);
+      scaled = omega (arith, st .scaled, pow-pos i);
+      small = small i (omega (arith, st .level, r .rounds)) (st .scaled);
+      whole = ap (λ (s : ℕ). s * levelOf w i .size) (st .scaled) ∙ z .whole ∙ sym n;
+    }
+  where
+    small : (j : ℕ) → j ≤ 5 → scale ≡ 2 ^ j → scale ≤ 32
+    small j h e = omega (arith, pow-mono h)
+
+-- the place in the table of each shift index
+pub shifts-inside : (w : List ℕ) (i scale count points : ℕ) (js : List ℕ) → Sizes w i scale count points → All (λ j. j < shiftCount (levelOf w i)) js → InTable points scale js
+unfolding shiftCount
+shifts-inside w i scale count points js z below = λ m l.
+    inside (getD js m 0) (levelOf w i .size) (at-place (λ j. j < levelOf w i .size / getD w 3 0) js 0 below m l) (z .whole)
+  where
+    inside : (j n : ℕ) → j < n / getD w 3 0 → scale * n ≡ points → scale * j < points
+    inside j n h e =
+        let g : j + 1 ≤ n = omega (arith, div-le-self n (getD w 3 0)) in
+        omega (arith, mul-le-mul-left scale g, z .scaled)
+
+module _ (w pw : List ℕ) (i scale m : ℕ) (st : Standing w pw i scale (getD w 3 0 * m)) where
+  one-fold : getD w 3 0 * m / getD w 3 0 ≡ m
+  one-fold = let k = getD w 3 0 in ap (λ (d : ℕ). d / k) (mul-comm k m) ∙ mul-div-cancel m (omega (arith, sizes w pw i scale (k * m) st .fold))
+
+  -- the fold has places enough, and its number of coefficients is the next degree bound
+  pub fold-most : m ≤ 1024
+  fold-most = omega (arith, one-fold, sizes w pw i scale (getD w 3 0 * m) st .most)
+
+  fold-count : levelOf w (i + 1) .degree ≡ m
+  fold-count =
+      let k = getD w 3 0 in
+      ap (λ (j : ℕ). getD w 2 0 / k ^ j) (add-one i) ∙ sym (folded (getD w 2 0) k i) ∙ ap (λ (d : ℕ). d / k) (sym (st .degree)) ∙ one-fold
+
+  pub next-scale : 2 * scale ≡ 2 ^ (i + 1)
+  next-scale = ap (λ (s : ℕ). 2 * s) (st .scaled) ∙ sym (ap (λ (j : ℕ). 2 ^ j) (add-one i) ∙ pow-suc 2 i ∙ mul-comm (2 ^ i) 2)
+
+  pub next-size : length pw / (2 * scale) ≡ levelOf w (i + 1) .size
+  next-size = λ x. st .points x / next-scale x
+
+  -- the next level
+  pub next-standing : i < roundsOf w → Standing w pw (i + 1) (2 * scale) m
+  next-standing l = record {
+    long = st .long;
+    passed = st .passed;
+    powers = st .powers;
+    points = st .points;
+    level = omega arith;
+    scaled = next-scale;
+    degree = sym fold-count;
+  }
+
+  -- the table of the fold over the next domain
+  pub next-on-level : (n : ℕ) → n ≡ length pw / (2 * scale) → i < roundsOf w → OnLevel w pw (2 * scale) m n
+  next-on-level n e l = record { number = i + 1; standing = next-standing l; size = e ∙ next-size }
+
+  -- fewer points than coefficients
+  pub fewer-points : i < roundsOf w → outsOf w + repetitionsOf w i < m
+  fewer-points l =
+      let e : levelOf w (suc i) .degree ≡ m = ap (λ (j : ℕ). levelOf w j .degree) (sym (add-one i)) ∙ fold-count in
+      omega (arith, SheetLevels.step w (st .long) (st .passed) i l .few)
+
+-- ---- what a table over the level's domain asks
+
+first-power : (w pw : List ℕ) → Powers (getD w 0 0) (rootAt w) pw → 0 < length pw → getD pw 0 0 ≡ rootAt w
+unfolding fieldOf primeField power rootOfUnity sheetOf
+first-power w pw p some = p .entry 0 some ∙ ap (λ (n : ℕ). n % primeOf (getD w 0 0)) (mul-one (rootAt w)) ∙ mod-mod _ (primeOf (getD w 0 0))
+
+module _ (w : List ℕ) (long : length w ≡ 12) (passed : sheetTest w ≡ accepted) (i : ℕ) (l : i ≤ roundsOf w) where
+  open Exponents (exponents w passed) using (a, b, c, size, degree, fold, below, rounds)
+
+  narrow : (suc c * i + suc c ≤ b) × (i ≤ suc c * i)
+  narrow = (omega (arith, rounds, mul-le-mul-left (suc c) l), omega (arith, suc-mul c i))
+
+  size-power : levelOf w i .size ≡ 2 ^ (suc a - i)
+  size-power = let e : suc a ≡ suc a - i + i = omega (arith, narrow, below) in ap (λ (n : ℕ). n / 2 ^ i) (size ∙ ap (λ (n : ℕ). 2 ^ n) e) ∙ LevelSizes.quotient (suc a - i) i
+
+  degree-power : levelOf w i .degree ≡ 2 ^ (b - suc c * i)
+  degree-power =
+      let e : b ≡ b - suc c * i + suc c * i = omega (arith, narrow) in
+      (λ x. (degree ∙ ap (λ (n : ℕ). 2 ^ n) e) x / (ap (λ (k : ℕ). k ^ i) fold ∙ pow-pow 2 (suc c) i) x) ∙ LevelSizes.quotient (b - suc c * i) (suc c * i)
+
+  level-fits : (scale : ℕ) → scale ≡ 2 ^ i → DomainFits (fieldAt w) (levelOf w i .degree) (rootAt w) scale (levelOf w i .size)
+  unfolding fieldOf sheetOf
+  level-fits scale e =
+      let r = ready w long passed in
+      domain-fits (fieldAt w) (rootAt w) (r .e) (b - suc c * i) (suc a - i) (r .root)
+      (ap (λ (s : ℕ). s * levelOf w i .size) e ∙ ready-sized w long passed i l .whole ∙ omega (arith, pow-suc 2 (r .e)))
+      degree-power size-power (omega (arith, narrow, below))
+
+-- the table's first word is ω
+pub level-asks : (w pw : List ℕ) (scale count n : ℕ) → OnLevel w pw scale count n → (scale < 2 ^ 32) × DomainFits (fieldAt w) count (getD pw 0 0) scale n
+level-asks w pw scale count n o =
+    let i = o .number in
+    let st = o .standing in
+    let z = sizes w pw i scale count st in
+    let f = level-fits w (st .long) (st .passed) i (st .level) scale (st .scaled) in
+    let e = size-power w (st .long) (st .passed) i (st .level) in (
+      scale-fits (z .whole) (omega (arith, e, pow-pos (suc (exponents w (st .passed) .a) - i))) (z .points-most),
+      rw (st .degree, o .size, first-power w pw (st .powers) (z .some-points)) f,
+    )
+
+-- so that what is given of its first word is given of ω
+pub level-table : (w pw : List ℕ) (scale count n : ℕ) (f out : List ℕ) → OnLevel w pw scale count n → DomainTable (fieldAt w) f (getD pw 0 0) scale n out → DomainTable (fieldAt w) f (rootAt w) scale n out
+level-table w pw scale count n f out o t =
+    let st = o .standing in
+    let z = sizes w pw (o .number) scale count st in
+    λ l. subst (λ (ω : ℕ). 2 ^ l .number ≡ scale → l .size ≡ n → out ≡ tableOf (fieldAt w) ω l f) (first-power w pw (st .powers) (z .some-points)) (t l)
