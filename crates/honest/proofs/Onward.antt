@@ -1,6 +1,7 @@
 -- From a level to the next: what the numbers that the code works out say of the coins, the words and the next level, and how the words of both parts join.
 -- Assumes nothing.
 use Prim.Native.Nat.{ℕ, _+_, _-_, _*_, _/_, _≤_, _<_}
+use native.Mathlib.Nat.{div-le-self}
 use native.Mathlib.Omega.{arith}
 use mathlib.Core.List.{List, _++_}
 use mathlib.Core.Path.{_≡_, sym, ap, _∙_, subst}
@@ -28,11 +29,14 @@ words-last w pw i scale count coins n st dealt words last =
 
 -- before round i + 1: the fold has d coefficients, the round has `used` coins and `written` words, and n words are still to be written
 pub record Onward (w pw : List ℕ) (i scale count : ℕ) (coins : List ℕ) (n d used written : ℕ) : Type 0 where
+  pub more : i < roundsOf w
   pub fold : count ≡ getD w 3 0 * d
   pub room : d ≤ 1024
   pub round : RoundDealt w i coins
   pub coin : outsOf w + 1 < length coins
   pub inside : used ≤ length coins
+  pub few : used ≤ 68
+  pub short : written ≤ 4166
   pub words : written ≡ roundCount w i
   pub within : written ≤ n
   pub next : Standing w pw (i + 1) (2 * scale) d
@@ -52,11 +56,14 @@ onward w pw i scale count coins n d used written st dealt words more ed eu ew =
     let e = next-size w pw i scale d folded in
     let c = count-more w i more in
     record {
+      more = more;
       fold = fold;
       room = fold-most w pw i scale d folded;
       round = q .0;
       coin = omega (arith, q .0 .there);
       inside = omega (arith, q .0 .there);
+      few = omega (arith, z .outs, z .repetitions);
+      short = omega (arith, z .outs, z .repetitions, z .points-most, div-le-self (length pw) (2 * scale));
       words = omega (arith, e);
       within = omega (arith, e, c);
       next = next-standing w pw i scale d folded more;

@@ -9,7 +9,7 @@ use borrow.Author.Needs.{needs}
 use Rattle.honest.specs.Levels.{rest-none}
 use Rattle.honest.specs.Sizes.{sizes}
 use Rattle.honest.specs.Standing.{DealtFrom, Standing}
-use Rattle.honest.proofs.Onward.{all-left, not-last, onward, words-join, words-last}
+use Rattle.honest.proofs.Onward.{Onward, all-left, not-last, onward, words-join, words-last}
 use Rattle.honest.proofs.Parts.{begun-long, filled-long, front-stays, front-there, joined, others-long}
 use borrow.Fn.Kinds.{In}
 use borrow.Fn.PlainCycle.{Measures, is, falls, and}
@@ -56,6 +56,21 @@ calls t = (
   rest.Post,
 )
 
+-- what is known once the numbers of the round are worked out
+ahead : (t : ℕ) (c : rest-lts.After-round-words (calls t) (rest-at t) rest.Post) →
+    let a = c .before .before .before .before .before .before .before .before .before .before .args in
+    Onward (a .w .now) (a .pw .now) (a .level) (a .scale) (length (a .f .now)) (a .coins .now) (length (a .out .now)) (c .before .before .fold-length .result) (c .before .round-coins .result) (c .round-words .result)
+ahead t c =
+    let s = c .before .before .before .before .before .before .before .before .before .before in
+    let a = s .args in
+    let more = not-last (a .level) (getD (a .w .now) 4 0) (s .pre .1 .0 .level) (c .before .before .before .if1 .left) in
+    onward (a .w .now) (a .pw .now) (a .level) (a .scale) (length (a .f .now)) (a .coins .now) (length (a .out .now)) (c .before .before .fold-length .result) (c .before .round-coins .result) (c .round-words .result)
+    (s .pre .1 .0) (s .pre .1 .1 .0) (s .pre .1 .1 .1) more (c .before .before .fold-length .ensures) (c .before .round-coins .ensures) (c .round-words .ensures)
+
+-- the fold has places enough
+roomy : (t : ℕ) (c : rest-lts.After-fold-room (calls t) (rest-at t) rest.Post) → c .before .before .before .fold-length .result ≤ length (c .fold-room .result)
+roomy t c = omega (arith, ahead t (c .before) .room, c .fold-room .ensures)
+
 rest-shared-slice-read-if1 : (t : ℕ) → rest-lts.Need-shared-slice-read-if1 (calls t) (rest-at t) rest.Post
 rest-shared-slice-read-if1 t c = let s = c .before .before .before .before .before .before in omega (arith, s .pre .1 .0 .long)
 
@@ -101,73 +116,35 @@ rest-fold-room-requires : (t : ℕ) → rest-lts.Need-fold-room-requires (calls 
 rest-fold-room-requires t c κs = search needs
 
 rest-array-borrow-prefix-next : (t : ℕ) → rest-lts.Need-array-borrow-prefix-next (calls t) (rest-at t) rest.Post
-rest-array-borrow-prefix-next t c =
-    let s = c .before .before .before .before .before .before .before .before .before .before .before in
-    let a = s .args in
-    let more = not-last (a .level) (getD (a .w .now) 4 0) (s .pre .1 .0 .level) (c .before .before .before .before .if1 .left) in
-    let fl = c .before .before .before .fold-length in
-    let rc = c .before .before .round-coins in
-    let rw = c .before .round-words in
-    let o = onward (a .w .now) (a .pw .now) (a .level) (a .scale) (length (a .f .now)) (a .coins .now) (length (a .out .now)) (fl .result) (rc .result) (rw .result)
-    (s .pre .1 .0) (s .pre .1 .1 .0) (s .pre .1 .1 .1) more (fl .ensures) (rc .ensures) (rw .ensures) in
-    omega (arith, o .room, c .fold-room .ensures)
+rest-array-borrow-prefix-next t c = roomy t c
 
 rest-slice-aggregate-step : (t : ℕ) → rest-lts.Need-slice-aggregate-step (calls t) (rest-at t) rest.Post
 rest-slice-aggregate-step t c =
-    let s = c .before .before .before .before .before .before .before .before .before .before .before .before in
-    let a = s .args in
-    let more = not-last (a .level) (getD (a .w .now) 4 0) (s .pre .1 .0 .level) (c .before .before .before .before .before .if1 .left) in
-    let fl = c .before .before .before .before .fold-length in
-    let rc = c .before .before .before .round-coins in
-    let rw = c .before .before .round-words in
-    let o = onward (a .w .now) (a .pw .now) (a .level) (a .scale) (length (a .f .now)) (a .coins .now) (length (a .out .now)) (fl .result) (rc .result) (rw .result)
-    (s .pre .1 .0) (s .pre .1 .1 .0) (s .pre .1 .1 .1) more (fl .ensures) (rc .ensures) (rw .ensures) in
-    let m = c .before .fold-room in
-    let fits : fl .result ≤ length (m .result) = omega (arith, o .room, m .ensures) in
-    sym (length-take-le (fl .result) (m .result) fits)
+    let d = c .before .before .before .before .fold-length .result in
+    let m = c .before .fold-room .result in
+    let fits = roomy t (c .before) in
+    sym (length-take-le d m fits)
 
 rest-slice-relend-prefix-step : (t : ℕ) → rest-lts.Need-slice-relend-prefix-step (calls t) (rest-at t) rest.Post
-rest-slice-relend-prefix-step t c =
-    let s = c .before .before .before .before .before .before .before .before .before .before .before .before in
-    let a = s .args in
-    let more = not-last (a .level) (getD (a .w .now) 4 0) (s .pre .1 .0 .level) (c .before .before .before .before .before .if1 .left) in
-    let fl = c .before .before .before .before .fold-length in
-    let rc = c .before .before .before .round-coins in
-    let rw = c .before .before .round-words in
-    let o = onward (a .w .now) (a .pw .now) (a .level) (a .scale) (length (a .f .now)) (a .coins .now) (length (a .out .now)) (fl .result) (rc .result) (rw .result)
-    (s .pre .1 .0) (s .pre .1 .1 .0) (s .pre .1 .1 .1) more (fl .ensures) (rc .ensures) (rw .ensures) in
-    o .within
+rest-slice-relend-prefix-step t c = ahead t (c .before .before) .within
 
 rest-slice-aggregate-step-2 : (t : ℕ) → rest-lts.Need-slice-aggregate-step-2 (calls t) (rest-at t) rest.Post
 rest-slice-aggregate-step-2 t c =
-    let s = c .before .before .before .before .before .before .before .before .before .before .before .before .before in
-    let a = s .args in
-    let more = not-last (a .level) (getD (a .w .now) 4 0) (s .pre .1 .0 .level) (c .before .before .before .before .before .before .if1 .left) in
-    let fl = c .before .before .before .before .before .fold-length in
-    let rc = c .before .before .before .before .round-coins in
-    let rw = c .before .before .before .round-words in
-    let o = onward (a .w .now) (a .pw .now) (a .level) (a .scale) (length (a .f .now)) (a .coins .now) (length (a .out .now)) (fl .result) (rc .result) (rw .result)
-    (s .pre .1 .0) (s .pre .1 .1 .0) (s .pre .1 .1 .1) more (fl .ensures) (rc .ensures) (rw .ensures) in
-    sym (length-take-le (rw .result) (a .out .now) (o .within))
+    let a = c .before .before .before .before .before .before .before .before .before .before .before .before .before .args in
+    let n = c .before .before .before .round-words .result in
+    sym (length-take-le n (a .out .now) (ahead t (c .before .before .before) .within))
 
 rest-step-requires : (t : ℕ) → rest-lts.Need-step-requires (calls t) (rest-at t) rest.Post
 rest-step-requires t c κs =
+    let o = ahead t (c .before .before .before) in
+    let d = c .before .before .before .before .before .fold-length .result in
+    let m = c .before .before .fold-room .result in
+    let fits = roomy t (c .before .before) in
+    let n = c .before .before .before .round-words .result in
     let s = c .before .before .before .before .before .before .before .before .before .before .before .before .before in
     let a = s .args in
-    let more = not-last (a .level) (getD (a .w .now) 4 0) (s .pre .1 .0 .level) (c .before .before .before .before .before .before .if1 .left) in
-    let fl = c .before .before .before .before .before .fold-length in
-    let rc = c .before .before .before .before .round-coins in
-    let rw = c .before .before .before .round-words in
-    let o = onward (a .w .now) (a .pw .now) (a .level) (a .scale) (length (a .f .now)) (a .coins .now) (length (a .out .now)) (fl .result) (rc .result) (rw .result)
-    (s .pre .1 .0) (s .pre .1 .1 .0) (s .pre .1 .1 .1) more (fl .ensures) (rc .ensures) (rw .ensures) in
-    let m = c .before .before .fold-room in
-    let fits : fl .result ≤ length (m .result) = omega (arith, o .room, m .ensures) in (
-      (s .pre .1 .0, more),
-      (
-        o .fold ∙ ap (λ (n : ℕ). getD (a .w .now) 3 0 * n) (sym (length-take-le (fl .result) (m .result) fits)),
-        (o .round, length-take-le (rw .result) (a .out .now) (o .within) ∙ o .words),
-      ),
-    )
+    let fold = o .fold ∙ ap (λ (j : ℕ). getD (a .w .now) 3 0 * j) (sym (length-take-le d m fits)) in
+    ((s .pre .1 .0, o .more), (fold, (o .round, length-take-le n (a .out .now) (o .within) ∙ o .words)))
 
 rest-add-rest : (t : ℕ) → rest-lts.Need-add-rest (calls t) (rest-at t) rest.Post
 rest-add-rest t c =
@@ -185,146 +162,73 @@ rest-mul-rest t c =
 
 rest-array-share-prefix-next : (t : ℕ) → rest-lts.Need-array-share-prefix-next (calls t) (rest-at t) rest.Post
 rest-array-share-prefix-next t c =
-    let s = c .before .before .before .before .before .before .before .before .before .before .before .before .before .before .before .before .before in
-    let a = s .args in
-    let more = not-last (a .level) (getD (a .w .now) 4 0) (s .pre .1 .0 .level) (c .before .before .before .before .before .before .before .before .before .before .if1 .left) in
-    let fl = c .before .before .before .before .before .before .before .before .before .fold-length in
-    let rc = c .before .before .before .before .before .before .before .before .round-coins in
-    let rw = c .before .before .before .before .before .before .before .round-words in
-    let o = onward (a .w .now) (a .pw .now) (a .level) (a .scale) (length (a .f .now)) (a .coins .now) (length (a .out .now)) (fl .result) (rc .result) (rw .result)
-    (s .pre .1 .0) (s .pre .1 .1 .0) (s .pre .1 .1 .1) more (fl .ensures) (rc .ensures) (rw .ensures) in
-    let m = c .before .before .before .before .before .before .fold-room in
-    let fits : fl .result ≤ length (m .result) = omega (arith, o .room, m .ensures) in
+    let d = c .before .before .before .before .before .before .before .before .before .fold-length .result in
+    let m = c .before .before .before .before .before .before .fold-room .result in
+    let fits = roomy t (c .before .before .before .before .before .before) in
     let q = c .before .before .before .step in
-    omega (arith, begun-long (m .result) (q .last .1 .1 .1 .1 .1 .1 .1 .0) (fl .result) fits (q .kept .1 .1 .1 .1 .1 .1 .1 .0), fits)
+    omega (arith, begun-long m (q .last .1 .1 .1 .1 .1 .1 .1 .0) d fits (q .kept .1 .1 .1 .1 .1 .1 .1 .0), fits)
 
 rest-slice-aggregate-rest : (t : ℕ) → rest-lts.Need-slice-aggregate-rest (calls t) (rest-at t) rest.Post
 rest-slice-aggregate-rest t c =
-    let s = c .before .before .before .before .before .before .before .before .before .before .before .before .before .before .before .before .before .before in
-    let a = s .args in
-    let more = not-last (a .level) (getD (a .w .now) 4 0) (s .pre .1 .0 .level) (c .before .before .before .before .before .before .before .before .before .before .before .if1 .left) in
-    let fl = c .before .before .before .before .before .before .before .before .before .before .fold-length in
-    let rc = c .before .before .before .before .before .before .before .before .before .round-coins in
-    let rw = c .before .before .before .before .before .before .before .before .round-words in
-    let o = onward (a .w .now) (a .pw .now) (a .level) (a .scale) (length (a .f .now)) (a .coins .now) (length (a .out .now)) (fl .result) (rc .result) (rw .result)
-    (s .pre .1 .0) (s .pre .1 .1 .0) (s .pre .1 .1 .1) more (fl .ensures) (rc .ensures) (rw .ensures) in
-    let m = c .before .before .before .before .before .before .before .fold-room in
-    let fits : fl .result ≤ length (m .result) = omega (arith, o .room, m .ensures) in
+    let d = c .before .before .before .before .before .before .before .before .before .before .fold-length .result in
+    let m = c .before .before .before .before .before .before .before .fold-room .result in
+    let fits = roomy t (c .before .before .before .before .before .before .before) in
     let q = c .before .before .before .before .step in
-    sym (front-there (m .result) (q .last .1 .1 .1 .1 .1 .1 .1 .0) (fl .result) fits (q .kept .1 .1 .1 .1 .1 .1 .1 .0))
+    sym (front-there m (q .last .1 .1 .1 .1 .1 .1 .1 .0) d fits (q .kept .1 .1 .1 .1 .1 .1 .1 .0))
 
 rest-fold-coin-requires : (t : ℕ) → rest-lts.Need-fold-coin-requires (calls t) (rest-at t) rest.Post
-rest-fold-coin-requires t c κs =
-    let s = c .before .before .before .before .before .before .before .before .before .before .before .before .before .before .before .before .before .before in
-    let a = s .args in
-    let more = not-last (a .level) (getD (a .w .now) 4 0) (s .pre .1 .0 .level) (c .before .before .before .before .before .before .before .before .before .before .before .if1 .left) in
-    let fl = c .before .before .before .before .before .before .before .before .before .before .fold-length in
-    let rc = c .before .before .before .before .before .before .before .before .before .round-coins in
-    let rw = c .before .before .before .before .before .before .before .before .round-words in
-    let o = onward (a .w .now) (a .pw .now) (a .level) (a .scale) (length (a .f .now)) (a .coins .now) (length (a .out .now)) (fl .result) (rc .result) (rw .result)
-    (s .pre .1 .0) (s .pre .1 .1 .0) (s .pre .1 .1 .1) more (fl .ensures) (rc .ensures) (rw .ensures) in
-    (s .pre .1 .0 .long, o .coin)
+rest-fold-coin-requires t c κs = (c .before .before .before .before .before .before .before .before .before .before .before .before .before .before .before .before .before .before .pre .1 .0 .long, ahead t (c .before .before .before .before .before .before .before .before) .coin)
 
 rest-mul-rest-2 : (t : ℕ) → rest-lts.Need-mul-rest-2 (calls t) (rest-at t) rest.Post
-rest-mul-rest-2 t c =
-    let s = c .before .before .before .before .before .before .before .before .before .before .before .before .before .before .before .before .before .before .before in
-    let a = s .args in
-    let more = not-last (a .level) (getD (a .w .now) 4 0) (s .pre .1 .0 .level) (c .before .before .before .before .before .before .before .before .before .before .before .before .if1 .left) in
-    let fl = c .before .before .before .before .before .before .before .before .before .before .before .fold-length in
-    let rc = c .before .before .before .before .before .before .before .before .before .before .round-coins in
-    let rw = c .before .before .before .before .before .before .before .before .before .round-words in
-    let o = onward (a .w .now) (a .pw .now) (a .level) (a .scale) (length (a .f .now)) (a .coins .now) (length (a .out .now)) (fl .result) (rc .result) (rw .result)
-    (s .pre .1 .0) (s .pre .1 .1 .0) (s .pre .1 .1 .1) more (fl .ensures) (rc .ensures) (rw .ensures) in
-    omega (arith, o .inside)
+rest-mul-rest-2 t c = omega (arith, ahead t (c .before .before .before .before .before .before .before .before .before) .few)
 
 rest-sub-rest : (t : ℕ) → rest-lts.Need-sub-rest (calls t) (rest-at t) rest.Post
-rest-sub-rest t c =
-    let s = c .before .before .before .before .before .before .before .before .before .before .before .before .before .before .before .before .before .before .before in
-    let a = s .args in
-    let more = not-last (a .level) (getD (a .w .now) 4 0) (s .pre .1 .0 .level) (c .before .before .before .before .before .before .before .before .before .before .before .before .if1 .left) in
-    let fl = c .before .before .before .before .before .before .before .before .before .before .before .fold-length in
-    let rc = c .before .before .before .before .before .before .before .before .before .before .round-coins in
-    let rw = c .before .before .before .before .before .before .before .before .before .round-words in
-    let o = onward (a .w .now) (a .pw .now) (a .level) (a .scale) (length (a .f .now)) (a .coins .now) (length (a .out .now)) (fl .result) (rc .result) (rw .result)
-    (s .pre .1 .0) (s .pre .1 .1 .0) (s .pre .1 .1 .1) more (fl .ensures) (rc .ensures) (rw .ensures) in
-    o .inside
+rest-sub-rest t c = ahead t (c .before .before .before .before .before .before .before .before .before) .inside
 
 rest-part-rest-start : (t : ℕ) → rest-lts.Need-part-rest-start (calls t) (rest-at t) rest.Post
-rest-part-rest-start t c =
-    let s = c .before .before .before .before .before .before .before .before .before .before .before .before .before .before .before .before .before .before .before in
-    let a = s .args in
-    let more = not-last (a .level) (getD (a .w .now) 4 0) (s .pre .1 .0 .level) (c .before .before .before .before .before .before .before .before .before .before .before .before .if1 .left) in
-    let fl = c .before .before .before .before .before .before .before .before .before .before .before .fold-length in
-    let rc = c .before .before .before .before .before .before .before .before .before .before .round-coins in
-    let rw = c .before .before .before .before .before .before .before .before .before .round-words in
-    let o = onward (a .w .now) (a .pw .now) (a .level) (a .scale) (length (a .f .now)) (a .coins .now) (length (a .out .now)) (fl .result) (rc .result) (rw .result)
-    (s .pre .1 .0) (s .pre .1 .1 .0) (s .pre .1 .1 .1) more (fl .ensures) (rc .ensures) (rw .ensures) in
-    o .inside
+rest-part-rest-start t c = ahead t (c .before .before .before .before .before .before .before .before .before) .inside
 
 rest-part-rest-end : (t : ℕ) → rest-lts.Need-part-rest-end (calls t) (rest-at t) rest.Post
 rest-part-rest-end t c = search needs
 
 rest-mul-rest-3 : (t : ℕ) → rest-lts.Need-mul-rest-3 (calls t) (rest-at t) rest.Post
-rest-mul-rest-3 t c =
-    let s = c .before .before .before .before .before .before .before .before .before .before .before .before .before .before .before .before .before .before .before .before in
-    let a = s .args in
-    let more = not-last (a .level) (getD (a .w .now) 4 0) (s .pre .1 .0 .level) (c .before .before .before .before .before .before .before .before .before .before .before .before .before .if1 .left) in
-    let fl = c .before .before .before .before .before .before .before .before .before .before .before .before .fold-length in
-    let rc = c .before .before .before .before .before .before .before .before .before .before .before .round-coins in
-    let rw = c .before .before .before .before .before .before .before .before .before .before .round-words in
-    let o = onward (a .w .now) (a .pw .now) (a .level) (a .scale) (length (a .f .now)) (a .coins .now) (length (a .out .now)) (fl .result) (rc .result) (rw .result)
-    (s .pre .1 .0) (s .pre .1 .1 .0) (s .pre .1 .1 .1) more (fl .ensures) (rc .ensures) (rw .ensures) in
-    omega (arith, o .within)
+rest-mul-rest-3 t c = omega (arith, ahead t (c .before .before .before .before .before .before .before .before .before .before) .short)
 
 rest-sub-rest-2 : (t : ℕ) → rest-lts.Need-sub-rest-2 (calls t) (rest-at t) rest.Post
 rest-sub-rest-2 t c =
-    let s = c .before .before .before .before .before .before .before .before .before .before .before .before .before .before .before .before .before .before .before .before in
-    let a = s .args in
-    let more = not-last (a .level) (getD (a .w .now) 4 0) (s .pre .1 .0 .level) (c .before .before .before .before .before .before .before .before .before .before .before .before .before .if1 .left) in
-    let fl = c .before .before .before .before .before .before .before .before .before .before .before .before .fold-length in
-    let rc = c .before .before .before .before .before .before .before .before .before .before .before .round-coins in
-    let rw = c .before .before .before .before .before .before .before .before .before .before .round-words in
-    let o = onward (a .w .now) (a .pw .now) (a .level) (a .scale) (length (a .f .now)) (a .coins .now) (length (a .out .now)) (fl .result) (rc .result) (rw .result)
-    (s .pre .1 .0) (s .pre .1 .1 .0) (s .pre .1 .1 .1) more (fl .ensures) (rc .ensures) (rw .ensures) in
+    let o = ahead t (c .before .before .before .before .before .before .before .before .before .before) in
+    let a = c .before .before .before .before .before .before .before .before .before .before .before .before .before .before .before .before .before .before .before .before .args in
+    let n = c .before .before .before .before .before .before .before .before .before .before .round-words .result in
     let q = c .before .before .before .before .before .before .step in
-    omega (arith, o .within, begun-long (a .out .now) (q .last .1 .1 .1 .1 .1 .1 .1 .1 .0) (rw .result) (o .within) (q .kept .1 .1 .1 .1 .1 .1 .1 .1 .0))
+    omega (arith, o .within, begun-long (a .out .now) (q .last .1 .1 .1 .1 .1 .1 .1 .1 .0) n (o .within) (q .kept .1 .1 .1 .1 .1 .1 .1 .1 .0))
 
 rest-part-rest-start-2 : (t : ℕ) → rest-lts.Need-part-rest-start-2 (calls t) (rest-at t) rest.Post
 rest-part-rest-start-2 t c =
-    let s = c .before .before .before .before .before .before .before .before .before .before .before .before .before .before .before .before .before .before .before .before in
-    let a = s .args in
-    let more = not-last (a .level) (getD (a .w .now) 4 0) (s .pre .1 .0 .level) (c .before .before .before .before .before .before .before .before .before .before .before .before .before .if1 .left) in
-    let fl = c .before .before .before .before .before .before .before .before .before .before .before .before .fold-length in
-    let rc = c .before .before .before .before .before .before .before .before .before .before .before .round-coins in
-    let rw = c .before .before .before .before .before .before .before .before .before .before .round-words in
-    let o = onward (a .w .now) (a .pw .now) (a .level) (a .scale) (length (a .f .now)) (a .coins .now) (length (a .out .now)) (fl .result) (rc .result) (rw .result)
-    (s .pre .1 .0) (s .pre .1 .1 .0) (s .pre .1 .1 .1) more (fl .ensures) (rc .ensures) (rw .ensures) in
+    let o = ahead t (c .before .before .before .before .before .before .before .before .before .before) in
+    let a = c .before .before .before .before .before .before .before .before .before .before .before .before .before .before .before .before .before .before .before .before .args in
+    let n = c .before .before .before .before .before .before .before .before .before .before .round-words .result in
     let q = c .before .before .before .before .before .before .step in
-    omega (arith, o .within, begun-long (a .out .now) (q .last .1 .1 .1 .1 .1 .1 .1 .1 .0) (rw .result) (o .within) (q .kept .1 .1 .1 .1 .1 .1 .1 .1 .0))
+    omega (arith, o .within, begun-long (a .out .now) (q .last .1 .1 .1 .1 .1 .1 .1 .1 .0) n (o .within) (q .kept .1 .1 .1 .1 .1 .1 .1 .1 .0))
 
 rest-part-rest-end-2 : (t : ℕ) → rest-lts.Need-part-rest-end-2 (calls t) (rest-at t) rest.Post
 rest-part-rest-end-2 t c = search needs
 
 rest-rest-requires : (t : ℕ) → rest-lts.Need-rest-requires (calls t) (rest-at t) rest.Post
 rest-rest-requires t c κs =
+    let o = ahead t (c .before .before .before .before .before .before .before .before .before .before .before) in
+    let d = c .before .before .before .before .before .before .before .before .before .before .before .before .before .fold-length .result in
+    let m = c .before .before .before .before .before .before .before .before .before .before .fold-room .result in
+    let fits = roomy t (c .before .before .before .before .before .before .before .before .before .before) in
+    let n = c .before .before .before .before .before .before .before .before .before .before .before .round-words .result in
+    let q = c .before .before .before .before .before .before .before .step in
     let s = c .before .before .before .before .before .before .before .before .before .before .before .before .before .before .before .before .before .before .before .before .before in
     let a = s .args in
-    let more = not-last (a .level) (getD (a .w .now) 4 0) (s .pre .1 .0 .level) (c .before .before .before .before .before .before .before .before .before .before .before .before .before .before .if1 .left) in
-    let fl = c .before .before .before .before .before .before .before .before .before .before .before .before .before .fold-length in
-    let rc = c .before .before .before .before .before .before .before .before .before .before .before .before .round-coins in
-    let rw = c .before .before .before .before .before .before .before .before .before .before .before .round-words in
-    let o = onward (a .w .now) (a .pw .now) (a .level) (a .scale) (length (a .f .now)) (a .coins .now) (length (a .out .now)) (fl .result) (rc .result) (rw .result)
-    (s .pre .1 .0) (s .pre .1 .1 .0) (s .pre .1 .1 .1) more (fl .ensures) (rc .ensures) (rw .ensures) in
-    let m = c .before .before .before .before .before .before .before .before .before .before .fold-room in
-    let fits : fl .result ≤ length (m .result) = omega (arith, o .room, m .ensures) in
-    let q = c .before .before .before .before .before .before .before .step in
-    let n = front-there (m .result) (q .last .1 .1 .1 .1 .1 .1 .1 .0) (fl .result) fits (q .kept .1 .1 .1 .1 .1 .1 .1 .0) in
-    let l = all-left (rc .result) (a .coins .now) in
-    let z = sizes (a .w .now) (a .pw .now) (a .level) (a .scale) (length (a .f .now)) (s .pre .1 .0) in (
-      omega (arith, s .pre .0, more, z .rounds),
+    let z = sizes (a .w .now) (a .pw .now) (a .level) (a .scale) (length (a .f .now)) (s .pre .1 .0) in
+    let l = all-left (c .before .before .before .before .before .before .before .before .before .before .before .before .round-coins .result) (a .coins .now) in (
+      omega (arith, s .pre .0, o .more, z .rounds),
       (
-        subst (Standing (a .w .now) (a .pw .now) (a .level + 1) (2 * a .scale)) (sym n) (o .next),
-        (subst (DealtFrom (a .w .now) (a .level + 1)) (sym l) (o .dealt), others-long (a .out .now) (q .last .1 .1 .1 .1 .1 .1 .1 .1 .0) (rw .result) (o .within) (q .kept .1 .1 .1 .1 .1 .1 .1 .1 .0) ∙ o .left),
+        subst (Standing (a .w .now) (a .pw .now) (a .level + 1) (2 * a .scale)) (sym (front-there m (q .last .1 .1 .1 .1 .1 .1 .1 .0) d fits (q .kept .1 .1 .1 .1 .1 .1 .1 .0))) (o .next),
+        (subst (DealtFrom (a .w .now) (a .level + 1)) (sym l) (o .dealt), others-long (a .out .now) (q .last .1 .1 .1 .1 .1 .1 .1 .1 .0) n (o .within) (q .kept .1 .1 .1 .1 .1 .1 .1 .1 .0) ∙ o .left),
       ),
     )
 
@@ -338,35 +242,26 @@ rest-returns t c =
 
 rest-same-length-2 : (t : ℕ) → rest-lts.Need-same-length-2 (calls t) (rest-at t) rest.Post
 rest-same-length-2 t c =
-    let s = c .before .before .before .before .before .before .before .before .before .before .before .before .before .before .before .before .before .before .before .before .before .before .before .before in
-    let a = s .args in
-    let more = not-last (a .level) (getD (a .w .now) 4 0) (s .pre .1 .0 .level) (c .before .before .before .before .before .before .before .before .before .before .before .before .before .before .before .before .before .if1 .left) in
-    let fl = c .before .before .before .before .before .before .before .before .before .before .before .before .before .before .before .before .fold-length in
-    let rc = c .before .before .before .before .before .before .before .before .before .before .before .before .before .before .before .round-coins in
-    let rw = c .before .before .before .before .before .before .before .before .before .before .before .before .before .before .round-words in
-    let o = onward (a .w .now) (a .pw .now) (a .level) (a .scale) (length (a .f .now)) (a .coins .now) (length (a .out .now)) (fl .result) (rc .result) (rw .result)
-    (s .pre .1 .0) (s .pre .1 .1 .0) (s .pre .1 .1 .1) more (fl .ensures) (rc .ensures) (rw .ensures) in
+    let o = ahead t (c .before .before .before .before .before .before .before .before .before .before .before .before .before .before) in
+    let a = c .before .before .before .before .before .before .before .before .before .before .before .before .before .before .before .before .before .before .before .before .before .before .before .before .args in
+    let n = c .before .before .before .before .before .before .before .before .before .before .before .before .before .before .round-words .result in
     let q = c .before .before .before .before .before .before .before .before .before .before .step in
     let v = c .before .before .rest in
-    filled-long (a .out .now) (q .last .1 .1 .1 .1 .1 .1 .1 .1 .0) (rw .result) (o .within) (q .kept .1 .1 .1 .1 .1 .1 .1 .1 .0) (v .last .1 .1 .1 .1 .1 .1 .1 .0) (v .kept .1 .1 .1 .1 .1 .1 .1 .0)
+    filled-long (a .out .now) (q .last .1 .1 .1 .1 .1 .1 .1 .1 .0) n (o .within) (q .kept .1 .1 .1 .1 .1 .1 .1 .1 .0) (v .last .1 .1 .1 .1 .1 .1 .1 .0) (v .kept .1 .1 .1 .1 .1 .1 .1 .0)
 
 rest-returns-2 : (t : ℕ) → rest-lts.Need-returns-2 (calls t) (rest-at t) rest.Post
 rest-returns-2 t c =
-    let s = c .before .before .before .before .before .before .before .before .before .before .before .before .before .before .before .before .before .before .before .before .before .before .before .before in
-    let a = s .args in
-    let more = not-last (a .level) (getD (a .w .now) 4 0) (s .pre .1 .0 .level) (c .before .before .before .before .before .before .before .before .before .before .before .before .before .before .before .before .before .if1 .left) in
-    let fl = c .before .before .before .before .before .before .before .before .before .before .before .before .before .before .before .before .fold-length in
-    let rc = c .before .before .before .before .before .before .before .before .before .before .before .before .before .before .before .round-coins in
-    let rw = c .before .before .before .before .before .before .before .before .before .before .before .before .before .before .round-words in
-    let o = onward (a .w .now) (a .pw .now) (a .level) (a .scale) (length (a .f .now)) (a .coins .now) (length (a .out .now)) (fl .result) (rc .result) (rw .result)
-    (s .pre .1 .0) (s .pre .1 .1 .0) (s .pre .1 .1 .1) more (fl .ensures) (rc .ensures) (rw .ensures) in
-    let m = c .before .before .before .before .before .before .before .before .before .before .before .before .before .fold-room in
-    let fits : fl .result ≤ length (m .result) = omega (arith, o .room, m .ensures) in
+    let o = ahead t (c .before .before .before .before .before .before .before .before .before .before .before .before .before .before) in
+    let d = c .before .before .before .before .before .before .before .before .before .before .before .before .before .before .before .before .fold-length .result in
+    let m = c .before .before .before .before .before .before .before .before .before .before .before .before .before .fold-room .result in
+    let fits = roomy t (c .before .before .before .before .before .before .before .before .before .before .before .before .before) in
+    let n = c .before .before .before .before .before .before .before .before .before .before .before .before .before .before .round-words .result in
     let q = c .before .before .before .before .before .before .before .before .before .before .step in
+    let a = c .before .before .before .before .before .before .before .before .before .before .before .before .before .before .before .before .before .before .before .before .before .before .before .before .args in
     let v = c .before .before .rest in
-    let back = v .last .1 .1 .1 .1 .1 .1 .1 .0 in
-    words-join (a .w .now) (a .level) (a .f .now) (a .r) (a .coins .now) (rc .result) more (joined (a .out .now) (q .last .1 .1 .1 .1 .1 .1 .1 .1 .0) (rw .result) (o .within) (q .kept .1 .1 .1 .1 .1 .1 .1 .1 .0) back refl refl)
-    (q .ensures .0) (front-stays (m .result) (q .last .1 .1 .1 .1 .1 .1 .1 .0) (fl .result) fits (q .kept .1 .1 .1 .1 .1 .1 .1 .0)) (q .ensures .1) (c .before .before .before .before .before .fold-coin .ensures) (all-left (rc .result) (a .coins .now)) (rc .ensures) (v .ensures)
+    let u = c .before .before .before .before .before .before .before .before .before .before .before .before .before .before .before .round-coins in
+    words-join (a .w .now) (a .level) (a .f .now) (a .r) (a .coins .now) (u .result) (o .more) (joined (a .out .now) (q .last .1 .1 .1 .1 .1 .1 .1 .1 .0) n (o .within) (q .kept .1 .1 .1 .1 .1 .1 .1 .1 .0) (v .last .1 .1 .1 .1 .1 .1 .1 .0) refl refl)
+    (q .ensures .0) (front-stays m (q .last .1 .1 .1 .1 .1 .1 .1 .0) d fits (q .kept .1 .1 .1 .1 .1 .1 .1 .0)) (q .ensures .1) (c .before .before .before .before .before .fold-coin .ensures) (all-left (u .result) (a .coins .now)) (u .ensures) (v .ensures)
 
 pub +rest-spec : {M : Type 1} → statement M
 +rest-spec = close μ-rest λ t. rest-lts.spec (calls t)
