@@ -7,11 +7,10 @@ use mathlib.Core.List.{List, _++_}
 use mathlib.Core.Path.{_≡_, sym, ap, _∙_, subst}
 use lib.ListN.{length, getD, take, drop, length-drop}
 use lib.Seq.{take-all}
-use Rattle.definition.specs.Polynomial.{foldPoly}
 use Rattle.completeness.specs.Numbered.{levelOf, outsOf, roundsOf}
 use Rattle.honest.specs.Levels.{count-more, count-none, dealt-more, dealt-none, rest-more}
 use Rattle.honest.specs.Sizes.{fold-most, next-size, next-standing, sizes}
-use Rattle.honest.specs.Standing.{DealtFrom, RoundDealt, Standing, correctedFrom, fieldAt, repetitionsOf, restCount, restFrom, roundCount, roundFrom}
+use Rattle.honest.specs.Standing.{DealtFrom, RoundDealt, Standing, correctedFrom, foldFrom, repetitionsOf, restCount, restFrom, roundCount, roundFrom}
 
 pub not-last : (i m : ℕ) → i ≤ m → (i ≡ m → ⊥) → i < m
 not-last i m h e = omega arith
@@ -73,7 +72,7 @@ onward w pw i scale count coins n d used written st dealt words more ed eu ew =
 
 -- the round's words and those after its fold coin
 pub words-join : (w : List ℕ) (i : ℕ) (f : List ℕ) (r : ℕ) (coins : List ℕ) (used : ℕ) {words front back f₁ next left : List ℕ} {fold : ℕ} → i < roundsOf w → words ≡ front ++ back →
-    front ≡ roundFrom w i (foldPoly (fieldAt w) (getD w 3 0) r f) coins → f₁ ≡ next → next ≡ correctedFrom w i (foldPoly (fieldAt w) (getD w 3 0) r f) coins →
+    front ≡ roundFrom w i (foldFrom w r f) coins → f₁ ≡ next → next ≡ correctedFrom w i (foldFrom w r f) coins →
     fold ≡ getD coins (outsOf w + 1) 0 → left ≡ drop used coins → used ≡ outsOf w + 2 + repetitionsOf w i → back ≡ restFrom w (i + 1) f₁ fold left →
     words ≡ restFrom w i f r coins
 words-join w i f r coins used {front = front} {back = back} more e ef e₁ en ec el eu eb =

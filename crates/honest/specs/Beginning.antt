@@ -21,7 +21,7 @@ use Rattle.domain.specs.Powers.{Fitting, Powers}
 use Rattle.powers.specs.Root.{root, root-of-sheet}
 use Rattle.sheet.specs.Bounds.{ranges}
 use Rattle.sheet.specs.Sizes.{coins-due-sum}
-use Rattle.honest.specs.Standing.{DealtFrom, Standing, fieldAt, levelsAfter, restCount, restFrom, rootAt}
+use Rattle.honest.specs.Standing.{DealtFrom, Standing, fieldAt, levelsAfter, restCount, restFrom, rootAt, wordsFrom}
 
 module _ {w f coins : List ℕ} (ok : Allowed w f coins) where
   pub first-standing : (pw : List ℕ) → Powers (getD w 0 0) (rootAt w) pw → length pw ≡ getD w 1 0 → Standing w pw 0 1 (length f)
@@ -65,7 +65,7 @@ module _ {w f coins : List ℕ} (ok : Allowed w f coins) where
       )
 
   -- the sheet, table 0, fold coin 0 and the words after it are the honest stream
-  pub stream-is : w ++ (tableOf (fieldAt w) (rootAt w) (levelOf w 0) f ++ (getD coins 0 0 ∷ restFrom w 0 f (getD coins 0 0) (drop 1 coins))) ≡ honestStream w f coins
+  pub stream-is : w ++ wordsFrom w f coins ≡ honestStream w f coins
   unfolding honestStream transcriptWords honest readCoins restFrom fieldOf sheetOf
   stream-is = sym (λ x. w ++ (tableOf (fieldAt w) (rootAt w) (level-first w x) f ++ (getD coins 0 0 ∷ restWords (honestRest (fieldAt w) (rootAt w) (level-first w x) f (getD coins 0 0)
       (readRounds (outsOf w) (level-first w x) (later x) (drop 1 coins)) (readFinals (outsOf w) (level-first w x) (later x) (drop 1 coins))))))

@@ -7,7 +7,6 @@ use lib.ListN.{length, getD, take, drop, replicate, length-append, length-drop, 
 use lib.Seq.{drop-drop, getD-take, getD-drop}
 use Rattle.definition.specs.Layout.{index, laterCount, limit, message, out, readFinals, readRounds, restLayout, roundCoins}
 use Rattle.definition.specs.Lists.{range}
-use Rattle.definition.specs.Polynomial.{foldPoly}
 use Rattle.definition.specs.Prover.{honestRest}
 use Rattle.definition.specs.Sheet.{Level, sheetOf, shiftCount, finalCount}
 use Rattle.definition.specs.Transcript.{restWords}
@@ -18,7 +17,7 @@ use Rattle.completeness.specs.FileSize.{rest-length}
 use Rattle.completeness.specs.LayoutFacts.{Dealt}
 use Rattle.completeness.specs.ListLaws.{drop-take}
 use Rattle.completeness.specs.Numbered.{levelOf, outsOf, roundsOf}
-use Rattle.honest.specs.Standing.{DealtFrom, RoundDealt, coinsNext, correctedFrom, fieldAt, levelsAfter, repetitionsOf, restCount, restFrom, rootAt, roundCount, roundFrom, shiftsNext}
+use Rattle.honest.specs.Standing.{DealtFrom, RoundDealt, coinsNext, correctedFrom, fieldAt, foldFrom, levelsAfter, repetitionsOf, restCount, restFrom, rootAt, roundCount, roundFrom, shiftsNext}
 
 -- the words of the rest over given levels
 abbrev restOver : List ℕ → ℕ → List Level → List ℕ → ℕ → List ℕ → List ℕ
@@ -40,8 +39,8 @@ module _ (w : List ℕ) (i : ℕ) where
 
   rest-round : (f : List ℕ) (r : ℕ) (coins : List ℕ) (ls : List Level) →
       restOver w i (levelOf w (i + 1) ∷ ls) f r coins
-      ≡ roundFrom w i (foldPoly (fieldAt w) (getD w 3 0) r f) coins
-      ++ restOver w (i + 1) ls (correctedFrom w i (foldPoly (fieldAt w) (getD w 3 0) r f) coins) (getD (take (2 + repetitionsOf w i) (drop (outsOf w) coins)) 1 0)
+      ≡ roundFrom w i (foldFrom w r f) coins
+      ++ restOver w (i + 1) ls (correctedFrom w i (foldFrom w r f) coins) (getD (take (2 + repetitionsOf w i) (drop (outsOf w) coins)) 1 0)
       (drop (2 + repetitionsOf w i) (drop (outsOf w) coins))
   unfolding restWords honestRest readRounds readFinals roundFrom correctedFrom coinsNext roundCoins laterCount
   rest-round f r coins ls = refl
@@ -56,16 +55,16 @@ module _ (w : List ℕ) (i : ℕ) where
 
   pub rest-more : (f : List ℕ) (r : ℕ) (coins : List ℕ) → i < roundsOf w →
       restFrom w i f r coins
-      ≡ roundFrom w i (foldPoly (fieldAt w) (getD w 3 0) r f) coins
-      ++ restFrom w (i + 1) (correctedFrom w i (foldPoly (fieldAt w) (getD w 3 0) r f) coins) (getD coins (outsOf w + 1) 0) (drop (outsOf w + 2 + repetitionsOf w i) coins)
+      ≡ roundFrom w i (foldFrom w r f) coins
+      ++ restFrom w (i + 1) (correctedFrom w i (foldFrom w r f) coins) (getD coins (outsOf w + 1) 0) (drop (outsOf w + 2 + repetitionsOf w i) coins)
   unfolding restFrom
   rest-more f r coins l =
-      let g = foldPoly (fieldAt w) (getD w 3 0) r f in
+      let g = foldFrom w r f in
       ap (λ (ls : List Level). restOver w i ls f r coins) (levels-more l)
       ∙ rest-round f r coins (levelsAfter w (i + 1))
       ∙ (λ x. roundFrom w i g coins ++ restOver w (i + 1) (levelsAfter w (i + 1)) (correctedFrom w i g coins) (fold-coin coins x) (coins-left coins x))
 
-  pub rest-none : (f : List ℕ) (r : ℕ) (coins : List ℕ) → i ≡ roundsOf w → restFrom w i f r coins ≡ foldPoly (fieldAt w) (getD w 3 0) r f ++ coins
+  pub rest-none : (f : List ℕ) (r : ℕ) (coins : List ℕ) → i ≡ roundsOf w → restFrom w i f r coins ≡ foldFrom w r f ++ coins
   unfolding restFrom restWords honestRest readRounds readFinals
   rest-none f r coins e = rw (levels-none e)
 

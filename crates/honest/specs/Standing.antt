@@ -1,13 +1,14 @@
 -- Where the prover stands: at level i of a sheet w, with the level's corrected polynomial f, fold coin r and the coins still to come. What it writes from
 -- there on is the definition's, at the level as the sheet numbers it.
 use Prim.Native.Nat.{ℕ, _+_, _-_, _^_, _≤_, _<_}
-use mathlib.Core.List.{List, map}
+use mathlib.Core.List.{List, _∷_, _++_, map}
 use mathlib.Core.Path.{_≡_}
 use lib.ListN.{length, getD, take, drop}
 use Rattle.definition.specs.Field.{Field, fieldOf}
 use Rattle.definition.specs.Layout.{laterCount, readFinals, readRounds, restLayout, roundCoins}
 use Rattle.definition.specs.Lists.{range}
-use Rattle.definition.specs.Prover.{honestRest, honestRound, nextPoly}
+use Rattle.definition.specs.Polynomial.{foldPoly}
+use Rattle.definition.specs.Prover.{honestRest, honestRound, nextPoly, tableOf}
 use Rattle.definition.specs.Reading.{sheetTest}
 use Rattle.definition.specs.Sheet.{Level, rootOfUnity, sheetOf, shiftCount}
 use Rattle.definition.specs.Transcript.{RoundCoins, restWords, roundWords}
@@ -41,6 +42,10 @@ coinsNext w i coins = roundCoins (levelOf w (i + 1)) (take (outsOf w) coins) (ta
 unfoldable pub shiftsNext : List ℕ → ℕ → List ℕ → List ℕ
 shiftsNext w i coins = take (repetitionsOf w i) (drop (outsOf w + 2) coins)
 
+-- the fold of f at r
+abbrev pub foldFrom : List ℕ → ℕ → List ℕ → List ℕ
+foldFrom w r f = foldPoly (fieldAt w) (getD w 3 0) r f
+
 -- the words of round i + 1, where its polynomial is g, and the corrected polynomial of level i + 1
 unfoldable pub roundFrom : List ℕ → ℕ → List ℕ → List ℕ → List ℕ
 roundFrom w i g coins = roundWords (honestRound (fieldAt w) (rootAt w) g (coinsNext w i coins))
@@ -57,7 +62,14 @@ unfoldable pub restFrom : List ℕ → ℕ → List ℕ → ℕ → List ℕ →
 restFrom w i f r coins =
     restWords (honestRest (fieldAt w) (rootAt w) (levelOf w i) f r (readRounds (outsOf w) (levelOf w i) (levelsAfter w i) coins) (readFinals (outsOf w) (levelOf w i) (levelsAfter w i) coins))
 
--- their number
+-- the words after table 0, and after the sheet
+abbrev pub openingFrom : List ℕ → List ℕ → List ℕ → List ℕ
+openingFrom w f coins = getD coins 0 0 ∷ restFrom w 0 f (getD coins 0 0) (drop 1 coins)
+
+abbrev pub wordsFrom : List ℕ → List ℕ → List ℕ → List ℕ
+wordsFrom w f coins = tableOf (fieldAt w) (rootAt w) (levelOf w 0) f ++ openingFrom w f coins
+
+-- the number of words after fold coin i
 unfoldable pub restCount : List ℕ → ℕ → ℕ
 restCount w i = length (restLayout (outsOf w) (levelOf w i) (levelsAfter w i))
 

@@ -1,19 +1,21 @@
-// The honest prover's words. Each function is lent exactly the places of the words that it writes, and the coins that are left.
+// The honest prover's words, from level to level as the definition goes. Each function is lent exactly the places of the words that it writes, so that its
+// promise is one equation, and the coins still to come. pw is the table of the points of domain 0: point j of level i stands at scale·j in it, where scale
+// is 2^i.
 ghost use mathlib.Core.Path.{_≡_};
-ghost use mathlib.Core.List.{_∷_, _++_, map};
+ghost use mathlib.Core.List.{_++_, map};
 ghost use Prim.Native.Nat.{_+_, _*_, _/_, _≤_, _<_};
 ghost use lib.ListN.{length, getD, take, drop};
 ghost use Rattle.definition.specs.Field.{fieldOf};
 ghost use Rattle.definition.specs.Layout.{wordsDue};
 ghost use Rattle.definition.specs.Lists.{member};
-ghost use Rattle.definition.specs.Polynomial.{evaluate, foldPoly};
-ghost use Rattle.definition.specs.Prover.{honestStream, tableOf};
+ghost use Rattle.definition.specs.Polynomial.{evaluate};
+ghost use Rattle.definition.specs.Prover.{honestStream};
 ghost use Rattle.definition.specs.Sheet.{rootOfUnity, sheetOf};
-ghost use Rattle.completeness.specs.Numbered.{Allowed, levelOf, roundsOf};
+ghost use Rattle.completeness.specs.Numbered.{Allowed, roundsOf};
 ghost use Rattle.domain.specs.Powers.{Powers};
 ghost use Rattle.rounds.specs.PointsIn.{shiftIn};
 ghost use Rattle.tables.specs.OnDomain.{DomainTable};
-ghost use Rattle.honest.specs.Standing.{DealtFrom, OnLevel, RoundDealt, Standing, correctedFrom, fieldAt, restCount, restFrom, rootAt, roundCount, roundFrom};
+ghost use Rattle.honest.specs.Standing.{DealtFrom, OnLevel, RoundDealt, Standing, correctedFrom, fieldAt, foldFrom, openingFrom, restCount, restFrom, rootAt, roundCount, roundFrom, wordsFrom};
 ghost use Rattle.honest.specs.Points.{InTable, differentPoints, keepPoint, keepPoints};
 
 // A copy of words.
@@ -69,21 +71,6 @@ fn keep(xs: &mut [u32], from: usize, x: u32) -> usize
     at
 }
 
-// Puts points in front of those from number `from` on, the last first.
-fn keep_all(points: &[u32], xs: &mut [u32], from: usize) -> usize
-    requires { ⌜ (from ≤ length (now xs)) × (length (now points) ≤ from) ⌝ }
-    ensures { λ r. ⌜ drop r (now (xs .exit)) ≡ keepPoints (now (points .entry)) (drop from (now (xs .entry))) ⌝ }
-    ensures { λ r. ⌜ (r ≤ from) × (from ≤ r + length (now (points .entry))) ⌝ }
-{
-    let mut at = from;
-    let mut i = points.len();
-    while 0 < i {
-        i -= 1;
-        at = keep(xs, at, points[i]);
-    }
-    at
-}
-
 // A word as an index.
 fn wide(x: u32) -> usize
     ensures { λ r. ⌜ r ≡ x ⌝ }
@@ -107,6 +94,21 @@ fn keep_shifts(pw: &[u32], scale: usize, k: usize, shifts: &[u32], xs: &mut [u32
     at
 }
 
+// Puts points in front of those from number `from` on, the last first.
+fn keep_all(points: &[u32], xs: &mut [u32], from: usize) -> usize
+    requires { ⌜ (from ≤ length (now xs)) × (length (now points) ≤ from) ⌝ }
+    ensures { λ r. ⌜ drop r (now (xs .exit)) ≡ keepPoints (now (points .entry)) (drop from (now (xs .entry))) ⌝ }
+    ensures { λ r. ⌜ (r ≤ from) × (from ≤ r + length (now (points .entry))) ⌝ }
+{
+    let mut at = from;
+    let mut i = points.len();
+    while 0 < i {
+        i -= 1;
+        at = keep(xs, at, points[i]);
+    }
+    at
+}
+
 // The points of G, without repeats, in the last places of xs: the out coins, then the shift points.
 fn points(pw: &[u32], scale: usize, k: usize, outs: &[u32], shifts: &[u32], xs: &mut [u32]) -> usize
     requires { ⌜ (0 < k) × ((k ≤ 16) × (length (now pw) ≤ 4096)) ⌝ }
@@ -116,20 +118,6 @@ fn points(pw: &[u32], scale: usize, k: usize, outs: &[u32], shifts: &[u32], xs: 
 {
     let at = keep_shifts(pw, scale, k, shifts, xs);
     keep_all(outs, xs, at)
-}
-
-// Places for the points of a round, at most 2 + 64.
-fn points_room() -> [u32; 66]
-    ensures { λ r. ⌜ length r ≡ 66 ⌝ }
-{
-    [0u32; 66]
-}
-
-// Places for the fold of a polynomial of at most 2,048 coefficients.
-fn fold_room() -> [u32; 1024]
-    ensures { λ r. ⌜ length r ≡ 1024 ⌝ }
-{
-    [0u32; 1024]
 }
 
 // The table of f over the domain of its level.
@@ -148,18 +136,6 @@ fn after_outs(field: u32, g: &[u32], outs: &[u32], later: &[u32], out: &mut [u32
     let s = outs.len();
     values(field, g, outs, &mut out[..s]);
     copy(later, &mut out[s..]);
-}
-
-// The final coefficients, which are the fold of f, and the final indices.
-fn finals(w: &[u32], r: u32, f: &[u32], coins: &[u32], out: &mut [u32])
-    requires { ⌜ (length (now w) ≡ 12) × ((0 < getD (now w) 3 0) × (getD (now w) 3 0 ≤ 16)) ⌝ }
-    requires { ⌜ (length (now f) ≡ getD (now w) 3 0 * (length (now f) / getD (now w) 3 0)) × (length (now out) ≡ length (now f) / getD (now w) 3 0 + length (now coins)) ⌝ }
-    ensures { λ _. ⌜ now (out .exit) ≡ foldPoly (fieldAt (now (w .entry))) (getD (now (w .entry)) 3 0) r (now (f .entry)) ++ now (coins .entry) ⌝ }
-{
-    let k = w[3] as usize;
-    let d = f.len() / k;
-    correction::fold(w[0], k, r, f, &mut out[..d]);
-    copy(coins, &mut out[d..]);
 }
 
 // The words of a round after its table: the out coins, the values of g there, and the other coins.
@@ -193,6 +169,13 @@ fn round(
     after_table(w[0], g, &coins[..s], &coins[s..s + 2 + t], &mut out[n..]);
 }
 
+// Places for the points of a round, at most 2 + 64.
+fn points_room() -> [u32; 66]
+    ensures { λ r. ⌜ length r ≡ 66 ⌝ }
+{
+    [0u32; 66]
+}
+
 // The corrected polynomial of the next level, where g holds the round's polynomial. What g holds afterwards is of no use.
 fn correct(
     w: &[u32],
@@ -222,6 +205,13 @@ fn correct(
     correction::corrected(w[0], &xs, from, coins[s], g, d, next);
 }
 
+// Places for the fold of a polynomial of at most 2,048 coefficients.
+fn fold_room() -> [u32; 1024]
+    ensures { λ r. ⌜ length r ≡ 1024 ⌝ }
+{
+    [0u32; 1024]
+}
+
 // One round after a level with the corrected polynomial f: its words, and the corrected polynomial of the next level.
 fn step(
     w: &[u32],
@@ -236,14 +226,26 @@ fn step(
 )
     requires { ⌜ (Standing (now w) (now pw) level scale (length (now f))) × (level < roundsOf (now w)) ⌝ }
     requires { ⌜ (length (now f) ≡ getD (now w) 3 0 * length (now next)) × ((RoundDealt (now w) level (now coins)) × (length (now out) ≡ roundCount (now w) level)) ⌝ }
-    ensures { λ _. ⌜ now (out .exit) ≡ roundFrom (now (w .entry)) level (foldPoly (fieldAt (now (w .entry))) (getD (now (w .entry)) 3 0) r (now (f .entry))) (now (coins .entry)) ⌝ }
-    ensures { λ _. ⌜ now (next .exit) ≡ correctedFrom (now (w .entry)) level (foldPoly (fieldAt (now (w .entry))) (getD (now (w .entry)) 3 0) r (now (f .entry))) (now (coins .entry)) ⌝ }
+    ensures { λ _. ⌜ now (out .exit) ≡ roundFrom (now (w .entry)) level (foldFrom (now (w .entry)) r (now (f .entry))) (now (coins .entry)) ⌝ }
+    ensures { λ _. ⌜ now (next .exit) ≡ correctedFrom (now (w .entry)) level (foldFrom (now (w .entry)) r (now (f .entry))) (now (coins .entry)) ⌝ }
 {
     let d = next.len();
     let mut g = fold_room();
     correction::fold(w[0], w[3] as usize, r, f, &mut g[..d]);
     round(w, pw, level, scale, &g[..d], coins, out);
     correct(w, pw, level, scale, coins, &mut g, next);
+}
+
+// The final coefficients, which are the fold of f, and the final indices.
+fn finals(w: &[u32], r: u32, f: &[u32], coins: &[u32], out: &mut [u32])
+    requires { ⌜ (length (now w) ≡ 12) × ((0 < getD (now w) 3 0) × (getD (now w) 3 0 ≤ 16)) ⌝ }
+    requires { ⌜ (length (now f) ≡ getD (now w) 3 0 * (length (now f) / getD (now w) 3 0)) × (length (now out) ≡ length (now f) / getD (now w) 3 0 + length (now coins)) ⌝ }
+    ensures { λ _. ⌜ now (out .exit) ≡ foldFrom (now (w .entry)) r (now (f .entry)) ++ now (coins .entry) ⌝ }
+{
+    let k = w[3] as usize;
+    let d = f.len() / k;
+    correction::fold(w[0], k, r, f, &mut out[..d]);
+    copy(coins, &mut out[d..]);
 }
 
 // The number of coefficients of the fold of n coefficients.
@@ -329,7 +331,7 @@ fn rest(
 fn after_first(w: &[u32], pw: &[u32], f: &[u32], coins: &[u32], out: &mut [u32])
     requires { ⌜ Standing (now w) (now pw) 0 1 (length (now f)) ⌝ }
     requires { ⌜ (0 < length (now coins)) × ((DealtFrom (now w) 0 (drop 1 (now coins))) × (length (now out) ≡ 1 + restCount (now w) 0)) ⌝ }
-    ensures { λ _. ⌜ now (out .exit) ≡ getD (now (coins .entry)) 0 0 ∷ restFrom (now (w .entry)) 0 (now (f .entry)) (getD (now (coins .entry)) 0 0) (drop 1 (now (coins .entry))) ⌝ }
+    ensures { λ _. ⌜ now (out .exit) ≡ openingFrom (now (w .entry)) (now (f .entry)) (now (coins .entry)) ⌝ }
 {
     let r = coins[0];
     out[0] = r;
@@ -340,7 +342,7 @@ fn after_first(w: &[u32], pw: &[u32], f: &[u32], coins: &[u32], out: &mut [u32])
 fn transcript(w: &[u32], pw: &[u32], f: &[u32], coins: &[u32], out: &mut [u32])
     requires { ⌜ Standing (now w) (now pw) 0 1 (length (now f)) ⌝ }
     requires { ⌜ (0 < length (now coins)) × ((DealtFrom (now w) 0 (drop 1 (now coins))) × (length (now out) ≡ getD (now w) 1 0 + (1 + restCount (now w) 0))) ⌝ }
-    ensures { λ _. ⌜ now (out .exit) ≡ tableOf (fieldAt (now (w .entry))) (rootAt (now (w .entry))) (levelOf (now (w .entry)) 0) (now (f .entry)) ++ (getD (now (coins .entry)) 0 0 ∷ restFrom (now (w .entry)) 0 (now (f .entry)) (getD (now (coins .entry)) 0 0) (drop 1 (now (coins .entry)))) ⌝ }
+    ensures { λ _. ⌜ now (out .exit) ≡ wordsFrom (now (w .entry)) (now (f .entry)) (now (coins .entry)) ⌝ }
 {
     let n = pw.len();
     table(w, pw, 1, f, &mut out[..n]);
