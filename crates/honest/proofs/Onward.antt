@@ -20,8 +20,8 @@ pub all-left : (n : ℕ) (l : List ℕ) → take (length l - n) (drop n l) ≡ d
 all-left n l = take-all (length l - n) (drop n l) (omega (arith, length-drop n l))
 
 -- at the last level the words left are the final coefficients and the final indices
-pub words-last : (w pw : List ℕ) (i scale count : ℕ) (coins : List ℕ) (n : ℕ) → Standing w pw i scale count → DealtFrom w i coins → n ≡ restCount w i → i ≡ roundsOf w →
-    n ≡ count / getD w 3 0 + length coins
+pub words-last : (w pw : List ℕ) (i scale count : ℕ) (coins : List ℕ) (n : ℕ) → Standing w pw i scale count → DealtFrom w i coins →
+    n ≡ restCount w i → i ≡ roundsOf w → n ≡ count / getD w 3 0 + length coins
 words-last w pw i scale count coins n st dealt words last =
     let d : levelOf w i .degree / getD w 3 0 ≡ count / getD w 3 0 = ap (λ (m : ℕ). m / getD w 3 0) (sym (st .degree)) in
     omega (arith, words, count-none w i last, dealt-none w i coins last dealt, d)
@@ -71,7 +71,8 @@ onward w pw i scale count coins n d used written st dealt words more ed eu ew =
     }
 
 -- the round's words and those after its fold coin
-pub words-join : (w : List ℕ) (i : ℕ) (f : List ℕ) (r : ℕ) (coins : List ℕ) (used : ℕ) {words front back f₁ next left : List ℕ} {fold : ℕ} → i < roundsOf w → words ≡ front ++ back →
+pub words-join : (w : List ℕ) (i : ℕ) (f : List ℕ) (r : ℕ) (coins : List ℕ) (used : ℕ) {words front back f₁ next left : List ℕ} {fold : ℕ} →
+    i < roundsOf w → words ≡ front ++ back →
     front ≡ roundFrom w i (foldFrom w r f) coins → f₁ ≡ next → next ≡ correctedFrom w i (foldFrom w r f) coins →
     fold ≡ getD coins (outsOf w + 1) 0 → left ≡ drop used coins → used ≡ outsOf w + 2 + repetitionsOf w i → back ≡ restFrom w (i + 1) f₁ fold left →
     words ≡ restFrom w i f r coins

@@ -65,5 +65,6 @@ module _ (l : List ℕ) (x : ℕ) where
           let z : drop (length (x ∷ l) - 1) l ≡ [] = drop-of-length-le l {i = length (x ∷ l) - 1} (omega arith) in
           ap {B = List ℕ} (λ e. x ∷ (back ++ e)) z ∙ ap {B = List ℕ} (λ e. x ∷ e) (append-nil back)
 
-  pub stored-long : (back : List ℕ) → 0 < length l → length back ≡ length (take (length (set l 0 x) - 1) (drop 1 (set l 0 x))) → length (stored l back x) ≡ length l
+  pub stored-long : (back : List ℕ) → 0 < length l →
+      length back ≡ length (take (length (set l 0 x) - 1) (drop 1 (set l 0 x))) → length (stored l back x) ≡ length l
   stored-long back h e = ap length (stored-join back h) ∙ omega (arith, stored-others)

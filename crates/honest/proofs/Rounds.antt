@@ -50,7 +50,8 @@ module _ (w : List ℕ) (i : ℕ) (coins : List ℕ) (dealt : RoundDealt w i coi
 
   -- the words of the round
   pub round-is : (g : List ℕ) →
-      tableOf (fieldAt w) (rootAt w) (levelOf w (i + 1)) g ++ (take s coins ++ (map (evaluate (fieldAt w) g) (take s coins) ++ take (s + 2 + t - s) (drop s coins))) ≡ roundFrom w i g coins
+      tableOf (fieldAt w) (rootAt w) (levelOf w (i + 1)) g ++ (take s coins ++ (map (evaluate (fieldAt w) g) (take s coins) ++ take (s + 2 + t - s) (drop s coins)))
+      ≡ roundFrom w i g coins
   unfolding roundFrom roundWords honestRound coinsNext roundCoins laterCount
   round-is g =
       ap (λ (v : List ℕ). tableOf (fieldAt w) (rootAt w) (levelOf w (i + 1)) g ++ (take s coins ++ (map (evaluate (fieldAt w) g) (take s coins) ++ v)))
@@ -83,9 +84,12 @@ module _ (w : List ℕ) (i : ℕ) (coins : List ℕ) (dealt : RoundDealt w i coi
 
     -- each shift point stands in it
     pub shifts-in : InTable (length pw) scale (take (s + 2 + t - (s + 2)) (drop (s + 2) coins))
-    shifts-in = subst (InTable (length pw) scale) (sym shifts-is) (shifts-inside w i scale count (length pw) (shiftsNext w i coins) (sizes w pw i scale count st) (dealt .below))
+    shifts-in =
+        subst (InTable (length pw) scale) (sym shifts-is)
+        (shifts-inside w i scale count (length pw) (shiftsNext w i coins) (sizes w pw i scale count st) (dealt .below))
 
-    pub corrected-is : (g xs out : List ℕ) → xs ≡ differentPoints (take s coins ++ map (shiftIn pw scale (getD w 3 0)) (take (s + 2 + t - (s + 2)) (drop (s + 2) coins))) →
+    pub corrected-is : (g xs out : List ℕ) →
+        xs ≡ differentPoints (take s coins ++ map (shiftIn pw scale (getD w 3 0)) (take (s + 2 + t - (s + 2)) (drop (s + 2) coins))) →
         Corrected (getD w 0 0) xs (getD coins s 0) g out → out ≡ correctedFrom w i g coins
     unfolding correctedFrom nextPoly coinsNext roundCoins laterCount
     corrected-is g xs out e c =

@@ -21,7 +21,8 @@ module _ (f : ℕ → ℕ) (xs : List ℕ) where
       let h : length out ≤ length xs = omega arith in
       rw (drop-of-length-le out h, drop-of-length-le xs (le-refl (length xs)))
 
-  pub fill-turn : (out : List ℕ) (i : ℕ) {x : ℕ} → 0 < i → i ≤ length xs → length out ≡ length xs → drop i out ≡ map f (drop i xs) → x ≡ f (getD xs (i - 1) 0) →
+  pub fill-turn : (out : List ℕ) (i : ℕ) {x : ℕ} → 0 < i → i ≤ length xs → length out ≡ length xs →
+      drop i out ≡ map f (drop i xs) → x ≡ f (getD xs (i - 1) 0) →
       drop (i - 1) (set out (i - 1) x) ≡ map f (drop (i - 1) xs)
   fill-turn out i {x} h l e d v =
       let m : i ≤ length out = omega arith in
@@ -58,7 +59,8 @@ pub keep-there : (xs : List ℕ) (k x : ℕ) → true ≡ member x (drop k xs) �
 unfolding keepPoint
 keep-there xs k x e = ap (λ (b : Bool). cond b (drop k xs) (x ∷ drop k xs)) e
 
-pub keep-new : (xs : List ℕ) (k x : ℕ) → 0 < k → k ≤ length xs → false ≡ member x (drop k xs) → drop (k - 1) (set xs (k - 1) x) ≡ keepPoint x (drop k xs)
+pub keep-new : (xs : List ℕ) (k x : ℕ) → 0 < k → k ≤ length xs → false ≡ member x (drop k xs) →
+    drop (k - 1) (set xs (k - 1) x) ≡ keepPoint x (drop k xs)
 unfolding keepPoint
 keep-new xs k x h l e = drop-store xs k x h l ∙ ap (λ (b : Bool). cond b (drop k xs) (x ∷ drop k xs)) e
 
@@ -67,7 +69,8 @@ module _ (f : ℕ → ℕ) (xs kept : List ℕ) where
   unfolding keepPoints
   keep-start e = rw (drop-of-length-le xs (le-refl (length xs))) e
 
-  pub keep-turn : (i : ℕ) {l l′ : List ℕ} {x : ℕ} → 0 < i → i ≤ length xs → l ≡ keepPoints (map f (drop i xs)) kept → x ≡ f (getD xs (i - 1) 0) → l′ ≡ keepPoint x l →
+  pub keep-turn : (i : ℕ) {l l′ : List ℕ} {x : ℕ} → 0 < i → i ≤ length xs →
+      l ≡ keepPoints (map f (drop i xs)) kept → x ≡ f (getD xs (i - 1) 0) → l′ ≡ keepPoint x l →
       l′ ≡ keepPoints (map f (drop (i - 1) xs)) kept
   unfolding keepPoints
   keep-turn i h l d v e = rw (drop-back xs i h l) (e ∙ (λ j. keepPoint (v j) (d j)))

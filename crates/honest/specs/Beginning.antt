@@ -67,7 +67,8 @@ module _ {w f coins : List ℕ} (ok : Allowed w f coins) where
   -- the sheet, table 0, fold coin 0 and the words after it are the honest stream
   pub stream-is : w ++ wordsFrom w f coins ≡ honestStream w f coins
   unfolding honestStream transcriptWords honest readCoins restFrom fieldOf sheetOf
-  stream-is = sym (λ x. w ++ (tableOf (fieldAt w) (rootAt w) (level-first w x) f ++ (getD coins 0 0 ∷ restWords (honestRest (fieldAt w) (rootAt w) (level-first w x) f (getD coins 0 0)
+  stream-is = sym (λ x. w
+      ++ (tableOf (fieldAt w) (rootAt w) (level-first w x) f ++ (getD coins 0 0 ∷ restWords (honestRest (fieldAt w) (rootAt w) (level-first w x) f (getD coins 0 0)
       (readRounds (outsOf w) (level-first w x) (later x) (drop 1 coins)) (readFinals (outsOf w) (level-first w x) (later x) (drop 1 coins))))))
 
   -- the field has a domain of the sheet's size

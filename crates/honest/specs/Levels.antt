@@ -1,4 +1,4 @@
--- What a sheet that passes gives at each of its levels: sizes, and the next level; and what the coins give in each round.
+-- From level to level: the words after a fold coin, their number, and the coins still to come.
 use Prim.Native.Nat.{ℕ, suc, _+_, _-_, _/_, _≤_, _<_}
 use native.Mathlib.Omega.{arith}
 use mathlib.Core.List.{List, [], _∷_, _++_}
@@ -21,7 +21,8 @@ use Rattle.honest.specs.Standing.{DealtFrom, RoundDealt, coinsNext, corr
 
 -- the words of the rest over given levels
 abbrev restOver : List ℕ → ℕ → List Level → List ℕ → ℕ → List ℕ → List ℕ
-restOver w i ls f r coins = restWords (honestRest (fieldAt w) (rootAt w) (levelOf w i) f r (readRounds (outsOf w) (levelOf w i) ls coins) (readFinals (outsOf w) (levelOf w i) ls coins))
+restOver w i ls f r coins =
+    restWords (honestRest (fieldAt w) (rootAt w) (levelOf w i) f r (readRounds (outsOf w) (levelOf w i) ls coins) (readFinals (outsOf w) (levelOf w i) ls coins))
 
 module _ (w : List ℕ) (i : ℕ) where
   pub levels-more : i < roundsOf w → levelsAfter w i ≡ levelOf w (i + 1) ∷ levelsAfter w (i + 1)
@@ -89,7 +90,8 @@ module _ (w : List ℕ) (i : ℕ) where
   unfolding shiftsNext
   shifts-are coins = drop-take 2 (repetitionsOf w i) (drop (outsOf w) coins) ∙ ap (take (repetitionsOf w i)) (drop-drop 2 (outsOf w) coins)
 
-  pub dealt-more : (coins : List ℕ) → i < roundsOf w → DealtFrom w i coins → RoundDealt w i coins × DealtFrom w (i + 1) (drop (outsOf w + 2 + repetitionsOf w i) coins)
+  pub dealt-more : (coins : List ℕ) → i < roundsOf w → DealtFrom w i coins →
+      RoundDealt w i coins × DealtFrom w (i + 1) (drop (outsOf w + 2 + repetitionsOf w i) coins)
   unfolding DealtFrom laterCount limit
   dealt-more coins l d =
       let h = sheetOf w in
@@ -101,7 +103,8 @@ module _ (w : List ℕ) (i : ℕ) where
       let v = each-later (Passes h) t (shiftCount b) (take (2 + t) (drop s coins)) (q .1) in (
         record {
           there = there coins s t (o .0) (v .0);
-          below = subst (All (λ j. j < shiftCount b)) (shifts-are coins) (all-map (drop 2 (take (2 + t) (drop s coins))) (v .1) (λ j p. in-range h (index (shiftCount b)) j p));
+          below = subst (All (λ j. j < shiftCount b)) (shifts-are coins)
+              (all-map (drop 2 (take (2 + t) (drop s coins))) (v .1) (λ j p. in-range h (index (shiftCount b)) j p));
         },
         subst (Dealt (Passes h) s (levelOf w (i + 1)) (levelsAfter w (i + 1))) (coins-left coins) (q .2),
       )

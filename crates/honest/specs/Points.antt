@@ -50,7 +50,8 @@ module _ (field ω : ℕ) (g : List ℕ) where
   sampled-member x [] = refl
   sampled-member x (y ∷ ys) = ap (λ (t : Bool). eqb x y || t) (sampled-member x ys)
 
-  kept-points : (b c : Bool) (s : Sample ℕ) (kept : List (Sample ℕ)) (xs : List ℕ) → b ≡ c → points kept ≡ xs → points (cond b kept (s ∷ kept)) ≡ cond c xs (s .point ∷ xs)
+  kept-points : (b c : Bool) (s : Sample ℕ) (kept : List (Sample ℕ)) (xs : List ℕ) → b ≡ c → points kept ≡ xs →
+      points (cond b kept (s ∷ kept)) ≡ cond c xs (s .point ∷ xs)
   unfolding points
   kept-points b true s kept xs e h = ap (λ (t : Bool). points (cond t kept (s ∷ kept))) e ∙ h
   kept-points b false s kept xs e h = ap (λ (t : Bool). points (cond t kept (s ∷ kept))) e ∙ ap {B = List ℕ} (λ l. s .point ∷ l) h

@@ -1,33 +1,26 @@
 -- What a sheet that passes gives at the level where the prover stands: the sizes of its words, of the polynomial, of the table and of the next level.
-use Prim.Native.Nat.{ℕ, suc, _+_, _-_, _*_, _/_, _%_, _^_, _≤_, _<_}
-use native.Mathlib.Nat.{div-le-self, div-mul-le-self, mod-mod, mul-comm, mul-div-cancel, mul-one, mul-le-mul-left, pow-suc, suc-mul}
+use Prim.Native.Nat.{ℕ, suc, _+_, _-_, _*_, _/_, _^_, _≤_, _<_}
+use native.Mathlib.Nat.{div-le-self, div-mul-le-self, mul-comm, mul-div-cancel, mul-le-mul-left, pow-suc}
 use native.Mathlib.Numerals.{add-one}
 use native.Mathlib.Omega.{arith}
 use mathlib.Core.Bool.{_&&_}
 use mathlib.Core.List.{List}
-use mathlib.Core.Path.{_≡_, sym, ap, _∙_, subst}
+use mathlib.Core.Path.{_≡_, sym, ap, _∙_}
 use lib.ListN.{length, getD}
 use lib.Pow.{pow-mono, pow-pos}
-use Rattle.definition.specs.Field.{fieldOf, power, primeField, primeOf}
-use Rattle.definition.specs.Prover.{tableOf}
 use Rattle.definition.specs.Reading.{sheetTest}
-use Rattle.definition.specs.Sheet.{between, degreeRule, foldRule, powerOfTwo, rootOfUnity, sheetOf, sheetRules, shiftCount}
+use Rattle.definition.specs.Sheet.{between, degreeRule, foldRule, powerOfTwo, sheetRules, shiftCount}
 use Rattle.definition.specs.Verdict.{accepted}
 use Rattle.algebra.specs.ListFacts.{All}
-use Rattle.algebra.specs.ModularArithmetic.{pow-pow}
 use Rattle.completeness.specs.ByPlace.{at-place}
-use Rattle.completeness.specs.LevelSizes
 use Rattle.completeness.specs.LevelsByNumber.{folded}
 use Rattle.completeness.specs.Numbered.{levelOf, outsOf, roundsOf}
-use Rattle.completeness.specs.Ready.{ready, ready-sized}
 use Rattle.completeness.specs.SheetLevels
-use Rattle.completeness.specs.SheetRules.{Exponents, between-true, exponents, rules-hold}
+use Rattle.completeness.specs.SheetRules.{between-true, exponents, rules-hold}
 use Rattle.completeness.specs.Tests.{and-true}
-use Rattle.domain.specs.Powers.{Powers}
 use Rattle.sheet.specs.Bounds.{ranges}
-use Rattle.tables.specs.OnDomain.{DomainFits, DomainTable, domain-fits, scale-fits}
 use Rattle.honest.specs.Points.{InTable}
-use Rattle.honest.specs.Standing.{OnLevel, Standing, fieldAt, repetitionsOf, rootAt}
+use Rattle.honest.specs.Standing.{OnLevel, Standing, repetitionsOf}
 
 -- k is at most 16 and d0 at most 2048
 few-folds : (w : List ℕ) → sheetTest w ≡ accepted → getD w 3 0 ≤ 16
@@ -84,7 +77,8 @@ sizes w pw i scale count st =
     small j h e = omega (arith, pow-mono h)
 
 -- the place in the table of each shift index
-pub shifts-inside : (w : List ℕ) (i scale count points : ℕ) (js : List ℕ) → Sizes w i scale count points → All (λ j. j < shiftCount (levelOf w i)) js → InTable points scale js
+pub shifts-inside : (w : List ℕ) (i scale count points : ℕ) (js : List ℕ) → Sizes w i scale count points → All (λ j. j < shiftCount (levelOf w i)) js →
+    InTable points scale js
 unfolding shiftCount
 shifts-inside w i scale count points js z below = λ m l.
     inside (getD js m 0) (levelOf w i .size) (at-place (λ j. j < levelOf w i .size / getD w 3 0) js 0 below m l) (z .whole)
@@ -134,50 +128,3 @@ module _ (w pw : List ℕ) (i scale m : ℕ) (st : Standing w pw i scale (getD w
   fewer-points l =
       let e : levelOf w (suc i) .degree ≡ m = ap (λ (j : ℕ). levelOf w j .degree) (sym (add-one i)) ∙ fold-count in
       omega (arith, SheetLevels.step w (st .long) (st .passed) i l .few)
-
--- ---- what a table over the level's domain asks
-
-first-power : (w pw : List ℕ) → Powers (getD w 0 0) (rootAt w) pw → 0 < length pw → getD pw 0 0 ≡ rootAt w
-unfolding fieldOf primeField power rootOfUnity sheetOf
-first-power w pw p some = p .entry 0 some ∙ ap (λ (n : ℕ). n % primeOf (getD w 0 0)) (mul-one (rootAt w)) ∙ mod-mod _ (primeOf (getD w 0 0))
-
-module _ (w : List ℕ) (long : length w ≡ 12) (passed : sheetTest w ≡ accepted) (i : ℕ) (l : i ≤ roundsOf w) where
-  open Exponents (exponents w passed) using (a, b, c, size, degree, fold, below, rounds)
-
-  narrow : (suc c * i + suc c ≤ b) × (i ≤ suc c * i)
-  narrow = (omega (arith, rounds, mul-le-mul-left (suc c) l), omega (arith, suc-mul c i))
-
-  size-power : levelOf w i .size ≡ 2 ^ (suc a - i)
-  size-power = let e : suc a ≡ suc a - i + i = omega (arith, narrow, below) in ap (λ (n : ℕ). n / 2 ^ i) (size ∙ ap (λ (n : ℕ). 2 ^ n) e) ∙ LevelSizes.quotient (suc a - i) i
-
-  degree-power : levelOf w i .degree ≡ 2 ^ (b - suc c * i)
-  degree-power =
-      let e : b ≡ b - suc c * i + suc c * i = omega (arith, narrow) in
-      (λ x. (degree ∙ ap (λ (n : ℕ). 2 ^ n) e) x / (ap (λ (k : ℕ). k ^ i) fold ∙ pow-pow 2 (suc c) i) x) ∙ LevelSizes.quotient (b - suc c * i) (suc c * i)
-
-  level-fits : (scale : ℕ) → scale ≡ 2 ^ i → DomainFits (fieldAt w) (levelOf w i .degree) (rootAt w) scale (levelOf w i .size)
-  unfolding fieldOf sheetOf
-  level-fits scale e =
-      let r = ready w long passed in
-      domain-fits (fieldAt w) (rootAt w) (r .e) (b - suc c * i) (suc a - i) (r .root)
-      (ap (λ (s : ℕ). s * levelOf w i .size) e ∙ ready-sized w long passed i l .whole ∙ omega (arith, pow-suc 2 (r .e)))
-      degree-power size-power (omega (arith, narrow, below))
-
--- the table's first word is ω
-pub level-asks : (w pw : List ℕ) (scale count n : ℕ) → OnLevel w pw scale count n → (scale < 2 ^ 32) × DomainFits (fieldAt w) count (getD pw 0 0) scale n
-level-asks w pw scale count n o =
-    let i = o .number in
-    let st = o .standing in
-    let z = sizes w pw i scale count st in
-    let f = level-fits w (st .long) (st .passed) i (st .level) scale (st .scaled) in
-    let e = size-power w (st .long) (st .passed) i (st .level) in (
-      scale-fits (z .whole) (omega (arith, e, pow-pos (suc (exponents w (st .passed) .a) - i))) (z .points-most),
-      rw (st .degree, o .size, first-power w pw (st .powers) (z .some-points)) f,
-    )
-
--- so that what is given of its first word is given of ω
-pub level-table : (w pw : List ℕ) (scale count n : ℕ) (f out : List ℕ) → OnLevel w pw scale count n → DomainTable (fieldAt w) f (getD pw 0 0) scale n out → DomainTable (fieldAt w) f (rootAt w) scale n out
-level-table w pw scale count n f out o t =
-    let st = o .standing in
-    let z = sizes w pw (o .number) scale count st in
-    λ l. subst (λ (ω : ℕ). 2 ^ l .number ≡ scale → l .size ≡ n → out ≡ tableOf (fieldAt w) ω l f) (first-power w pw (st .powers) (z .some-points)) (t l)

@@ -60,7 +60,8 @@ roundCount w i = levelOf w (i + 1) .size + outsOf w + outsOf w + 2 + repetitions
 -- all words after fold coin i
 unfoldable pub restFrom : List ℕ → ℕ → List ℕ → ℕ → List ℕ → List ℕ
 restFrom w i f r coins =
-    restWords (honestRest (fieldAt w) (rootAt w) (levelOf w i) f r (readRounds (outsOf w) (levelOf w i) (levelsAfter w i) coins) (readFinals (outsOf w) (levelOf w i) (levelsAfter w i) coins))
+    restWords (honestRest (fieldAt w) (rootAt w) (levelOf w i) f r (readRounds (outsOf w) (levelOf w i) (levelsAfter w i) coins)
+    (readFinals (outsOf w) (levelOf w i) (levelsAfter w i) coins))
 
 -- the words after table 0, and after the sheet
 abbrev pub openingFrom : List ℕ → List ℕ → List ℕ → List ℕ

@@ -1,6 +1,7 @@
 -- `honest::table` meets its contract. Assumes nothing.
 use lib.ListN.{length}
-use Rattle.honest.specs.Sizes.{level-asks, level-table, sizes}
+use Rattle.honest.specs.Sizes.{sizes}
+use Rattle.honest.specs.Tables.{level-asks, level-table}
 use borrow.Author.Needs.{needs}
 use Rattle.honest.proofs.table.Statement.{statement}
 use Rattle.honest.proofs.table.Tie as tie
