@@ -59,12 +59,14 @@ calls t = (
 -- what is known once the numbers of the round are worked out
 ahead : (t : ℕ) (c : rest-lts.After-round-words (calls t) (rest-at t) rest.Post) →
     let a = c .before .before .before .before .before .before .before .before .before .before .args in
-    Onward (a .w .now) (a .pw .now) (a .level) (a .scale) (length (a .f .now)) (a .coins .now) (length (a .out .now)) (c .before .before .fold-length .result) (c .before .round-coins .result) (c .round-words .result)
+    Onward (a .w .now) (a .pw .now) (a .level) (a .scale) (length (a .f .now)) (a .coins .now) (length (a .out .now))
+    (c .before .before .fold-length .result) (c .before .round-coins .result) (c .round-words .result)
 ahead t c =
     let s = c .before .before .before .before .before .before .before .before .before .before in
     let a = s .args in
     let more = not-last (a .level) (getD (a .w .now) 4 0) (s .pre .1 .0 .level) (c .before .before .before .if1 .left) in
-    onward (a .w .now) (a .pw .now) (a .level) (a .scale) (length (a .f .now)) (a .coins .now) (length (a .out .now)) (c .before .before .fold-length .result) (c .before .round-coins .result) (c .round-words .result)
+    onward (a .w .now) (a .pw .now) (a .level) (a .scale) (length (a .f .now)) (a .coins .now) (length (a .out .now))
+    (c .before .before .fold-length .result) (c .before .round-coins .result) (c .round-words .result)
     (s .pre .1 .0) (s .pre .1 .1 .0) (s .pre .1 .1 .1) more (c .before .before .fold-length .ensures) (c .before .round-coins .ensures) (c .round-words .ensures)
 
 -- the fold has places enough
@@ -86,7 +88,8 @@ rest-finals-requires t c κs =
     let s = c .before .before .before .before .before .before .before .before in
     let a = s .args in
     let z = sizes (a .w .now) (a .pw .now) (a .level) (a .scale) (length (a .f .now)) (s .pre .1 .0) in
-    let e = words-last (a .w .now) (a .pw .now) (a .level) (a .scale) (length (a .f .now)) (a .coins .now) (length (a .out .now)) (s .pre .1 .0) (s .pre .1 .1 .0) (s .pre .1 .1 .1) (c .before .if1 .taken) in
+    let e = words-last (a .w .now) (a .pw .now) (a .level) (a .scale) (length (a .f .now)) (a .coins .now) (length (a .out .now))
+    (s .pre .1 .0) (s .pre .1 .1 .0) (s .pre .1 .1 .1) (c .before .if1 .taken) in
     ((s .pre .1 .0 .long, (omega (arith, z .fold), z .folds)), (z .divides, e))
 
 rest-fold-length-requires : (t : ℕ) → rest-lts.Need-fold-length-requires (calls t) (rest-at t) rest.Post
@@ -177,7 +180,9 @@ rest-slice-aggregate-rest t c =
     sym (front-there m (q .last .1 .1 .1 .1 .1 .1 .1 .0) d fits (q .kept .1 .1 .1 .1 .1 .1 .1 .0))
 
 rest-fold-coin-requires : (t : ℕ) → rest-lts.Need-fold-coin-requires (calls t) (rest-at t) rest.Post
-rest-fold-coin-requires t c κs = (c .before .before .before .before .before .before .before .before .before .before .before .before .before .before .before .before .before .before .pre .1 .0 .long, ahead t (c .before .before .before .before .before .before .before .before) .coin)
+rest-fold-coin-requires t c κs =
+    let s = c .before .before .before .before .before .before .before .before .before .before .before .before .before .before .before .before .before .before in
+    (s .pre .1 .0 .long, ahead t (c .before .before .before .before .before .before .before .before) .coin)
 
 rest-mul-rest-2 : (t : ℕ) → rest-lts.Need-mul-rest-2 (calls t) (rest-at t) rest.Post
 rest-mul-rest-2 t c = omega (arith, ahead t (c .before .before .before .before .before .before .before .before .before) .few)
@@ -260,8 +265,10 @@ rest-returns-2 t c =
     let a = c .before .before .before .before .before .before .before .before .before .before .before .before .before .before .before .before .before .before .before .before .before .before .before .before .args in
     let v = c .before .before .rest in
     let u = c .before .before .before .before .before .before .before .before .before .before .before .before .before .before .before .round-coins in
-    words-join (a .w .now) (a .level) (a .f .now) (a .r) (a .coins .now) (u .result) (o .more) (joined (a .out .now) (q .last .1 .1 .1 .1 .1 .1 .1 .1 .0) n (o .within) (q .kept .1 .1 .1 .1 .1 .1 .1 .1 .0) (v .last .1 .1 .1 .1 .1 .1 .1 .0) refl refl)
-    (q .ensures .0) (front-stays m (q .last .1 .1 .1 .1 .1 .1 .1 .0) d fits (q .kept .1 .1 .1 .1 .1 .1 .1 .0)) (q .ensures .1) (c .before .before .before .before .before .fold-coin .ensures) (all-left (u .result) (a .coins .now)) (u .ensures) (v .ensures)
+    words-join (a .w .now) (a .level) (a .f .now) (a .r) (a .coins .now) (u .result) (o .more)
+    (joined (a .out .now) (q .last .1 .1 .1 .1 .1 .1 .1 .1 .0) n (o .within) (q .kept .1 .1 .1 .1 .1 .1 .1 .1 .0) (v .last .1 .1 .1 .1 .1 .1 .1 .0) refl refl)
+    (q .ensures .0) (front-stays m (q .last .1 .1 .1 .1 .1 .1 .1 .0) d fits (q .kept .1 .1 .1 .1 .1 .1 .1 .0)) (q .ensures .1)
+    (c .before .before .before .before .before .fold-coin .ensures) (all-left (u .result) (a .coins .now)) (u .ensures) (v .ensures)
 
 pub +rest-spec : {M : Type 1} → statement M
 +rest-spec = close μ-rest λ t. rest-lts.spec (calls t)

@@ -1,4 +1,4 @@
--- `honest::copy` meets its contract. Assumes nothing.
+-- `honest::copy` meets its contract: from place i on stand the words. Assumes nothing.
 use Prim.Native.Nat.{_-_, _≤_}
 use native.Mathlib.Omega.{arith}
 use mathlib.Core.Path.{_≡_, _∙_, refl}

@@ -1,4 +1,4 @@
--- `honest::correct` meets its contract. Assumes nothing.
+-- `honest::correct` meets its contract: the points of G, and the corrected polynomial by them. Assumes nothing.
 use Prim.Native.Nat.{_*_}
 use native.Mathlib.Omega.{arith}
 use mathlib.Core.Path.{refl, sym}
@@ -53,7 +53,9 @@ cast-points c =
     omega (arith, z .folds)
 
 slice-aggregate-points : tie.Need-slice-aggregate-points
-slice-aggregate-points c = let s = c .before .before .before .before .before .before .before .before .before .before in sym (outs-long (s .args .w .now) (s .args .level) (s .args .coins .now) (s .pre .1 .0))
+slice-aggregate-points c =
+    let s = c .before .before .before .before .before .before .before .before .before .before in
+    sym (outs-long (s .args .w .now) (s .args .level) (s .args .coins .now) (s .pre .1 .0))
 
 add-points : tie.Need-add-points
 add-points c = search needs
@@ -86,7 +88,8 @@ points-requires c κs =
     let z = sizes (a .w .now) (a .pw .now) (a .level) (a .scale) (getD (a .w .now) 3 0 * length (a .next .now)) (s .pre .0 .0) in
     let lo = outs-long (a .w .now) (a .level) (a .coins .now) (s .pre .1 .0) in
     let lt = shifts-long (a .w .now) (a .level) (a .coins .now) (s .pre .1 .0) in
-    ((omega (arith, z .fold), (z .folds, z .points-most)), (shifts-in (a .w .now) (a .level) (a .coins .now) (s .pre .1 .0) (a .pw .now) (a .scale) (getD (a .w .now) 3 0 * length (a .next .now)) (s .pre .0 .0), omega (arith, lo, lt, z .outs, z .repetitions, c .before .before .before .before .points-room .ensures)))
+    let in-table = shifts-in (a .w .now) (a .level) (a .coins .now) (s .pre .1 .0) (a .pw .now) (a .scale) (getD (a .w .now) 3 0 * length (a .next .now)) (s .pre .0 .0) in
+    ((omega (arith, z .fold), (z .folds, z .points-most)), (in-table, omega (arith, lo, lt, z .outs, z .repetitions, c .before .before .before .before .points-room .ensures)))
 
 shared-slice-read-corrected : tie.Need-shared-slice-read-corrected
 shared-slice-read-corrected c = search needs

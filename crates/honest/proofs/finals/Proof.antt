@@ -1,4 +1,4 @@
--- `honest::finals` meets its contract. Assumes nothing.
+-- `honest::finals` meets its contract: the fold, and the indices after it. Assumes nothing.
 use Prim.Native.Nat.{ℕ, _*_, _/_}
 use native.Mathlib.Omega.{arith}
 use mathlib.Core.Path.{_∙_, sym, ap}

@@ -1,4 +1,4 @@
--- `honest::found` meets its contract. Assumes nothing.
+-- `honest::found` meets its contract: the search among the points from number i on is the whole search. Assumes nothing.
 use Prim.Native.Nat.{_-_, _≤_}
 use native.Mathlib.Omega.{arith}
 use mathlib.Core.Path.{_≡_, _∙_, refl}

@@ -1,4 +1,4 @@
--- `honest::keep_all` meets its contract. Assumes nothing.
+-- `honest::keep_all` meets its contract: the points from number i on are kept. Assumes nothing.
 use Prim.Native.Nat.{_+_, _-_, _≤_, ℕ}
 use native.Mathlib.Omega.{arith}
 use mathlib.Core.Path.{_≡_, _∙_, refl, ap}
@@ -66,7 +66,9 @@ returns : tie.Need-returns Inv-loop μ-loop
 returns c =
     let l = c .before .loop in
     let a = c .before .before .before .before .args in
-    (keep-end (λ x. x) (a .points .now) (drop (a .from) (a .xs .now)) (l .i) (omega arith) (l .inv .1 .1 .1 .1) ∙ ap (λ (p : List ℕ). keepPoints p (drop (a .from) (a .xs .now))) (map-same (a .points .now)), (omega arith, omega arith))
+    let kept = drop (a .from) (a .xs .now) in
+    let same = ap (λ (p : List ℕ). keepPoints p kept) (map-same (a .points .now)) in
+    (keep-end (λ x. x) (a .points .now) kept (l .i) (omega arith) (l .inv .1 .1 .1 .1) ∙ same, (omega arith, omega arith))
 
 pub keep-all-spec : {M : Type 1} → statement M
 keep-all-spec =

@@ -1,4 +1,4 @@
--- `honest::keep_shifts` meets its contract. Assumes nothing.
+-- `honest::keep_shifts` meets its contract: the points of the indices from number i on are kept. Assumes nothing.
 use Prim.Native.Nat.{_+_, _-_, _≤_}
 use native.Mathlib.Nat.{le-refl}
 use native.Mathlib.Omega.{arith}

@@ -1,4 +1,4 @@
--- `honest::points` meets its contract. Assumes nothing.
+-- `honest::points` meets its contract: the out coins are kept in front of the shift points. Assumes nothing.
 use native.Mathlib.Omega.{arith}
 use mathlib.Core.List.{[], map}
 use mathlib.Core.Path.{_∙_, sym, ap}
@@ -22,7 +22,8 @@ returns c =
     let a = c .before .before .before .before .before .before .before .before .before .before .before .before .args in
     let k = c .before .before .before .before .before .before .keep-shifts in
     let q = c .before .before .keep-all in
-    (q .ensures .0 ∙ ap (keepPoints (a .outs .now)) (k .ensures .0) ∙ sym (keep-append (a .outs .now) (map (shiftIn (a .pw .now) (a .scale) (a .k)) (a .shifts .now)) []), (omega arith, omega arith))
+    let whole = keep-append (a .outs .now) (map (shiftIn (a .pw .now) (a .scale) (a .k)) (a .shifts .now)) [] in
+    (q .ensures .0 ∙ ap (keepPoints (a .outs .now)) (k .ensures .0) ∙ sym whole, (omega arith, omega arith))
 
 pub points-spec : {M : Type 1} → statement M
 points-spec = tie.close (tie.spec keep-shifts-requires keep-all-requires same-length returns)

@@ -1,4 +1,4 @@
--- `honest::round` meets its contract. Assumes nothing.
+-- `honest::round` meets its contract: the table, and the words after it. Assumes nothing.
 use Prim.Native.Nat.{_+_, _*_, _/_}
 use native.Mathlib.Omega.{arith}
 use mathlib.Core.Path.{_∙_, sym}
@@ -89,7 +89,9 @@ shared-slice-read-after-table : tie.Need-shared-slice-read-after-table
 shared-slice-read-after-table c = search needs
 
 slice-aggregate-after-table : tie.Need-slice-aggregate-after-table
-slice-aggregate-after-table c = let s = c .before .before .before .before .before .before .before .before .before .before .before .before .before in sym (outs-long (s .args .w .now) (s .args .level) (s .args .coins .now) (s .pre .1 .0))
+slice-aggregate-after-table c =
+    let s = c .before .before .before .before .before .before .before .before .before .before .before .before .before in
+    sym (outs-long (s .args .w .now) (s .args .level) (s .args .coins .now) (s .pre .1 .0))
 
 add-after-table : tie.Need-add-after-table
 add-after-table c = search needs

@@ -1,4 +1,4 @@
--- `honest::step` meets its contract. Assumes nothing.
+-- `honest::step` meets its contract: the fold stands in the first places of g, for the words and for the correction. Assumes nothing.
 use Prim.Native.Nat.{ℕ, _*_, _≤_}
 use native.Mathlib.Omega.{arith}
 use mathlib.Core.List.{List}

@@ -1,4 +1,4 @@
--- `honest::stream` meets its contract. Assumes nothing.
+-- `honest::stream` meets its contract: the table of points, and the stream by it. Assumes nothing.
 use Prim.Native.Nat.{_≤_}
 use native.Mathlib.Omega.{arith}
 use mathlib.Core.Path.{subst, sym}

@@ -1,4 +1,4 @@
--- `honest::stream_by` meets its contract. Assumes nothing.
+-- `honest::stream_by` meets its contract: the sheet, and the words after it. Assumes nothing.
 use native.Mathlib.Omega.{arith}
 use mathlib.Core.Path.{_∙_, sym}
 use lib.Seq.{length-take-le}
@@ -55,7 +55,8 @@ transcript-requires c κs =
     let a = s .args in
     let e = s .pre .1 .1 ∙ words-first (s .pre .0) in
     let p = c .before .before .before .copy in
-    (first-standing (s .pre .0) (a .pw .now) (s .pre .1 .0 .0) (s .pre .1 .0 .1), (first-coin (s .pre .0), (first-dealt (s .pre .0), others-long (a .out .now) (p .last .1 .0) 12 (omega (arith, e)) (p .kept .1 .0) ∙ omega (arith, e))))
+    let n = others-long (a .out .now) (p .last .1 .0) 12 (omega (arith, e)) (p .kept .1 .0) in
+    (first-standing (s .pre .0) (a .pw .now) (s .pre .1 .0 .0) (s .pre .1 .0 .1), (first-coin (s .pre .0), (first-dealt (s .pre .0), n ∙ omega (arith, e))))
 
 same-length : tie.Need-same-length
 same-length c = search needs

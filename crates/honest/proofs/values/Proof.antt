@@ -1,4 +1,4 @@
--- `honest::values` meets its contract. Assumes nothing.
+-- `honest::values` meets its contract: from place i on stand the values. Assumes nothing.
 use Prim.Native.Nat.{_-_, _≤_}
 use native.Mathlib.Omega.{arith}
 use mathlib.Core.Path.{_≡_, refl}
