@@ -13,13 +13,6 @@ ghost use Rattle.definition.specs.Sheet.{sheetOf};
 ghost use Rattle.completeness.specs.Numbered.{Allowed};
 ghost use Rattle.outcome.specs.Meaning.{answerOf};
 
-fn stream(w: &[u32], f: &[u32], coins: &[u32], out: &mut [u32])
-    requires { ⌜ Allowed (now w) (now f) (now coins) ⌝ }
-    requires { ⌜ length (now out) ≡ wordsDue (sheetOf (now w)) ⌝ }
-    ensures { λ _. ⌜ now (out .exit) ≡ honestStream (now (w .entry)) (now (f .entry)) (now (coins .entry)) ⌝ }
-{
-}
-
 // Places for the words of the longest stream.
 fn room() -> [u32; 8636]
     ensures { λ r. ⌜ length r ≡ 8636 ⌝ }
@@ -33,7 +26,7 @@ fn write(sheet: &[u32], coefficients: &[u32], coins: &[u32], words: &mut [u32], 
     requires { ⌜ (length (now words) ≡ wordsDue (sheetOf (now sheet))) × (512 * blockCount (length (now words)) ≤ length (now output)) ⌝ }
     ensures { λ _. ⌜ now (output .exit) ≡ fileOf (honestStream (now (sheet .entry)) (now (coefficients .entry)) (now (coins .entry))) ++ drop (length (fileOf (honestStream (now (sheet .entry)) (now (coefficients .entry)) (now (coins .entry))))) (now (output .entry)) ⌝ }
 {
-    stream(sheet, coefficients, coins, words);
+    honest::stream(sheet, coefficients, coins, words);
     stream::seal(words, words.len(), output);
 }
 

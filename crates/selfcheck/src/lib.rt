@@ -11,13 +11,6 @@ ghost use Rattle.completeness.specs.Numbered.{readsDue};
 ghost use Rattle.outcome.specs.Meaning.{answerOf, verdictOf};
 ghost use Rattle.selfcheck.specs.Written.{blocksOf};
 
-fn prove_stub(sheet: &[u32], coefficients: &[u32], coins: &[u32], output: &mut [u8]) -> Answer
-    ensures { λ r. ⌜ answerOf r ≡ prove (now (sheet .entry)) (now (coefficients .entry)) (now (coins .entry)) (now (output .entry)) .answer ⌝ }
-    ensures { λ r. ⌜ now (output .exit) ≡ prove (now (sheet .entry)) (now (coefficients .entry)) (now (coins .entry)) (now (output .entry)) .output ⌝ }
-{
-    Answer::Done(0)
-}
-
 // The prover's answer, and the verdict on what it wrote.
 pub struct Checked {
     pub answer: Answer,
@@ -42,7 +35,7 @@ pub fn prove_then_verify(sheet: &[u32], coefficients: &[u32], coins: &[u32], out
     ensures { λ r. ⌜ verdictOf (r .verdict) ≡ verify (take (512 * blocksOf (answerOf (r .answer))) (now (output .exit))) ⌝ }
     ensures { λ r. ⌜ ((count : ℕ) → answerOf (r .answer) ≡ done count → verdictOf (r .verdict) ≡ record { outcome = accepted; reads = readsDue (now (sheet .entry)) }) ⌝ }
 {
-    let answer = prove_stub(sheet, coefficients, coins, output);
+    let answer = prove::prove(sheet, coefficients, coins, output);
     let count = blocks(answer);
     let verdict = verify::verify(&output[..512 * count]);
     Checked {

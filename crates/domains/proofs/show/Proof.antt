@@ -3,10 +3,6 @@ use native.Mathlib.Omega.{arith}
 use borrow.Author.Needs.{needs}
 use Rattle.domains.proofs.show.Statement.{statement}
 use Rattle.domains.proofs.show.Tie as tie
-use Rattle.domains.proofs.show.Reads as reads
-use Rattle.domains.proofs.show.Lts as lts
-use Rattle.domains.proofs.line.Reads as line-reads
-use Rattle.io.proofs.write_all.Reads as write-all-reads
 
 abbrev Inv-loop : tie.InvT-loop
 Inv-loop rounds points i₀ i = i ≤ 6
@@ -14,35 +10,27 @@ Inv-loop rounds points i₀ i = i ≤ 6
 abbrev μ-loop : tie.MeasureT-loop
 μ-loop rounds points i₀ i = 6 - i
 
--- src/main.rt:52:34
 slice-aggregate-write-all : tie.Need-slice-aggregate-write-all Inv-loop μ-loop
 slice-aggregate-write-all c = search needs
 
--- src/main.rt:52:5
 write-all-requires : tie.Need-write-all-requires Inv-loop μ-loop
 write-all-requires c κs = search needs
 
--- src/main.rt:53:5
 loop-holds : tie.Need-loop-holds Inv-loop μ-loop
 loop-holds c = omega arith
 
--- src/main.rt:55:13
 line-requires : tie.Need-line-requires Inv-loop μ-loop
 line-requires c κs = omega arith
 
--- src/main.rt:53:9
 add-i : tie.Need-add-i Inv-loop μ-loop
 add-i c = omega arith
 
--- src/main.rt:53:5
 loop-less : tie.Need-loop-less Inv-loop μ-loop
 loop-less c = omega arith
 
--- src/main.rt:53:5
 loop-again : tie.Need-loop-again Inv-loop μ-loop
 loop-again c = omega arith
 
--- src/main.rt:51:1
 returns : tie.Need-returns Inv-loop μ-loop
 returns c = search needs
 

@@ -10,20 +10,13 @@ use Rattle.outcome.specs.Meaning.{answerOf}
 use Rattle.encode.proofs.Stages.{coefficients-due, done-is, enough-room, placed, refused-is, sheet-passed, tableZero, twelve-words}
 use Rattle.encode.proofs.encode.Statement.{statement}
 use Rattle.encode.proofs.encode.Tie as tie
-use Rattle.encode.proofs.encode.Reads as reads
-use Rattle.encode.proofs.encode.Lts as lts
-use Rattle.encode.proofs.first_table.Reads as first-table-reads
-use Rattle.orders.proofs.encode_tests.Reads as encode-tests-reads
 
--- src/lib.rt:32:9
 encode-tests-requires : tie.Need-encode-tests-requires
 encode-tests-requires c κs = search needs
 
--- src/lib.rt:33:29
 enum-known-tests : tie.Need-enum-known-tests
 enum-known-tests c = search needs
 
--- src/lib.rt:34:9
 returns : tie.Need-returns
 unfolding answerOf
 returns c =
@@ -36,7 +29,6 @@ returns c =
 enum-told : tie.Need-enum-told
 enum-told c = search needs
 
--- src/lib.rt:36:16
 shared-slice-read-size : tie.Need-shared-slice-read-size
 shared-slice-read-size c =
     let r = c .before .before .before in
@@ -45,11 +37,9 @@ shared-slice-read-size c =
     let e = c .before .enum-told .given .1 in
     omega (arith, twelve-words (a .sheet .now) (a .coefficients .now) (a .output .now) (t .result) (t .ensures) e)
 
--- src/lib.rt:36:16
 cast-size : tie.Need-cast-size
 cast-size c = omega (arith, c .shared-slice-known3 .given 1)
 
--- src/lib.rt:37:38
 slice-relend-prefix-first-table : tie.Need-slice-relend-prefix-first-table
 slice-relend-prefix-first-table c =
     let r = c .before .before .before in
@@ -58,7 +48,6 @@ slice-relend-prefix-first-table c =
     let e = c .before .enum-told .given .1 in
     enough-room (a .sheet .now) (a .coefficients .now) (a .output .now) (t .result) (t .ensures) e
 
--- src/lib.rt:37:38
 slice-aggregate-first-table : tie.Need-slice-aggregate-first-table
 slice-aggregate-first-table c =
     let r = c .before .before .before .before in
@@ -67,7 +56,6 @@ slice-aggregate-first-table c =
     let e = c .before .before .enum-told .given .1 in
     sym (length-take-le (getD (a .sheet .now) 1 0) (a .output .now) (enough-room (a .sheet .now) (a .coefficients .now) (a .output .now) (t .result) (t .ensures) e))
 
--- src/lib.rt:37:5
 first-table-requires : tie.Need-first-table-requires
 first-table-requires c κs =
     let r = c .before .before .before .before in
@@ -77,11 +65,9 @@ first-table-requires c κs =
     ((omega (arith, twelve-words (a .sheet .now) (a .coefficients .now) (a .output .now) (t .result) (t .ensures) e), sheet-passed (a .sheet .now) (a .coefficients .now) (a .output .now) (t .result) (t .ensures) e),
     (coefficients-due (a .sheet .now) (a .coefficients .now) (a .output .now) (t .result) (t .ensures) e, length-take-le (getD (a .sheet .now) 1 0) (a .output .now) (enough-room (a .sheet .now) (a .coefficients .now) (a .output .now) (t .result) (t .ensures) e)))
 
--- src/lib.rt:28:1
 same-length : tie.Need-same-length
 same-length c = search needs
 
--- src/lib.rt:28:1
 returns-2 : tie.Need-returns-2
 unfolding answerOf
 returns-2 c =

@@ -2,22 +2,16 @@ use native.Mathlib.Omega.{arith}
 use borrow.Author.Needs.{needs}
 use Rattle.intake.proofs.degree_bound.Statement.{statement}
 use Rattle.intake.proofs.degree_bound.Tie as tie
-use Rattle.intake.proofs.degree_bound.Reads as reads
-use Rattle.intake.proofs.degree_bound.Lts as lts
 
--- src/main.rt:29:9
 returns : tie.Need-returns
 returns c = search needs
 
--- src/main.rt:31:5
 shared-slice-read-result : tie.Need-shared-slice-read-result
 shared-slice-read-result c = search needs
 
--- src/main.rt:31:5
 cast-result : tie.Need-cast-result
 cast-result c = omega (arith, c .shared-slice-known .given 2)
 
--- src/main.rt:27:1
 returns-2 : tie.Need-returns-2
 returns-2 c = search needs
 

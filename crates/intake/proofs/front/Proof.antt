@@ -4,18 +4,13 @@ use lib.Seq.{length-take-le}
 use borrow.Author.Needs.{needs}
 use Rattle.intake.proofs.front.Statement.{statement}
 use Rattle.intake.proofs.front.Tie as tie
-use Rattle.intake.proofs.front.Reads as reads
-use Rattle.intake.proofs.front.Lts as lts
 
--- src/main.rt:45:9
 returns : tie.Need-returns
 returns c = search needs
 
--- src/main.rt:47:5
 slice-aggregate-result : tie.Need-slice-aggregate-result
 slice-aggregate-result c = sym (length-take-le (c .before .before .args .count) (c .before .before .args .words .now) (omega arith))
 
--- src/main.rt:43:1
 returns-2 : tie.Need-returns-2
 returns-2 c = search needs
 

@@ -8,9 +8,6 @@ use lib.Seq.{getD-set-same, getD-set-other}
 use Rattle.stream.specs.FileWords.{wordAt}
 use Rattle.intake.proofs.place.Statement.{statement}
 use Rattle.intake.proofs.place.Tie as tie
-use Rattle.intake.proofs.place.Reads as reads
-use Rattle.intake.proofs.place.Lts as lts
-use Rattle.stream.proofs.word.Reads as word-reads
 
 abbrev Inv-loop : tie.InvT-loop
 Inv-loop bytes count words₀ i₀ words i = (length words ≡ length words₀) × ((i ≤ count) × ((k : ℕ) → k < i → getD words k 0 ≡ wordAt bytes (4 * k)))
@@ -18,37 +15,29 @@ Inv-loop bytes count words₀ i₀ words i = (length words ≡ length words₀) 
 abbrev μ-loop : tie.MeasureT-loop
 μ-loop bytes count words₀ i₀ words i = count - i
 
--- src/lib.rt:19:5
 loop-holds : tie.Need-loop-holds Inv-loop μ-loop
 loop-holds c =
     let a = c .before .before .args in
     (refl, (omega arith, below-none (λ (k : ℕ). getD (a .words .now) k 0 ≡ wordAt (a .bytes .now) (4 * k))))
 
--- src/lib.rt:20:40
 mul-word : tie.Need-mul-word Inv-loop μ-loop
 mul-word c = omega arith
 
--- src/lib.rt:20:20
 word-requires : tie.Need-word-requires Inv-loop μ-loop
 word-requires c κs = omega arith
 
--- src/lib.rt:20:9
 mul-words : tie.Need-mul-words Inv-loop μ-loop
 mul-words c = omega arith
 
--- src/lib.rt:20:9
 slice-write-words : tie.Need-slice-write-words Inv-loop μ-loop
 slice-write-words c = omega arith
 
--- src/lib.rt:21:9
 add-i : tie.Need-add-i Inv-loop μ-loop
 add-i c = omega arith
 
--- src/lib.rt:19:5
 loop-less : tie.Need-loop-less Inv-loop μ-loop
 loop-less c = omega arith
 
--- src/lib.rt:19:5
 loop-again : tie.Need-loop-again Inv-loop μ-loop
 loop-again c =
     let a = c .before .before .before .before .before .args in
@@ -59,11 +48,9 @@ loop-again c =
     (λ k h. getD-set-other (l .words) (l .i) k v 0 (λ s. omega arith) ∙ l .inv .1 .1 k h)
     (getD-set-same (l .words) (l .i) v 0 (omega (arith, l .inv .0)) ∙ c .word .ensures)))
 
--- src/lib.rt:14:1
 same-length : tie.Need-same-length Inv-loop μ-loop
 same-length c = omega arith
 
--- src/lib.rt:14:1
 returns : tie.Need-returns Inv-loop μ-loop
 returns c =
     let l = c .before .loop in

@@ -10,21 +10,13 @@ use Rattle.outcome.specs.Meaning.{answerOf}
 use Rattle.prove.proofs.Stages.{refused-is, done-is, allowed, twelve-words, enough-room}
 use Rattle.prove.proofs.prove.Statement.{statement}
 use Rattle.prove.proofs.prove.Tie as tie
-use Rattle.prove.proofs.prove.Reads as reads
-use Rattle.prove.proofs.prove.Lts as lts
-use Rattle.prove.proofs.room.Reads as room-reads
-use Rattle.prove.proofs.write.Reads as write-reads
-use Rattle.sheet.proofs.words_due.Reads as words-due-reads
 
--- src/lib.rt:53:9
 prove-tests-requires : tie.Need-prove-tests-requires
 prove-tests-requires c κs = search needs
 
--- src/lib.rt:54:29
 enum-known-tests : tie.Need-enum-known-tests
 enum-known-tests c = search needs
 
--- src/lib.rt:55:9
 returns : tie.Need-returns
 unfolding answerOf
 returns c =
@@ -36,7 +28,6 @@ returns c =
 enum-told : tie.Need-enum-told
 enum-told c = search needs
 
--- src/lib.rt:57:9
 words-due-requires : tie.Need-words-due-requires
 words-due-requires c κs =
     let r = c .before .before in
@@ -45,19 +36,15 @@ words-due-requires c κs =
     let ok = allowed (a .sheet .now) (a .coefficients .now) (a .coins .now) (a .output .now) (t .result) (t .ensures) (c .enum-told .given .1) in
     (omega (arith, twelve-words (a .sheet .now) (a .coefficients .now) (a .coins .now) (a .output .now) (t .result) (t .ensures) (c .enum-told .given .1)), ok .sheet)
 
--- src/lib.rt:58:21
 room-requires : tie.Need-room-requires
 room-requires c κs = search needs
 
--- src/lib.rt:59:39
 array-borrow-prefix-words : tie.Need-array-borrow-prefix-words
 array-borrow-prefix-words c = search needs
 
--- src/lib.rt:59:39
 slice-aggregate-write : tie.Need-slice-aggregate-write
 slice-aggregate-write c = sym (length-take-le (c .before .before .words-due .result) (c .before .room .result) (omega (arith, c .before .room .ensures, c .before .before .words-due .ensures .1)))
 
--- src/lib.rt:59:5
 write-requires : tie.Need-write-requires
 write-requires c κs =
     let d = c .before .before .before in
@@ -70,15 +57,12 @@ write-requires c κs =
     (allowed (a .sheet .now) (a .coefficients .now) (a .coins .now) (a .output .now) (t .result) (t .ensures) e, (due,
      subst (λ (m : ℕ). 512 * blockCount m ≤ length (a .output .now)) (sym due) (enough-room (a .sheet .now) (a .coefficients .now) (a .coins .now) (a .output .now) (t .result) (t .ensures) e)))
 
--- src/lib.rt:60:19
 add-t10 : tie.Need-add-t10
 add-t10 c = search needs
 
--- src/lib.rt:49:1
 same-length : tie.Need-same-length
 same-length c = search needs
 
--- src/lib.rt:49:1
 returns-2 : tie.Need-returns-2
 unfolding answerOf blockCount
 returns-2 c =

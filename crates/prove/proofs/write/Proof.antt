@@ -8,31 +8,22 @@ use borrow.Author.Needs.{needs}
 use Rattle.definition.specs.Block.{blockCount, fileOf}
 use Rattle.prove.proofs.write.Statement.{statement}
 use Rattle.prove.proofs.write.Tie as tie
-use Rattle.prove.proofs.write.Reads as reads
-use Rattle.prove.proofs.write.Lts as lts
-use Rattle.prove.proofs.stream.Reads as stream-reads
-use Rattle.stream.proofs.seal.Reads as seal-reads
 
--- src/lib.rt:44:5
 stream-requires : tie.Need-stream-requires
 stream-requires c κs = search needs
 
--- src/lib.rt:45:5
 seal-requires : tie.Need-seal-requires
 seal-requires c κs =
     let s = c .before .before .before .before .before .before .before .before .before .before .before in
     let p = c .before .before .before .before .stream in
     (omega arith, subst (λ (n : ℕ). 512 * blockCount n ≤ length (s .args .output .now)) (sym (p .kept .1 .1 .1 .0)) (s .pre .1 .1))
 
--- src/lib.rt:39:1
 same-length : tie.Need-same-length
 same-length c = search needs
 
--- src/lib.rt:39:1
 same-length-2 : tie.Need-same-length-2
 same-length-2 c = search needs
 
--- src/lib.rt:39:1
 returns : tie.Need-returns
 returns c =
     let a = c .before .before .before .before .before .before .before .before .before .before .before .before .before .before .args in

@@ -5,23 +5,17 @@ use Rattle.outcome.specs.Meaning.{answerOf}
 use Rattle.selfcheck.specs.Written.{blocksOf}
 use Rattle.selfcheck.proofs.blocks.Statement.{statement}
 use Rattle.selfcheck.proofs.blocks.Tie as tie
-use Rattle.selfcheck.proofs.blocks.Reads as reads
-use Rattle.selfcheck.proofs.blocks.Lts as lts
 
--- src/lib.rt:32:22
 enum-known-answer : tie.Need-enum-known-answer
 enum-known-answer c = search needs
 
--- src/lib.rt:33:34
 enum-told : tie.Need-enum-told
 enum-told c = search needs
 
--- src/lib.rt:28:1
 returns : tie.Need-returns
 unfolding blocksOf answerOf
 returns c = sym (ap (λ (x : Answer). blocksOf (answerOf x)) (c .before .answer .given .1))
 
--- src/lib.rt:28:1
 returns-2 : tie.Need-returns-2
 unfolding blocksOf answerOf
 returns-2 c = sym (ap (λ (x : Answer). blocksOf (answerOf x)) (c .enum-told .given .1))

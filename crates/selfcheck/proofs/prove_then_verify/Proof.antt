@@ -11,58 +11,45 @@ use Rattle.selfcheck.specs.Written.{blocksOf}
 use Rattle.selfcheck.proofs.Judged.{inside, accepted-by}
 use Rattle.selfcheck.proofs.prove_then_verify.Statement.{statement}
 use Rattle.selfcheck.proofs.prove_then_verify.Tie as tie
-use Rattle.selfcheck.proofs.prove_then_verify.Reads as reads
-use Rattle.selfcheck.proofs.prove_then_verify.Lts as lts
-use Rattle.selfcheck.proofs.blocks.Reads as blocks-reads
-use Rattle.selfcheck.proofs.prove_stub.Reads as prove-stub-reads
-use Rattle.verify.proofs.verify.Reads as verify-reads
 
--- src/lib.rt:45:9
-prove-stub-requires : tie.Need-prove-stub-requires
-prove-stub-requires c κs = search needs
+prove-requires : tie.Need-prove-requires
+prove-requires c κs = search needs
 
--- src/lib.rt:46:9
 blocks-requires : tie.Need-blocks-requires
 blocks-requires c κs = search needs
 
--- src/lib.rt:47:44
 mul-verify : tie.Need-mul-verify
 mul-verify c =
     let p = c .before .before .before in
     let a = p .before .before .before .before .before .before .args in
-    let h = inside (a .sheet .now) (a .coefficients .now) (a .coins .now) (a .output .now) (c .blocks2 .ensures ∙ ap blocksOf (p .prove-stub .ensures .0)) in
+    let h = inside (a .sheet .now) (a .coefficients .now) (a .coins .now) (a .output .now) (c .blocks2 .ensures ∙ ap blocksOf (p .prove .ensures .0)) in
     record { fits = omega (arith, h) }
 
--- src/lib.rt:47:34
 slice-reshare-prefix-verify : tie.Need-slice-reshare-prefix-verify
 slice-reshare-prefix-verify c =
     let p = c .before .before .before in
     let a = p .before .before .before .before .before .before .args in
-    let h = inside (a .sheet .now) (a .coefficients .now) (a .coins .now) (a .output .now) (c .blocks2 .ensures ∙ ap blocksOf (p .prove-stub .ensures .0)) in
-    omega (arith, h, p .prove-stub .kept .1 .1 .1 .0)
+    let h = inside (a .sheet .now) (a .coefficients .now) (a .coins .now) (a .output .now) (c .blocks2 .ensures ∙ ap blocksOf (p .prove .ensures .0)) in
+    omega (arith, h, p .prove .kept .1 .1 .1 .0)
 
--- src/lib.rt:47:34
 slice-aggregate-verify : tie.Need-slice-aggregate-verify
 slice-aggregate-verify c =
     let p = c .before .before .before .before in
     let a = p .before .before .before .before .before .before .args in
-    let h = inside (a .sheet .now) (a .coefficients .now) (a .coins .now) (a .output .now) (c .before .blocks2 .ensures ∙ ap blocksOf (p .prove-stub .ensures .0)) in
-    sym (length-take-le (512 * c .before .blocks2 .result) (p .prove-stub .last .1 .1 .1 .0) (omega (arith, h, p .prove-stub .kept .1 .1 .1 .0)))
+    let h = inside (a .sheet .now) (a .coefficients .now) (a .coins .now) (a .output .now) (c .before .blocks2 .ensures ∙ ap blocksOf (p .prove .ensures .0)) in
+    sym (length-take-le (512 * c .before .blocks2 .result) (p .prove .last .1 .1 .1 .0) (omega (arith, h, p .prove .kept .1 .1 .1 .0)))
 
--- src/lib.rt:47:9
 verify-requires : tie.Need-verify-requires
 verify-requires c κs = search needs
 
--- src/lib.rt:39:1
 same-length : tie.Need-same-length
 same-length c = search needs
 
--- src/lib.rt:39:1
 returns : tie.Need-returns
 returns c =
     let p = c .before .before .before .before .before in
     let a = p .before .before .before .before .before .before .args in
-    let t = p .prove-stub in
+    let t = p .prove in
     let v = c .verify .ensures ∙ ap (λ (n : ℕ). verify (take (512 * n) (t .last .1 .1 .1 .0))) (c .before .before .blocks2 .ensures) in
     (t .ensures .0, (t .ensures .1, (v, accepted-by (a .sheet .now) (a .coefficients .now) (a .coins .now) (a .output .now) (answerOf (t .result)) (t .ensures .0)
     (v ∙ ap (λ (l : List ℕ). verify (take (512 * blocksOf (answerOf (t .result))) l)) (t .ensures .1)))))
@@ -71,7 +58,7 @@ pub prove-then-verify-spec : {M : Type 1} → statement M
 prove-then-verify-spec =
     tie.close
     (tie.spec
-    prove-stub-requires
+    prove-requires
     blocks-requires
     mul-verify
     slice-reshare-prefix-verify
