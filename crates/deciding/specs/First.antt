@@ -9,7 +9,7 @@ use lib.Dec.{leb}
 use lib.ListN.{length, getD, take, drop, replicate, length-append, length-drop, length-replicate}
 use lib.Seq.{drop-cons, drop-drop, getD-drop}
 use borrow.Author.Tests.{leb-true}
-use Rattle.completeness.specs.SheetRules.{between-true, rules-hold, small-repetitions}
+use Rattle.completeness.specs.SheetRules.{between-true, exponents, rules-hold, small-repetitions}
 use Rattle.completeness.specs.Tests.{and-true, at-passes}
 use Rattle.definition.specs.Deciding.{decide, decideRest, readsOf, tableFunction}
 use Rattle.definition.specs.Field.{fieldOf, primeField, primeOf}
