@@ -16,7 +16,11 @@ fn main() {
     let mut x = [0u32; 2048];
     x[1] = 1;
     let mut points = [0u32; 4096];
-    let answer = encode::encode(intake::front(&words, count), intake::front(&x, intake::degree_bound(&words)), &mut points);
+    let answer = encode::encode(
+        intake::front(&words, count),
+        intake::front(&x, intake::degree_bound(&words)),
+        &mut points,
+    );
     match answer {
         Answer::Done(size) => show(rounds(&words), intake::front(&points, size)),
         Answer::Refusal(number, place) => report::refuse(STDOUT_FILENO, number, place),

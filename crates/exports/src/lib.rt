@@ -75,7 +75,13 @@ fn write_value(answer: Answer, value: &mut u64) -> u32
 // Writes the honest file of a polynomial and coins at the front of `output`. Answers 0, with the number of blocks in `value`; or a refusal's number, with its
 // place in `value`, and the output is as before.
 #[no_mangle]
-pub extern "C" fn tevrolig_prove(sheet: &[u32], coefficients: &[u32], coins: &[u32], output: &mut [u8], value: &mut u64) -> u32
+pub extern "C" fn tevrolig_prove(
+    sheet: &[u32],
+    coefficients: &[u32],
+    coins: &[u32],
+    output: &mut [u8],
+    value: &mut u64,
+) -> u32
     ensures { λ r. ⌜ r ≡ refusalOf (prove (now (sheet .entry)) (now (coefficients .entry)) (now (coins .entry)) (now (output .entry)) .answer) ⌝ }
     ensures { λ r. ⌜ now (value .exit) ≡ valueOf (prove (now (sheet .entry)) (now (coefficients .entry)) (now (coins .entry)) (now (output .entry)) .answer) ⌝ }
     ensures { λ r. ⌜ now (output .exit) ≡ prove (now (sheet .entry)) (now (coefficients .entry)) (now (coins .entry)) (now (output .entry)) .output ⌝ }
@@ -87,7 +93,12 @@ pub extern "C" fn tevrolig_prove(sheet: &[u32], coefficients: &[u32], coins: &[u
 // Writes table 0 of a polynomial at the front of `output`. Answers 0, with n0 in `value`; or a refusal's number, with its place in `value`, and the output is as
 // before.
 #[no_mangle]
-pub extern "C" fn tevrolig_encode(sheet: &[u32], coefficients: &[u32], output: &mut [u32], value: &mut u64) -> u32
+pub extern "C" fn tevrolig_encode(
+    sheet: &[u32],
+    coefficients: &[u32],
+    output: &mut [u32],
+    value: &mut u64,
+) -> u32
     ensures { λ r. ⌜ r ≡ refusalOf (encode (now (sheet .entry)) (now (coefficients .entry)) (now (output .entry)) .answer) ⌝ }
     ensures { λ r. ⌜ now (value .exit) ≡ valueOf (encode (now (sheet .entry)) (now (coefficients .entry)) (now (output .entry)) .answer) ⌝ }
     ensures { λ r. ⌜ now (output .exit) ≡ encode (now (sheet .entry)) (now (coefficients .entry)) (now (output .entry)) .output ⌝ }

@@ -29,7 +29,12 @@ fn blocks(answer: Answer) -> usize
 
 // Proves, and then judges the blocks written; of a refused order that is the empty file. Wherever prove answers done, the verdict is accepted with the
 // due reads.
-pub fn prove_then_verify(sheet: &[u32], coefficients: &[u32], coins: &[u32], output: &mut [u8]) -> Checked
+pub fn prove_then_verify(
+    sheet: &[u32],
+    coefficients: &[u32],
+    coins: &[u32],
+    output: &mut [u8],
+) -> Checked
     ensures { λ r. ⌜ answerOf (r .answer) ≡ prove (now (sheet .entry)) (now (coefficients .entry)) (now (coins .entry)) (now (output .entry)) .answer ⌝ }
     ensures { λ r. ⌜ now (output .exit) ≡ prove (now (sheet .entry)) (now (coefficients .entry)) (now (coins .entry)) (now (output .entry)) .output ⌝ }
     ensures { λ r. ⌜ verdictOf (r .verdict) ≡ verify (take (512 * blocksOf (answerOf (r .answer))) (now (output .exit))) ⌝ }

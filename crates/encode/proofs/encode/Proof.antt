@@ -61,9 +61,10 @@ first-table-requires c κs =
     let r = c .before .before .before .before in
     let a = r .before .before .before .before .args in
     let t = r .encode-tests in
-    let e = c .before .before .enum-told .given .1 in
-    ((omega (arith, twelve-words (a .sheet .now) (a .coefficients .now) (a .output .now) (t .result) (t .ensures) e), sheet-passed (a .sheet .now) (a .coefficients .now) (a .output .now) (t .result) (t .ensures) e),
-    (coefficients-due (a .sheet .now) (a .coefficients .now) (a .output .now) (t .result) (t .ensures) e, length-take-le (getD (a .sheet .now) 1 0) (a .output .now) (enough-room (a .sheet .now) (a .coefficients .now) (a .output .now) (t .result) (t .ensures) e)))
+    let e = c .before .before .enum-told .given .1 in (
+      (omega (arith, twelve-words (a .sheet .now) (a .coefficients .now) (a .output .now) (t .result) (t .ensures) e), sheet-passed (a .sheet .now) (a .coefficients .now) (a .output .now) (t .result) (t .ensures) e),
+      (coefficients-due (a .sheet .now) (a .coefficients .now) (a .output .now) (t .result) (t .ensures) e, length-take-le (getD (a .sheet .now) 1 0) (a .output .now) (enough-room (a .sheet .now) (a .coefficients .now) (a .output .now) (t .result) (t .ensures) e)),
+    )
 
 same-length : tie.Need-same-length
 same-length c = search needs
@@ -76,11 +77,12 @@ returns-2 c =
     let t = r .encode-tests in
     let e = c .before .before .before .before .before .enum-told .given .1 in
     let p = c .before .before .first-table in
-    let d = done-is (a .sheet .now) (a .coefficients .now) (a .output .now) (t .result) (t .ensures) e in
-    (sym (ap (λ (x : Result). x .answer) d),
-    placed (tableZero (a .sheet .now) (a .coefficients .now)) (p .last .1 .1 .0) (a .output .now) (getD (a .sheet .now) 1 0) (p .ensures)
-    (p .kept .1 .1 .0 ∙ length-take-le (getD (a .sheet .now) 1 0) (a .output .now) (enough-room (a .sheet .now) (a .coefficients .now) (a .output .now) (t .result) (t .ensures) e))
-    ∙ sym (ap (λ (x : Result). x .output) d))
+    let d = done-is (a .sheet .now) (a .coefficients .now) (a .output .now) (t .result) (t .ensures) e in (
+      sym (ap (λ (x : Result). x .answer) d),
+      placed (tableZero (a .sheet .now) (a .coefficients .now)) (p .last .1 .1 .0) (a .output .now) (getD (a .sheet .now) 1 0) (p .ensures)
+          (p .kept .1 .1 .0 ∙ length-take-le (getD (a .sheet .now) 1 0) (a .output .now) (enough-room (a .sheet .now) (a .coefficients .now) (a .output .now) (t .result) (t .ensures) e))
+          ∙ sym (ap (λ (x : Result). x .output) d),
+    )
 
 pub encode-spec : {M : Type 1} → statement M
 encode-spec =

@@ -42,11 +42,15 @@ loop-again : tie.Need-loop-again Inv-loop μ-loop
 loop-again c =
     let a = c .before .before .before .before .before .args in
     let l = c .before .before .loop in
-    let v = c .word .result in
-    (length-set (l .words) (l .i) v ∙ l .inv .0, (omega arith,
-    below-more (λ (k : ℕ). getD (set (l .words) (l .i) v) k 0 ≡ wordAt (a .bytes .now) (4 * k)) (l .i)
-    (λ k h. getD-set-other (l .words) (l .i) k v 0 (λ s. omega arith) ∙ l .inv .1 .1 k h)
-    (getD-set-same (l .words) (l .i) v 0 (omega (arith, l .inv .0)) ∙ c .word .ensures)))
+    let v = c .word .result in (
+      length-set (l .words) (l .i) v ∙ l .inv .0,
+      (
+        omega arith,
+        below-more (λ (k : ℕ). getD (set (l .words) (l .i) v) k 0 ≡ wordAt (a .bytes .now) (4 * k)) (l .i)
+            (λ k h. getD-set-other (l .words) (l .i) k v 0 (λ s. omega arith) ∙ l .inv .1 .1 k h)
+            (getD-set-same (l .words) (l .i) v 0 (omega (arith, l .inv .0)) ∙ c .word .ensures),
+      ),
+    )
 
 same-length : tie.Need-same-length Inv-loop μ-loop
 same-length c = omega arith

@@ -53,9 +53,13 @@ write-requires c κs =
     let t = r .prove-tests in
     let e = d .before .enum-told .given .1 in
     let n : length (take (d .words-due .result) (c .before .before .room .result)) ≡ d .words-due .result = length-take-le (d .words-due .result) (c .before .before .room .result) (omega (arith, c .before .before .room .ensures, d .words-due .ensures .1)) in
-    let due = n ∙ d .words-due .ensures .0 in
-    (allowed (a .sheet .now) (a .coefficients .now) (a .coins .now) (a .output .now) (t .result) (t .ensures) e, (due,
-     subst (λ (m : ℕ). 512 * blockCount m ≤ length (a .output .now)) (sym due) (enough-room (a .sheet .now) (a .coefficients .now) (a .coins .now) (a .output .now) (t .result) (t .ensures) e)))
+    let due = n ∙ d .words-due .ensures .0 in (
+      allowed (a .sheet .now) (a .coefficients .now) (a .coins .now) (a .output .now) (t .result) (t .ensures) e,
+      (
+        due,
+        subst (λ (m : ℕ). 512 * blockCount m ≤ length (a .output .now)) (sym due) (enough-room (a .sheet .now) (a .coefficients .now) (a .coins .now) (a .output .now) (t .result) (t .ensures) e),
+      ),
+    )
 
 add-t10 : tie.Need-add-t10
 add-t10 c = search needs
@@ -70,9 +74,10 @@ returns-2 c =
     let r = d .before .before .before in
     let a = r .before .before .before .before .before .args in
     let t = r .prove-tests in
-    let e = done-is (a .sheet .now) (a .coefficients .now) (a .coins .now) (a .output .now) (t .result) (t .ensures) (d .before .enum-told .given .1) in
-    (ap (λ (n : ℕ). done (blockCount n)) (d .words-due .ensures .0) ∙ sym (ap (λ (x : Result). x .answer) e),
-     c .before .before .before .write .ensures ∙ sym (ap (λ (x : Result). x .output) e))
+    let e = done-is (a .sheet .now) (a .coefficients .now) (a .coins .now) (a .output .now) (t .result) (t .ensures) (d .before .enum-told .given .1) in (
+      ap (λ (n : ℕ). done (blockCount n)) (d .words-due .ensures .0) ∙ sym (ap (λ (x : Result). x .answer) e),
+      c .before .before .before .write .ensures ∙ sym (ap (λ (x : Result). x .output) e),
+    )
 
 pub prove-spec : {M : Type 1} → statement M
 prove-spec =

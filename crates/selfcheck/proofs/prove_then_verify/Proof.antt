@@ -50,9 +50,17 @@ returns c =
     let p = c .before .before .before .before .before in
     let a = p .before .before .before .before .before .before .args in
     let t = p .prove in
-    let v = c .verify .ensures ∙ ap (λ (n : ℕ). verify (take (512 * n) (t .last .1 .1 .1 .0))) (c .before .before .blocks2 .ensures) in
-    (t .ensures .0, (t .ensures .1, (v, accepted-by (a .sheet .now) (a .coefficients .now) (a .coins .now) (a .output .now) (answerOf (t .result)) (t .ensures .0)
-    (v ∙ ap (λ (l : List ℕ). verify (take (512 * blocksOf (answerOf (t .result))) l)) (t .ensures .1)))))
+    let v = c .verify .ensures ∙ ap (λ (n : ℕ). verify (take (512 * n) (t .last .1 .1 .1 .0))) (c .before .before .blocks2 .ensures) in (
+      t .ensures .0,
+      (
+        t .ensures .1,
+        (
+          v,
+          accepted-by (a .sheet .now) (a .coefficients .now) (a .coins .now) (a .output .now) (answerOf (t .result)) (t .ensures .0)
+              (v ∙ ap (λ (l : List ℕ). verify (take (512 * blocksOf (answerOf (t .result))) l)) (t .ensures .1)),
+        ),
+      ),
+    )
 
 pub prove-then-verify-spec : {M : Type 1} → statement M
 prove-then-verify-spec =
