@@ -1,79 +1,162 @@
--- The turns of Horner's scheme in place, and of the division by one point after the other.
-use Prim.Native.Nat.{ℕ, suc, _+_, _-_, _≤_, _<_}
+-- Horner's schemes in place, one behind the other, and the division by one point after the other.
+use Prim.Native.Nat.{ℕ, zero, suc, _+_, _-_, _≤_, _<_}
 use mathlib.Core.Path.{_≡_, refl, sym, ap, _∙_}
-use mathlib.Core.List.{List, [], _∷_, _++_, tail}
+use mathlib.Core.List.{List, [], _∷_, _++_, tail, append-assoc, append-nil}
 use native.Mathlib.Numerals.{add-one}
 use native.Mathlib.Omega.{arith}
-use lib.ListN.{length, take, drop, getD, set, drop-of-length-le}
-use lib.Seq.{drop-cons, take-take, take-at, length-take-le}
+use lib.ListN.{length, take, drop, getD, set, replicate, drop-of-length-le, replicate-append-replicate}
+use lib.Seq.{take-take, take-at, drop-at, length-take-le}
 use Rattle.definition.specs.Field.{Field}
 use Rattle.definition.specs.Polynomial.{horner, divide, quotient}
+use Rattle.algebra.specs.Laws.{FieldLaws}
 use Rattle.algebra.specs.Lengths.{length-horner}
-use Rattle.correction.proofs.Lists.{sub-one, part-back, part-store}
+use Rattle.correction.specs.Forgetting.{quotient-none}
+use Rattle.correction.proofs.Lists.{part-back, part-store}
 
 module _ (F : Field ℕ) where
   infixl 65 _⊕_
   infixl 70 _⊗_
   open Field F using (𝟘, _⊕_, _⊗_)
 
+  abbrev pub noughts : ℕ → List ℕ
+  noughts m = replicate m 𝟘
+
+  -- noughts behind a list leave its head
+  first : (l : List ℕ) (m : ℕ) → getD (l ++ noughts m) 0 𝟘 ≡ getD l 0 𝟘
+  first [] zero = refl
+  first [] (suc m) = refl
+  first (x ∷ l) m = refl
+
   -- Horner's scheme of the coefficients passed, and a nought behind it: its head is at hand, and the rest stands in their places
   unfoldable pub scheme : ℕ → List ℕ → List ℕ
-  scheme a f = horner F a f ++ (𝟘 ∷ [])
+  scheme a f = horner F a f ++ noughts 1
 
-  first : (l : List ℕ) → getD (l ++ (𝟘 ∷ [])) 0 𝟘 ≡ getD l 0 𝟘
-  first [] = refl
-  first (x ∷ l) = refl
-
-  scheme-cons : (a d : ℕ) (f rest : List ℕ) {v m r : ℕ} → v ∷ rest ≡ scheme a f → m ≡ a ⊗ v → r ≡ d ⊕ m →
-      r ∷ v ∷ rest ≡ scheme a (d ∷ f)
+  scheme-head : (a : ℕ) (f : List ℕ) → getD (horner F a f) 0 𝟘 ∷ tail (scheme a f) ≡ scheme a f
   unfolding scheme horner
-  scheme-cons a d f rest e em er =
-      let head = ap (λ (l : List ℕ). getD l 0 𝟘) e ∙ first (horner F a f) in
-      λ i. (er ∙ ap (λ (t : ℕ). d ⊕ t) (em ∙ ap (λ (t : ℕ). a ⊗ t) head)) i ∷ e i
+  scheme-head a [] = refl
+  scheme-head a (x ∷ f) = refl
 
-  pub scheme-start : (f₀ f : List ℕ) (n a : ℕ) → 𝟘 ∷ take (n - n) (drop n f) ≡ scheme a (take (n - n) (drop n f₀))
-  unfolding scheme horner
-  scheme-start f₀ f n a =
+  -- The schemes for a list of points, each but the first of what stands in the places of the one before it: their heads, and the places of the last.
+  unfoldable pub schemes : List ℕ → List ℕ → List ℕ
+  schemes [] f = f
+  schemes (a ∷ ps) f = getD (horner F a f) 0 𝟘 ∷ schemes ps (tail (scheme a f))
+
+  -- the same with one coefficient more: it goes to the first scheme, and the head of each to the next
+  abbrev pub fed : ℕ → List ℕ → List ℕ → List ℕ
+  fed x [] l = x ∷ l
+  fed x (a ∷ ps) [] = []
+  fed x (a ∷ ps) (v ∷ l) = (x ⊕ a ⊗ v) ∷ fed v ps l
+
+  schemes-cons : (ps : List ℕ) (x : ℕ) (f : List ℕ) → schemes ps (x ∷ f) ≡ fed x ps (schemes ps f)
+  unfolding schemes scheme horner
+  schemes-cons [] x f = refl
+  schemes-cons (a ∷ ps) x f =
+      let h = getD (horner F a f) 0 𝟘 in
+      ap (λ (l : List ℕ). (x ⊕ a ⊗ h) ∷ schemes ps l) (sym (scheme-head a f)) ∙ ap (λ (l : List ℕ). (x ⊕ a ⊗ h) ∷ l) (schemes-cons ps h (tail (scheme a f)))
+
+  schemes-nil : (ps : List ℕ) → noughts (length ps) ≡ schemes ps []
+  unfolding schemes scheme horner
+  schemes-nil [] = refl
+  schemes-nil (a ∷ ps) = ap (λ (l : List ℕ). 𝟘 ∷ l) (schemes-nil ps)
+
+  pub schemes-start : (ps f₀ f : List ℕ) (n : ℕ) → noughts (length ps) ++ take (n - n) (drop n f) ≡ schemes ps (take (n - n) (drop n f₀))
+  schemes-start ps f₀ f n =
       let z : n - n ≡ 0 = omega arith in
-      rw z
+      rw z (append-nil (noughts (length ps)) ∙ schemes-nil ps)
 
-  pub scheme-turn : (f₀ f : List ℕ) (n i a : ℕ) {v m r : ℕ} → 0 < i → i ≤ n → n ≤ length f → n ≤ length f₀ →
-      getD f (i - 1) 0 ≡ getD f₀ (i - 1) 0 →
-      v ∷ take (n - i) (drop i f) ≡ scheme a (take (n - i) (drop i f₀)) → m ≡ a ⊗ v → r ≡ getD f (i - 1) 0 ⊕ m →
-      r ∷ take (n - (i - 1)) (drop (i - 1) (set f (i - 1) v)) ≡ scheme a (take (n - (i - 1)) (drop (i - 1) f₀))
-  scheme-turn f₀ f n i a {v} {m} {r} h k l l₀ same e em er =
-      rw (part-store f n i v h k l, part-back f₀ n i h k l₀)
-      (scheme-cons a (getD f₀ (i - 1) 0) (take (n - i) (drop i f₀)) (take (n - i) (drop i f)) e em (er ∙ ap (λ (t : ℕ). t ⊕ m) same))
+  schemes-turn : (ps l f₀ f : List ℕ) (n i : ℕ) → 0 < i → i ≤ n → n ≤ length f₀ → getD f (i - 1) 0 ≡ getD f₀ (i - 1) 0 →
+      l ≡ schemes ps (take (n - i) (drop i f₀)) → fed (getD f (i - 1) 0) ps l ≡ schemes ps (take (n - (i - 1)) (drop (i - 1) f₀))
+  schemes-turn ps l f₀ f n i h k l₀ same e =
+      rw (part-back f₀ n i h k l₀) ((λ j. fed (same j) ps (e j)) ∙ sym (schemes-cons ps (getD f₀ (i - 1) 0) (take (n - i) (drop i f₀))))
 
-  -- the places of the scheme without its head are those of the quotient
-  scheme-tail : (a : ℕ) (f rest : List ℕ) {v : ℕ} → v ∷ rest ≡ scheme a f → take (length f - 1) rest ≡ divide F f a
-  unfolding scheme horner divide
-  scheme-tail a [] rest e = refl
-  scheme-tail a (d ∷ f) rest e =
-      rw (sub-one (length f))
-      (ap (λ (l : List ℕ). take (length f) (tail l)) e ∙ take-at (horner F a f) (𝟘 ∷ []) (length f) (length-horner F a f))
+  -- one point's turn, and four points'
+  pub one-turn : (f₀ f : List ℕ) (n i a : ℕ) {v r : ℕ} → 0 < i → i ≤ n → n ≤ length f → n ≤ length f₀ → getD f (i - 1) 0 ≡ getD f₀ (i - 1) 0 →
+      v ∷ take (n - i) (drop i f) ≡ schemes (a ∷ []) (take (n - i) (drop i f₀)) → r ≡ getD f (i - 1) 0 ⊕ a ⊗ v →
+      r ∷ take (n - (i - 1)) (drop (i - 1) (set f (i - 1) v)) ≡ schemes (a ∷ []) (take (n - (i - 1)) (drop (i - 1) f₀))
+  one-turn f₀ f n i a {v} h k l l₀ same e er =
+      let rest = take (n - i) (drop i f) in
+      rw (part-store f n i v h k l) ((λ j. er j ∷ v ∷ rest) ∙ schemes-turn (a ∷ []) (v ∷ rest) f₀ f n i h k l₀ same e)
 
-  pub scheme-end : (f₀ f : List ℕ) (n i a : ℕ) {v : ℕ} → i ≡ 0 → n ≤ length f₀ →
-      v ∷ take (n - i) (drop i f) ≡ scheme a (take (n - i) (drop i f₀)) →
-      take (n - 1) f ≡ divide F (take n f₀) a
-  scheme-end f₀ f n i a {v} z l e =
-      let b : n - 0 ≡ n = omega arith in
-      let whole : v ∷ take n f ≡ scheme a (take n f₀) = rw (z, b) at e in
-      let m : length (take n f₀) ≡ n = length-take-le n f₀ l in
-      sym (take-take (n - 1) n f (omega arith)) ∙ (rw m at (scheme-tail a (take n f₀) (take n f) whole))
+  pub four-turn : (f₀ f : List ℕ) (n i a b c d : ℕ) {u v w x r s t y : ℕ} → 0 < i → i ≤ n → n ≤ length f → n ≤ length f₀ →
+      getD f (i - 1) 0 ≡ getD f₀ (i - 1) 0 → u ∷ v ∷ w ∷ x ∷ take (n - i) (drop i f) ≡ schemes (a ∷ b ∷ c ∷ d ∷ []) (take (n - i) (drop i f₀)) →
+      y ≡ w ⊕ d ⊗ x → t ≡ v ⊕ c ⊗ w → s ≡ u ⊕ b ⊗ v → r ≡ getD f (i - 1) 0 ⊕ a ⊗ u →
+      r ∷ s ∷ t ∷ y ∷ take (n - (i - 1)) (drop (i - 1) (set f (i - 1) x)) ≡ schemes (a ∷ b ∷ c ∷ d ∷ []) (take (n - (i - 1)) (drop (i - 1) f₀))
+  four-turn f₀ f n i a b c d {u} {v} {w} {x} h k l l₀ same e ey et es er =
+      let rest = take (n - i) (drop i f) in
+      rw (part-store f n i x h k l)
+      ((λ j. er j ∷ es j ∷ et j ∷ ey j ∷ x ∷ rest) ∙ schemes-turn (a ∷ b ∷ c ∷ d ∷ []) (u ∷ v ∷ w ∷ x ∷ rest) f₀ f n i h k l₀ same e)
+
+  quotient-append : (f xs ys : List ℕ) → quotient F f (xs ++ ys) ≡ quotient F (quotient F f xs) ys
+  unfolding quotient
+  quotient-append f [] ys = refl
+  quotient-append f (x ∷ xs) ys = quotient-append (divide F f x) xs ys
+
+  pub quotient-one : (f : List ℕ) (a : ℕ) → quotient F f (a ∷ []) ≡ divide F f a
+  unfolding quotient
+  quotient-one f a = refl
 
   quotient-nil : (f : List ℕ) → quotient F f [] ≡ f
   unfolding quotient
   quotient-nil f = refl
 
-  quotient-cons : (f xs : List ℕ) (a : ℕ) → quotient F f (a ∷ xs) ≡ quotient F (divide F f a) xs
-  unfolding quotient
-  quotient-cons f xs a = refl
+  -- some points more, and all: what is left has, by the points that are left, the same quotient
+  pub quotient-turn : (ps xs f f' : List ℕ) (i j n m : ℕ) {q : List ℕ} → drop i xs ≡ ps ++ drop j xs → quotient F (take n f) (drop i xs) ≡ q →
+      take m f' ≡ quotient F (take n f) ps → quotient F (take m f') (drop j xs) ≡ q
+  quotient-turn ps xs f f' i j n m d e t = cc (quotient-append (take n f) ps (drop j xs))
 
-  -- one point more: what is left to divide by has the same quotient
-  pub quotient-turn : (xs f f' : List ℕ) (i n : ℕ) {q : List ℕ} → i < length xs → quotient F (take n f) (drop i xs) ≡ q →
-      take (n - 1) f' ≡ divide F (take n f) (getD xs i 0) → quotient F (take (n - 1) f') (drop (i + 1) xs) ≡ q
-  quotient-turn xs f f' i n h e d = rw add-one (cc (drop-cons xs i 0 h, quotient-cons (take n f) (drop (suc i) xs) (getD xs i 0)))
+  pub quotient-rest : (xs f f' : List ℕ) (i n n' : ℕ) {q : List ℕ} → n - (length xs - i) ≡ n' → quotient F (take n f) (drop i xs) ≡ q →
+      take (n - (length xs - i)) f' ≡ quotient F (take n f) (drop i xs) → take n' f' ≡ q
+  quotient-rest xs f f' i n n' m e t = ap (λ (k : ℕ). take k f') (sym m) ∙ t ∙ e
 
   pub quotient-end : (xs f : List ℕ) (i n n' : ℕ) {q : List ℕ} → length xs ≤ i → n ≡ n' → quotient F (take n f) (drop i xs) ≡ q → take n' f ≡ q
   quotient-end xs f i n n' h m e = cc (drop-of-length-le xs h, quotient-nil (take n f))
+
+module _ (F : Field ℕ) (L : FieldLaws F) where
+  infixl 65 _⊕_
+  infixl 70 _⊗_
+  open Field F using (𝟘, _⊕_, _⊗_)
+  open FieldLaws L using (mul-zero, add-zero, reduce-zero)
+
+  -- noughts behind the coefficients are noughts behind the scheme
+  horner-noughts : (a m : ℕ) → horner F a (noughts F m) ≡ noughts F m
+  unfolding horner
+  horner-noughts a zero = refl
+  horner-noughts a (suc m) =
+      let head : getD (horner F a (noughts F m)) 0 𝟘 ≡ 𝟘 = ap (λ (l : List ℕ). getD l 0 𝟘) (horner-noughts a m) ∙ first F [] m in
+      let nought : 𝟘 ⊕ a ⊗ 𝟘 ≡ 𝟘 = rw (mul-zero a, add-zero 𝟘) reduce-zero in
+      λ i. (ap (λ (t : ℕ). 𝟘 ⊕ a ⊗ t) head ∙ nought) i ∷ horner-noughts a m i
+
+  horner-behind : (a : ℕ) (f : List ℕ) (m : ℕ) → horner F a (f ++ noughts F m) ≡ horner F a f ++ noughts F m
+  unfolding horner
+  horner-behind a [] m = horner-noughts a m
+  horner-behind a (x ∷ f) m =
+      let head = ap (λ (l : List ℕ). getD l 0 𝟘) (horner-behind a f m) ∙ first F (horner F a f) m in
+      λ i. (x ⊕ a ⊗ head i) ∷ horner-behind a f m i
+
+  scheme-behind : (a : ℕ) (f : List ℕ) (m : ℕ) → scheme F a (f ++ noughts F m) ≡ horner F a f ++ noughts F (suc m)
+  unfolding scheme
+  scheme-behind a f m =
+      ap (λ (l : List ℕ). l ++ noughts F 1) (horner-behind a f m) ∙ append-assoc (horner F a f) (noughts F m) (noughts F 1)
+      ∙ ap (λ (l : List ℕ). horner F a f ++ l) (replicate-append-replicate m 1 𝟘 ∙ ap (noughts F) (add-one m))
+
+  -- the places of the last scheme are those of the quotient
+  schemes-places : (ps f : List ℕ) (m : ℕ) → take (length f - length ps) (drop (length ps) (schemes F ps (f ++ noughts F m))) ≡ quotient F f ps
+  unfolding schemes scheme horner divide quotient
+  schemes-places [] f m = take-at f (noughts F m) (length f - 0) (omega arith)
+  schemes-places (a ∷ ps) [] m =
+      let z : 0 - length (a ∷ ps) ≡ 0 = omega arith in
+      rw z (sym (quotient-none F [] (a ∷ ps) (omega arith)))
+  schemes-places (a ∷ ps) (x ∷ f) m =
+      let n : length (horner F a f) - length ps ≡ length (x ∷ f) - length (a ∷ ps) = omega (arith, length-horner F a f) in
+      ap (λ (l : List ℕ). take (length (x ∷ f) - length (a ∷ ps)) (drop (length ps) (schemes F ps l))) (scheme-behind a f m)
+      ∙ (rw n at (schemes-places ps (horner F a f) (suc m)))
+
+  pub schemes-end : (ps heads f₀ f : List ℕ) (n i : ℕ) → length heads ≡ length ps → i ≡ 0 → n ≤ length f₀ →
+      heads ++ take (n - i) (drop i f) ≡ schemes F ps (take (n - i) (drop i f₀)) → take (n - length ps) f ≡ quotient F (take n f₀) ps
+  schemes-end ps heads f₀ f n i s z l e =
+      let b : n - 0 ≡ n = omega arith in
+      let whole : heads ++ take n f ≡ schemes F ps (take n f₀) = rw (z, b) at e in
+      let m : length (take n f₀) ≡ n = length-take-le n f₀ l in
+      let none : take n f₀ ++ noughts F 0 ≡ take n f₀ = append-nil (take n f₀) in
+      let places : take n f ≡ drop (length ps) (schemes F ps (take n f₀)) = sym (drop-at heads (take n f) (length ps) s) ∙ ap (drop (length ps)) whole in
+      sym (take-take (n - length ps) n f (omega arith)) ∙ ap (take (n - length ps)) places ∙ (rw (none, m) at (schemes-places ps (take n f₀) 0))

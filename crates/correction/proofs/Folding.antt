@@ -1,16 +1,15 @@
--- The turns of Horner's rule over a window of the coefficients, and of the fold over the chunks.
+-- The turns of the fold over the chunks.
 use Prim.Native.Nat.{ℕ, zero, suc, _+_, _-_, _*_, _/_, _≤_, _<_}
 use mathlib.Core.Path.{_≡_, refl, sym, ap, _∙_}
 use mathlib.Core.List.{List, [], _∷_, map}
 use native.Mathlib.Nat.{not-suc-le-zero, suc-mul, zero-mul, mul-comm, mul-le-mul-left, mul-div-cancel-left}
 use native.Mathlib.Omega.{arith}
-use lib.ListN.{length, take, drop, getD, set}
+use lib.ListN.{length, take, drop, set}
 use lib.Seq.{drop-drop, drop-length}
 use Rattle.definition.specs.Lists.{chunks}
 use Rattle.definition.specs.Field.{Field}
 use Rattle.definition.specs.Polynomial.{evaluate, foldPoly}
-use Rattle.algebra.specs.Evaluation.{evaluate-nil, evaluate-cons}
-use Rattle.correction.proofs.Lists.{sub-one, one-more, drop-store, window-back}
+use Rattle.correction.proofs.Lists.{sub-one, one-more, drop-store}
 
 -- chunk j - 1 ends where chunk j begins, and lies inside
 pub chunk-before : (j k : ℕ) → 0 < j → (j - 1) * k + k ≡ j * k
@@ -21,27 +20,6 @@ pub chunk-inside : (j k n m : ℕ) → 0 < j → j ≤ n → m ≡ k * n → (j 
 chunk-inside j k n m h l e = omega (arith, chunk-before j k h, mul-comm j k, mul-le-mul-left k l)
 
 module _ (F : Field ℕ) where
-  infixl 65 _⊕_
-  infixl 70 _⊗_
-  open Field F using (𝟘, _⊕_, _⊗_)
-
-  pub value-start : (f : List ℕ) (from n x : ℕ) → 𝟘 ≡ evaluate F (take (n - n) (drop (from + n) f)) x
-  value-start f from n x =
-      let z : n - n ≡ 0 = omega arith in
-      rw z (sym (evaluate-nil F x))
-
-  pub value-turn : (f : List ℕ) (from n i x : ℕ) {v m r : ℕ} → 0 < i → i ≤ n → from + n ≤ length f →
-      v ≡ evaluate F (take (n - i) (drop (from + i) f)) x → m ≡ x ⊗ v → r ≡ getD f (from + (i - 1)) 0 ⊕ m → r ≡ evaluate F (take (n - (i - 1)) (drop (from + (i - 1)) f)) x
-  value-turn f from n i x h k l ev em er =
-      cc (window-back f from n i h k l, evaluate-cons F (getD f (from + (i - 1)) 0) (take (n - i) (drop (from + i) f)) x)
-
-  pub value-end : (f : List ℕ) (from n i x : ℕ) {v : ℕ} → i ≡ 0 →
-      v ≡ evaluate F (take (n - i) (drop (from + i) f)) x → v ≡ evaluate F (take n (drop from f)) x
-  value-end f from n i x z e =
-      let a : n - i ≡ n = omega arith in
-      let b : from + i ≡ from = omega arith in
-      rw (a, b) at e
-
   -- the values at r of the first n chunks
   unfoldable pub chunkValues : ℕ → ℕ → ℕ → List ℕ → List ℕ
   chunkValues k r n f = map (λ c. evaluate F c r) (chunks n k f)
@@ -60,12 +38,13 @@ module _ (F : Field ℕ) where
       rw z (drop-length out ∙ sym (values-none k r (drop (length out * k) f)))
 
   pub fold-turn : (f out : List ℕ) (k r n j : ℕ) {v : ℕ} → 0 < j → j ≤ n → length out ≡ n →
-      drop j out ≡ chunkValues k r (n - j) (drop (j * k) f) → v ≡ evaluate F (take k (drop ((j - 1) * k) f)) r →
+      drop j out ≡ chunkValues k r (n - j) (drop (j * k) f) → v ≡ evaluate F (take ((j - 1) * k + k - (j - 1) * k) (drop ((j - 1) * k) f)) r →
       drop (j - 1) (set out (j - 1) v) ≡ chunkValues k r (n - (j - 1)) (drop ((j - 1) * k) f)
   fold-turn f out k r n j {v} h l e eo ev =
+      let size : (j - 1) * k + k - (j - 1) * k ≡ k = omega arith in
       let b : j ≤ length out = omega arith in
       let next : drop k (drop ((j - 1) * k) f) ≡ drop (j * k) f = drop-drop k ((j - 1) * k) f ∙ ap (λ (m : ℕ). drop m f) (chunk-before j k h) in
-      cc (drop-store out j v h b, one-more n j h l, next, values-next k r (n - j) (drop ((j - 1) * k) f))
+      cc (size, drop-store out j v h b, one-more n j h l, next, values-next k r (n - j) (drop ((j - 1) * k) f))
 
   pub fold-end : (f out : List ℕ) (k r n j : ℕ) → j ≡ 0 → 0 < k → length f ≡ k * n →
       drop j out ≡ chunkValues k r (n - j) (drop (j * k) f) → out ≡ foldPoly F k r f

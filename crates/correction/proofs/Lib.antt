@@ -2,4 +2,5 @@
 pub mod Lists
 pub mod Folding
 pub mod Division
+pub mod Recurrence
 pub mod Products

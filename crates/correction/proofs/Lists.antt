@@ -1,11 +1,12 @@
 -- A list walked from its back to its front, with or without a store at each place.
 use Prim.Native.Nat.{ℕ, zero, suc, _+_, _-_, _≤_, _<_}
-use mathlib.Core.Path.{_≡_, sym, ap, _∙_}
+use mathlib.Core.Path.{_≡_, _∙_}
 use mathlib.Core.List.{List, _∷_}
 use native.Mathlib.Nat.{not-suc-le-zero}
+use native.Mathlib.Numerals.{add-one}
 use native.Mathlib.Omega.{arith}
-use lib.ListN.{length, take, drop, getD, set, length-set, replicate}
-use lib.Seq.{drop-cons, drop-length, drop-set-lt, getD-set-same, getD-set-other}
+use lib.ListN.{length, take, drop, getD, set, length-set}
+use lib.Seq.{drop-cons, drop-set-lt, getD-set-same, getD-set-other}
 
 pub sub-one : (i : ℕ) → suc i - 1 ≡ i
 sub-one i = omega arith
@@ -39,16 +40,6 @@ part-store l n i v h k e =
     let b : i ≤ length l = omega arith in
     rw (one-more n i h k, drop-store l i v h b)
 
--- the n elements from number `from` on, from the one at i - 1 on
-pub window-back : (l : List ℕ) (from n i : ℕ) → 0 < i → i ≤ n → from + n ≤ length l →
-    take (n - (i - 1)) (drop (from + (i - 1)) l) ≡ getD l (from + (i - 1)) 0 ∷ take (n - i) (drop (from + i) l)
-window-back l from n i h k e =
-    let place : from + i - 1 ≡ from + (i - 1) = omega arith in
-    let a : 0 < from + i = omega arith in
-    let b : from + i ≤ length l = omega arith in
-    let d : drop (from + (i - 1)) l ≡ getD l (from + (i - 1)) 0 ∷ drop (from + i) l = rw place at (drop-back l (from + i) a b) in
-    rw (one-more n i h k, d)
-
 -- a store leaves the places below it
 pub unchanged : (l m : List ℕ) (i v : ℕ) → ((j : ℕ) → j < i → getD l j 0 ≡ getD m j 0) → 0 < i →
     (j : ℕ) → j < i - 1 → getD (set l (i - 1) v) j 0 ≡ getD m j 0
@@ -57,14 +48,13 @@ unchanged l m i v e h j k = getD-set-other l (i - 1) j v 0 (λ z. less j (i - 1)
     less : (a b : ℕ) → a < b → a ≡ b → ⊥
     less a b x y = omega arith
 
--- noughts stored one by one
-pub clear-start : (out : List ℕ) → drop (length out) out ≡ replicate (length out - length out) 0
-clear-start out =
-    let z : length out - length out ≡ 0 = omega arith in
-    rw z (drop-length out)
+-- one element more at the front, and four
+pub drop-one : (l : List ℕ) (i : ℕ) → i < length l → drop i l ≡ getD l i 0 ∷ drop (i + 1) l
+drop-one l i h = rw add-one (drop-cons l i 0 h)
 
-pub clear-turn : (out : List ℕ) (n i : ℕ) → 0 < i → i ≤ n → n ≡ length out → drop i out ≡ replicate (n - i) 0 →
-    drop (i - 1) (set out (i - 1) 0) ≡ replicate (n - (i - 1)) 0
-clear-turn out n i h k l e =
-    let b : i ≤ length out = omega arith in
-    drop-store out i 0 h b ∙ ap (λ (t : List ℕ). 0 ∷ t) e ∙ sym (ap (λ (m : ℕ). replicate m 0) (one-more n i h k))
+pub drop-four : (l : List ℕ) (i : ℕ) → i + 3 < length l → drop i l ≡ getD l i 0 ∷ getD l (i + 1) 0 ∷ getD l (i + 2) 0 ∷ getD l (i + 3) 0 ∷ drop (i + 4) l
+drop-four l i h =
+    let a : i + 1 + 1 ≡ i + 2 = omega arith in
+    let b : i + 2 + 1 ≡ i + 3 = omega arith in
+    let c : i + 3 + 1 ≡ i + 4 = omega arith in
+    cc (a, b, c, drop-one l i (omega arith), drop-one l (i + 1) (omega arith), drop-one l (i + 2) (omega arith), drop-one l (i + 3) h)

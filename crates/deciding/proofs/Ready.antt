@@ -2,11 +2,11 @@
 use Prim.Native.Nat.{ℕ, _+_, _*_, _/_, _^_, _≤_, _<_}
 use native.Mathlib.Omega.{arith}
 use mathlib.Core.Path.{_≡_, sym, ap, _∙_, subst}
-use mathlib.Core.List.{List, [], _++_, zipWith}
+use mathlib.Core.List.{List, [], zipWith}
 use mathlib.Core.Option.{Option, none, some}
 use lib.ListN.{length, getD, take, drop, drop-of-length-le}
 use lib.Pow.{pow-pos}
-use lib.Seq.{length-front, length-take-le, take-at}
+use lib.Seq.{length-take-le}
 use Rattle.definition.specs.Deciding.{decide, deciding, outInDomain, outTest}
 use Rattle.definition.specs.Field.{fieldOf, primeField}
 use Rattle.definition.specs.Layout.{layout, readTranscript, wordsDue}
@@ -20,7 +20,6 @@ use Rattle.outcome.specs.declared.Found.{Found}
 use Rattle.outcome.specs.declared.Found.the-variants.{At, Nothing}
 use Rattle.outcome.specs.Meaning.{placeOf}
 use Rattle.polynomial.specs.Newton.{newton}
-use Rattle.powers.specs.Root.{root, root-of-sheet}
 use Rattle.samples.specs.declared.Gathered.{Gathered}
 use Rattle.samples.specs.declared.Gathered.the-variants.{Clash, From}
 use Rattle.samples.specs.Samples.{Room, kept}
@@ -206,20 +205,3 @@ module _ (w : List ℕ) (f : Found) (first : placeOf f ≡ firstTrue 12 (zipWith
       v ≡ decide (primeField (sheetOf w .prime)) (rootOfUnity (sheetOf w)) (firstLevel (sheetOf w)) (readTranscript (sheetOf w) (drop 12 w)) → v ≡ deciding w
   unfolding placeOf thenVerdict refuseAt
   out-passed e h = h ∙ sym (by-place none (ap placeOf e))
-
--- ---- the table of points, in the first places of a larger list
-
-pub first-places : (n : ℕ) (l whole : List ℕ) → length l ≡ length (take n whole) → n ≤ length whole → take n (l ++ drop n whole) ≡ l
-first-places n l whole e h = take-at l (drop n whole) n (e ∙ length-take-le n whole h)
-
-pub still-within : (n : ℕ) (l whole : List ℕ) → length l ≡ length (take n whole) → n ≤ length whole → n ≤ length (l ++ drop n whole)
-still-within n l whole e h = omega (arith, length-front whole l n e)
-
-pub points-there : (w l whole : List ℕ) → length l ≡ length (take (getD w 1 0) whole) → getD w 1 0 ≤ length whole → Powers (getD w 0 0) (root (getD w 0 0) (getD w 1 0)) l →
-    Powers (getD w 0 0) (rootOfUnity (sheetOf w)) (take (getD w 1 0) (l ++ drop (getD w 1 0) whole)) × (length (take (getD w 1 0) (l ++ drop (getD w 1 0) whole)) ≡ getD w 1 0)
-points-there w l whole e h p =
-    let n = getD w 1 0 in
-    let t = first-places n l whole e h in (
-      subst (Powers (getD w 0 0) (rootOfUnity (sheetOf w))) (sym t) (subst (λ (ω : ℕ). Powers (getD w 0 0) ω l) (sym (root-of-sheet w)) p),
-      ap length t ∙ e ∙ length-take-le n whole h,
-    )

@@ -9,7 +9,7 @@ use lib.Dec.{leb}
 use lib.ListN.{length, getD, take, drop, replicate, length-append, length-drop, length-replicate}
 use lib.Seq.{drop-cons, drop-drop, getD-drop}
 use borrow.Author.Tests.{leb-true}
-use Rattle.completeness.specs.SheetRules.{between-true, exponents, rules-hold, small-repetitions}
+use Rattle.completeness.specs.SheetRules.{between-true, rules-hold, small-repetitions}
 use Rattle.completeness.specs.Tests.{and-true, at-passes}
 use Rattle.definition.specs.Deciding.{decide, decideRest, readsOf, tableFunction}
 use Rattle.definition.specs.Field.{fieldOf, primeField, primeOf}
@@ -18,7 +18,7 @@ use Rattle.definition.specs.Lists.{firstTrue}
 use Rattle.definition.specs.Reading.{outOfRange, rangeTest, sheetTest}
 use Rattle.definition.specs.Sheet.{Level, between, firstLevel, foldRule, laterLevels, outCoinsRule, powerOfTwo, roundsRule, rootOfUnity, sheetOf, sheetRules, shiftCount, sizeRule}
 use Rattle.definition.specs.Verdict.{Verdict, accepted}
-use Rattle.domain.specs.Powers.{Fitting, Powers}
+use Rattle.domain.specs.Powers.{Powers}
 use Rattle.rounds.specs.NextRound.{serves-first}
 use Rattle.rounds.specs.Round.{Fits}
 use Rattle.rounds.specs.RoundLaws.{Serves}
@@ -47,12 +47,6 @@ module _ (w : List ℕ) (passed : sheetTest w ≡ accepted) (due : wordsDue (she
         outs = s₁ .1;
         repetitions = small-repetitions w passed;
       }
-
-  -- the field has a domain of the sheet's size
-  pub fitting : Fitting (getD w 0 0) (getD w 1 0)
-  fitting =
-      let x = exponents w passed in
-      record { log = x .a; two = x .size; most = shaped .size; divides = x .divides }
 
   -- the sheet's levels are those of the first place
   pub first-level : firstLevel (sheetOf w) ≡ levelOf w (firstStand w)

@@ -1,23 +1,21 @@
--- The out coins that lie in their domains: the first of a run of words, and the first from a place on, which is that of the definition's layout.
-use Prim.Native.Nat.{ℕ, zero, suc, _+_, _-_, _*_, _/_, _^_, _≤_, _<_}
+-- The out coins that lie in their domains: the first from a place on, which is that of the definition's layout.
+use Prim.Native.Nat.{ℕ, _+_, _*_, _/_, _^_, _≤_, _<_}
 use native.Mathlib.Nat.{div-div-eq-div-mul}
 use native.Mathlib.Omega.{arith}
 use mathlib.Core.Path.{_≡_, refl, sym, ap, _∙_}
-use mathlib.Core.Bool.{Bool, true, false, cond}
+use mathlib.Core.Bool.{false}
 use mathlib.Core.List.{List, [], _∷_, _++_, zipWith, append-assoc}
-use mathlib.Core.Option.{Option, none, some}
+use mathlib.Core.Option.{Option, none}
 use lib.ListN.{length, getD, drop, replicate, length-append, length-replicate}
-use lib.Seq.{drop-cons}
-use Rattle.algebra.specs.ListFacts.{All, all-append}
-use Rattle.completeness.specs.ListLaws.{all-replicate}
+use Rattle.algebra.specs.ListFacts.{all-append}
 use Rattle.definition.specs.Deciding.{outInDomain}
-use Rattle.definition.specs.Domain.{inDomain}
-use Rattle.definition.specs.Field.{fieldOf, primeField}
+use Rattle.definition.specs.Field.{fieldOf}
 use Rattle.definition.specs.Layout.{Kind, coin, index, layout, message, out, restLayout, roundLayout, wordsDue}
 use Rattle.definition.specs.Lists.{firstTrue}
 use Rattle.definition.specs.Reading.{rangeTest, sheetTest}
-use Rattle.definition.specs.Sheet.{Level, Sheet, finalCount, firstLevel, laterLevels, rootOfUnity, sheetOf, shiftCount}
+use Rattle.definition.specs.Sheet.{Level, finalCount, firstLevel, laterLevels, rootOfUnity, sheetOf, shiftCount}
 use Rattle.definition.specs.Verdict.{accepted}
+use Rattle.domain.specs.OutCoins.{FirstInside, all-quiet, coin-quiet, firstInside, indices-quiet, messages-quiet, orElse, outs-run, quiet}
 use Rattle.domain.specs.Powers.{Powers}
 use Rattle.deciding.specs.declared.Stand.{Stand}
 use Rattle.deciding.specs.First.{first-level, first-room, later-levels}
@@ -26,95 +24,9 @@ use Rattle.deciding.specs.Stand.{firstStand, levelOf, levelsOf, nextSize
 use Rattle.deciding.specs.Standing.{Placed}
 use Rattle.deciding.specs.Words.{levels-end, levels-next}
 
--- the first of `count` words from number `at` on that lies in the domain of a level
-unfoldable pub firstInside : ℕ → ℕ → Level → List ℕ → ℕ → ℕ → Option ℕ
-firstInside field ω l w at zero = none
-firstInside field ω l w at (suc count) = cond (inDomain (fieldOf field) ω l (getD w at 0)) (some at) (firstInside field ω l w (suc at) count)
-
--- v is that word's number, for every field and ω that the table is of, and every level with 2^i = scale and n_i = n0/scale
-abbrev pub FirstInside : List ℕ → List ℕ → ℕ → ℕ → ℕ → Option ℕ → Type 0
-FirstInside w pw scale at count v =
-    (field ω : ℕ) (l : Level) → Powers field ω pw → 2 ^ l .number ≡ scale → l .size ≡ length pw / scale → v ≡ firstInside field ω l w at count
-
 -- the first out coin from a place on that lies in its domain
 unfoldable pub outsFrom : List ℕ → Stand → Option ℕ
 outsFrom w st = firstTrue (st .at) (zipWith (outInDomain (sheetOf w)) (restLayout (getD w 5 0) (levelOf w st) (levelsOf w st)) (drop (st .at) w))
-
--- ---- a run of words, word by word
-
-module _ (field ω : ℕ) (l : Level) (w : List ℕ) (at count : ℕ) where
-  left-over : (j : ℕ) → j < count → count - j ≡ suc (count - (j + 1))
-  left-over j h = omega arith
-
-  pub inside-here : (j : ℕ) → j < count → inDomain (fieldOf field) ω l (getD w (at + j) 0) ≡ true → firstInside field ω l w (at + j) (count - j) ≡ some (at + j)
-  unfolding firstInside
-  inside-here j h e = rw (left-over j h, e)
-
-  pub inside-on : (j : ℕ) → j < count → inDomain (fieldOf field) ω l (getD w (at + j) 0) ≡ false →
-      firstInside field ω l w (at + j) (count - j) ≡ firstInside field ω l w (at + (j + 1)) (count - (j + 1))
-  unfolding firstInside
-  inside-on j h e = let n : suc (at + j) ≡ at + (j + 1) = omega arith in rw (left-over j h, e, n)
-
-  pub inside-end : (j : ℕ) → count ≤ j → firstInside field ω l w (at + j) (count - j) ≡ none
-  unfolding firstInside
-  inside-end j h = let z : count - j ≡ 0 = omega arith in rw z
-
--- ---- the layout's tests, run by run
-
--- words of kinds that no test is true of, n in number
-quiet : (t : Kind → ℕ → Bool) (ks ks′ : List Kind) (w : List ℕ) (at n : ℕ) → length ks ≡ n → All (λ k. (x : ℕ) → t k x ≡ false) ks → at + n ≤ length w →
-    firstTrue at (zipWith t (ks ++ ks′) (drop at w)) ≡ firstTrue (at + n) (zipWith t ks′ (drop (at + n) w))
-unfolding zipWith firstTrue
-quiet t [] ks′ w at n f h l = let e : at ≡ at + n = omega arith in ap (λ (m : ℕ). firstTrue m (zipWith t ks′ (drop m w))) e
-quiet t (k ∷ ks) ks′ w at n f h l =
-    let e : suc at + length ks ≡ at + n = omega arith in
-    rw (drop-cons w at 0 (omega arith)) (rw (h .0 (getD w at 0)) (quiet t ks ks′ w (suc at) (length ks) refl (h .1) (omega arith)
-    ∙ ap (λ (m : ℕ). firstTrue m (zipWith t ks′ (drop m w))) e))
-
-all-quiet : (t : Kind → ℕ → Bool) (ks : List Kind) (w : List ℕ) (at : ℕ) → All (λ k. (x : ℕ) → t k x ≡ false) ks → firstTrue at (zipWith t ks w) ≡ none
-unfolding zipWith firstTrue
-all-quiet t [] w at h = refl
-all-quiet t (k ∷ ks) [] at h = refl
-all-quiet t (k ∷ ks) (x ∷ w) at h = rw (h .0 x) (all-quiet t ks w (suc at) (h .1))
-
--- the first place found, or else the next
-abbrev pub orElse : Option ℕ → Option ℕ → Option ℕ
-orElse none v = v
-orElse (some n) v = some n
-
--- out coins of a level
-outs-run : (h : Sheet) (field : ℕ) → primeField (h .prime) ≡ fieldOf field → (l : Level) (ks′ : List Kind) (w : List ℕ) (count at : ℕ) → at + count ≤ length w →
-    firstTrue at (zipWith (outInDomain h) (replicate count (out l) ++ ks′) (drop at w))
-    ≡ orElse (firstInside field (rootOfUnity h) l w at count) (firstTrue (at + count) (zipWith (outInDomain h) ks′ (drop (at + count) w)))
-unfolding zipWith firstTrue firstInside outInDomain
-outs-run h field f l ks′ w zero at g = let e : at ≡ at + 0 = omega arith in ap (λ (n : ℕ). firstTrue n (zipWith (outInDomain h) ks′ (drop n w))) e
-outs-run h field f l ks′ w (suc count) at g =
-    rw (drop-cons w at 0 (omega arith), f) (go (inDomain (fieldOf field) (rootOfUnity h) l (getD w at 0)) (outs-run h field f l ks′ w count (suc at) (omega arith)))
-  where
-    e : suc at + count ≡ at + suc count
-    e = omega arith
-
-    go : (b : Bool) → firstTrue (suc at) (zipWith (outInDomain h) (replicate count (out l) ++ ks′) (drop (suc at) w))
-        ≡ orElse (firstInside field (rootOfUnity h) l w (suc at) count) (firstTrue (suc at + count) (zipWith (outInDomain h) ks′ (drop (suc at + count) w))) →
-        firstTrue at (b ∷ zipWith (outInDomain h) (replicate count (out l) ++ ks′) (drop (suc at) w))
-        ≡ orElse (cond b (some at) (firstInside field (rootOfUnity h) l w (suc at) count)) (firstTrue (at + suc count) (zipWith (outInDomain h) ks′ (drop (at + suc count) w)))
-    go true r = refl
-    go false r = r ∙ ap (λ (n : ℕ). orElse (firstInside field (rootOfUnity h) l w (suc at) count) (firstTrue n (zipWith (outInDomain h) ks′ (drop n w)))) e
-
-module _ (h : Sheet) where
-  messages-quiet : (n : ℕ) → All (λ k. (x : ℕ) → outInDomain h k x ≡ false) (replicate n message)
-  unfolding outInDomain
-  messages-quiet n = all-replicate (λ k. (x : ℕ) → outInDomain h k x ≡ false) n message (λ x. refl)
-
-  indices-quiet : (n m : ℕ) → All (λ k. (x : ℕ) → outInDomain h k x ≡ false) (replicate n (index m))
-  unfolding outInDomain
-  indices-quiet n m = all-replicate (λ k. (x : ℕ) → outInDomain h k x ≡ false) n (index m) (λ x. refl)
-
-  coin-quiet : (x : ℕ) → outInDomain h coin x ≡ false
-  unfolding outInDomain
-  coin-quiet x = refl
-
--- ---- from a place on
 
 module _ (w : List ℕ) (st : Stand) (ok : Placed w st) where
   pub outs-last : st .level ≡ getD w 4 0 → outsFrom w st ≡ none

@@ -22,7 +22,7 @@ ghost use Rattle.rounds.specs.RoundLaws.{Answered, Compared};
 ghost use Rattle.samples.specs.Samples.{kept, Room};
 ghost use Rattle.deciding.specs.Stand.{firstFunction, firstStand, nextFunction, nextStand};
 ghost use Rattle.deciding.specs.Standing.{Decided, Differing, Placed, RoundInside, Served, Shaped, Sifted, Standing};
-ghost use Rattle.deciding.specs.Outs.{FirstInside, Scaled, outsFrom};
+ghost use Rattle.deciding.specs.Outs.{Scaled, outsFrom};
 
 // A place: the level's number, domain size and degree bound, where its table and the words after its fold coin begin, the fold coin, the reads so far.
 pub struct Stand {
@@ -321,21 +321,6 @@ pub fn decide(w: &[u32], pw: &[u32]) -> Verdict
     rest(w, pw, first_stand(w), first_function(w), &none, &none)
 }
 
-// The first of `count` words from number `at` on that lies in the domain whose points stand at every scale-th place of the table.
-fn first_inside(w: &[u32], pw: &[u32], scale: usize, at: usize, count: usize) -> Found
-    requires { ⌜ (0 < scale) × (at + count ≤ length (now w)) ⌝ }
-    ensures { λ r. ⌜ FirstInside (now (w .entry)) (now (pw .entry)) scale at count (placeOf r) ⌝ }
-{
-    let mut j = 0;
-    while j < count {
-        if domain::inside(pw, scale, w[at + j]) {
-            return Found::At(at + j);
-        }
-        j += 1;
-    }
-    Found::Nothing
-}
-
 // The first out coin after a place that lies in the domain of its round.
 fn outs(w: &[u32], pw: &[u32], stand: Stand, scale: usize) -> Found
     requires { ⌜ (Placed (now w) stand) × (Scaled (length (now pw)) stand scale) ⌝ }
@@ -345,7 +330,7 @@ fn outs(w: &[u32], pw: &[u32], stand: Stand, scale: usize) -> Found
     if stand.level == w[4] as usize {
         return Found::Nothing;
     }
-    let f = first_inside(w, pw, 2 * scale, stand.at + stand.size / 2, w[5] as usize);
+    let f = domain::first_inside(w, pw, 2 * scale, stand.at + stand.size / 2, w[5] as usize);
     if let Found::At(i) = f {
         return Found::At(i);
     }
@@ -379,13 +364,6 @@ fn decide_by(w: &[u32], pw: &[u32]) -> Verdict
     decide(w, pw)
 }
 
-// Places for the points of domain 0, at most 4,096.
-fn points_room() -> [u32; 4096]
-    ensures { λ r. ⌜ length r ≡ 4096 ⌝ }
-{
-    [0u32; 4096]
-}
-
 // Deciding, of the words of a stream that passes reading.
 pub fn deciding(w: &[u32]) -> Verdict
     requires { ⌜ (sheetTest (now w) ≡ accepted) × (rangeTest (sheetOf (now w)) (now w) ≡ accepted) ⌝ }
@@ -393,7 +371,7 @@ pub fn deciding(w: &[u32]) -> Verdict
     ensures { λ v. ⌜ verdictOf v ≡ decidingOf (now (w .entry)) ⌝ }
 {
     let size = w[1] as usize;
-    let mut pw = points_room();
+    let mut pw = domain::points_room();
     domain::points(w[0], size, &mut pw[..size]);
     decide_by(w, &pw[..size])
 }

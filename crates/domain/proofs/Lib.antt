@@ -1,3 +1,4 @@
 pub mod Filled
 pub mod Membership
 pub mod Tables
+pub mod Walked

@@ -1,3 +1,5 @@
 pub mod Powers
 pub mod Roots
 pub mod Points
+pub mod OfSheet
+pub mod OutCoins

@@ -1,9 +1,12 @@
-// The points of domain 0 as a table, which holds those of every later domain, and membership in a domain.
+// The points of domain 0 as a table, which holds those of every later domain, and membership in a domain, of one word and of a run of words.
+use outcome::Found;
 ghost use mathlib.Core.Path.{_≡_};
-ghost use Prim.Native.Nat.{ℕ, _+_, _*_, _%_, _<_};
+ghost use Prim.Native.Nat.{ℕ, _+_, _*_, _%_, _≤_, _<_};
 ghost use lib.ListN.{length, getD};
 ghost use Rattle.definition.specs.Field.{Field, generatorOf, fieldOf, power};
+ghost use Rattle.outcome.specs.Meaning.{placeOf};
 ghost use Rattle.powers.specs.Root.{root};
+ghost use Rattle.domain.specs.OutCoins.{FirstInside};
 ghost use Rattle.domain.specs.Powers.{Powers, Fitting, Inside};
 
 // The field's generator.
@@ -51,6 +54,13 @@ fn from_stored(table: &[u32], step: usize, out: &mut [u32])
     }
 }
 
+// Places for the points of domain 0, at most 4,096.
+pub fn points_room() -> [u32; 4096]
+    ensures { λ r. ⌜ length r ≡ 4096 ⌝ }
+{
+    [0u32; 4096]
+}
+
 // The points of domain 0, which are the powers of ω from the first on. The larger field reads them from the stored table.
 pub fn points(field: u32, size: usize, out: &mut [u32])
     requires { ⌜ Fitting field size ⌝ }
@@ -79,4 +89,19 @@ pub fn inside(pw: &[u32], scale: usize, x: u32) -> bool
         j += 1;
     }
     false
+}
+
+// The first of `count` words from number `at` on that lies in the domain whose points stand at every scale-th place of the table.
+pub fn first_inside(w: &[u32], pw: &[u32], scale: usize, at: usize, count: usize) -> Found
+    requires { ⌜ (0 < scale) × (at + count ≤ length (now w)) ⌝ }
+    ensures { λ r. ⌜ FirstInside (now (w .entry)) (now (pw .entry)) scale at count (placeOf r) ⌝ }
+{
+    let mut j = 0;
+    while j < count {
+        if inside(pw, scale, w[at + j]) {
+            return Found::At(at + j);
+        }
+        j += 1;
+    }
+    Found::Nothing
 }

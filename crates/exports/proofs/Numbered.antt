@@ -1,12 +1,20 @@
--- The numbers of a verdict in code are those of the definition's.
+-- The numbers of an answer in code are those of the definition's.
 use Prim.Native.Nat.{ℕ}
 use mathlib.Core.Path.{_≡_, sym, ap, _∙_}
+use mathlib.Core.Option.{Option}
 use Rattle.definition.specs.Verdict as definition
+use Rattle.definition.specs.Field.{FieldAnswer}
+use Rattle.field.specs.declared.Element.{Element}
+use Rattle.field.specs.declared.Element.the-variants as element
+use Rattle.field.specs.Answer.{answerOf}
+use Rattle.reader.specs.declared.Word.{Word}
+use Rattle.reader.specs.declared.Word.the-variants as word
+use Rattle.reader.specs.Words.{valueOf}
 use Rattle.outcome.specs.declared.Outcome.{Outcome}
 use Rattle.outcome.specs.declared.Outcome.the-variants.{Accepted, Refused}
 use Rattle.outcome.specs.declared.Verdict.{Verdict}
 use Rattle.outcome.specs.Meaning.{outcomeOf, verdictOf}
-use Rattle.exports.specs.Numbers.{numberOf, placeIn}
+use Rattle.exports.specs.Numbers.{numberOf, placeIn, wordThere, wordOrZero, fieldNamed, elementOrZero}
 
 module _ (v : Verdict) {d : definition.Verdict} (e : verdictOf v ≡ d) where
   outcome-is : outcomeOf (v .outcome) ≡ d .outcome
@@ -31,3 +39,39 @@ module _ (v : Verdict) {d : definition.Verdict} (e : verdictOf v ≡ d) where
   refused-numbers number place h =
       let o = ap outcomeOf (sym h) ∙ outcome-is in
       (ap numberOf o, (ap placeIn o, reads-is))
+
+module _ (w : Word) {d : Option ℕ} (e : valueOf w ≡ d) where
+  abbrev pub WordNumbers : ℕ → ℕ → Type 0
+  WordNumbers there word = (there ≡ wordThere d) × (word ≡ wordOrZero d)
+
+  pub value-numbers : (x : ℕ) → w ≡ word.Value x → WordNumbers 1 x
+  unfolding valueOf wordThere wordOrZero
+  value-numbers x h =
+      let o = ap valueOf (sym h) ∙ e in
+      (ap wordThere o, ap wordOrZero o)
+
+  pub end-numbers : w ≡ word.End → WordNumbers 0 0
+  unfolding valueOf wordThere wordOrZero
+  end-numbers h =
+      let o = ap valueOf (sym h) ∙ e in
+      (ap wordThere o, ap wordOrZero o)
+
+abbrev pub ElementNumbers : FieldAnswer → ℕ → ℕ → Type 0
+ElementNumbers d named element = (named ≡ fieldNamed d) × (element ≡ elementOrZero d)
+
+module _ (a : Element) where
+  pub element-numbers : (x : ℕ) → a ≡ element.Value x → ElementNumbers (answerOf a) 1 x
+  unfolding fieldNamed elementOrZero
+  element-numbers x h =
+      let o = ap answerOf (sym h) in
+      (ap fieldNamed o, ap elementOrZero o)
+
+  pub no-field-numbers : a ≡ element.NoField → ElementNumbers (answerOf a) 0 0
+  unfolding fieldNamed elementOrZero
+  no-field-numbers h =
+      let o = ap answerOf (sym h) in
+      (ap fieldNamed o, ap elementOrZero o)
+
+  -- what is written of an answer is what the definition's answer says
+  pub as-defined : {d : FieldAnswer} {named element : ℕ} → ElementNumbers (answerOf a) named element → answerOf a ≡ d → ElementNumbers d named element
+  as-defined n e = (n .0 ∙ ap fieldNamed e, n .1 ∙ ap elementOrZero e)

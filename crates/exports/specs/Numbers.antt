@@ -1,7 +1,10 @@
--- An outcome as two numbers: 0 and 0 for accepted, else the fault's number and place.
+-- What an operation answers, as two numbers.
 use Prim.Native.Nat.{ℕ}
+use mathlib.Core.Option.{Option, none, some}
 use Rattle.definition.specs.Verdict.{Outcome, accepted, refused}
+use Rattle.definition.specs.Field.{FieldAnswer, element, noField}
 
+-- an outcome: 0 and 0 for accepted, else the fault's number and place
 unfoldable pub numberOf : Outcome → ℕ
 numberOf accepted = 0
 numberOf (refused number place) = number
@@ -9,3 +12,21 @@ numberOf (refused number place) = number
 unfoldable pub placeIn : Outcome → ℕ
 placeIn accepted = 0
 placeIn (refused number place) = place
+
+-- a word that may be there: 1 and the word, else 0 and 0
+unfoldable pub wordThere : Option ℕ → ℕ
+wordThere none = 0
+wordThere (some word) = 1
+
+unfoldable pub wordOrZero : Option ℕ → ℕ
+wordOrZero none = 0
+wordOrZero (some word) = word
+
+-- an element of the field that a number names: 1 and the element, else 0 and 0
+unfoldable pub fieldNamed : FieldAnswer → ℕ
+fieldNamed noField = 0
+fieldNamed (element x) = 1
+
+unfoldable pub elementOrZero : FieldAnswer → ℕ
+elementOrZero noField = 0
+elementOrZero (element x) = x

@@ -1,14 +1,15 @@
 -- One turn of each walk over points and coefficients, with the words that the calls in the loop's body give. Assumes nothing.
-use Prim.Native.Nat.{ℕ, _-_, _≤_, _<_}
-use mathlib.Core.Path.{_≡_, refl}
+use Prim.Native.Nat.{ℕ, _-_, _%_, _≤_, _<_}
+use mathlib.Core.Path.{_≡_, refl, subst}
 use mathlib.Core.List.{List, _∷_}
-use lib.ListN.{length, drop, getD, set, length-drop}
-use lib.Seq.{drop-length}
+use native.Mathlib.Omega.{arith}
+use lib.ListN.{length, drop, getD, set, length-drop, length-set}
+use lib.Seq.{drop-length, drop-set-lt, getD-set-same}
 use Rattle.definition.specs.Field.{Field}
 use Rattle.definition.specs.Polynomial.{pair, evaluate, geometric, interpolate, correctedValue}
 use Rattle.algebra.specs.Laws.{FieldLaws}
 use Rattle.algebra.specs.Evaluation.{evaluate-cons}
-use Rattle.polynomial.specs.Newton.{vanishAt, newtonAt, newton, newtonCorrected}
+use Rattle.polynomial.specs.Newton.{vanishAt, newtonAt, nextCoefficient, coefficientInFront, newton, newtonCorrected}
 use Rattle.polynomial.specs.NewtonLaws.{newton-ok, corrected-ok}
 use Rattle.polynomial.proofs.Backwards.{drop-back, drop-store}
 
@@ -23,9 +24,9 @@ module _ (F : Field ℕ) where
   unfolding evaluate
   evaluate-end f x = rw drop-length
 
-  pub evaluate-turn : (f : List ℕ) (i x : ℕ) {a m r : ℕ} → 0 < i → i ≤ length f → a ≡ evaluate F (drop i f) x →
-      m ≡ x ⊗ a → r ≡ getD f (i - 1) 0 ⊕ m → r ≡ evaluate F (drop (i - 1) f) x
-  evaluate-turn f i x h l ea em er = cc (drop-back f i h l, evaluate-cons F (getD f (i - 1) 0) (drop i f) x)
+  pub evaluate-turn : (f : List ℕ) (i x : ℕ) {a r : ℕ} → 0 < i → i ≤ length f → a ≡ evaluate F (drop i f) x →
+      r ≡ getD f (i - 1) 0 ⊕ x ⊗ a → r ≡ evaluate F (drop (i - 1) f) x
+  evaluate-turn f i x h l ea er = cc (drop-back f i h l, evaluate-cons F (getD f (i - 1) 0) (drop i f) x)
 
   -- ---- Newton's form and the vanishing polynomial
 
@@ -37,28 +38,30 @@ module _ (F : Field ℕ) where
   unfolding vanishAt
   vanish-cons a xs x = refl
 
-  pub newton-end : (xs cs : List ℕ) (x : ℕ) → 𝟘 ≡ newtonAt F (drop (length xs) xs) cs x
-  unfolding newtonAt
-  newton-end xs cs x = rw drop-length
+  -- what a walk has at hand for x when the points from number i on are done
+  abbrev pub Walked : List ℕ → List ℕ → ℕ → ℕ → ℕ → ℕ → Type 0
+  Walked xs cs x i value vanish = (value ≡ newtonAt F (drop i xs) (drop i cs) x) × (vanish ≡ vanishAt F (drop i xs) x)
 
-  pub vanish-end : (xs : List ℕ) (x : ℕ) → 𝟙 ≡ vanishAt F (drop (length xs) xs) x
-  unfolding vanishAt
-  vanish-end xs x = rw drop-length
+  pub walked-end : (xs cs : List ℕ) (x : ℕ) → Walked xs cs x (length xs) 𝟘 𝟙
+  unfolding newtonAt vanishAt
+  walked-end xs cs x = (rw drop-length, rw drop-length)
 
-  pub newton-turn : (xs cs : List ℕ) (i x : ℕ) {a v m r : ℕ} → 0 < i → i ≤ length xs → i ≤ length cs →
-      a ≡ newtonAt F (drop i xs) (drop i cs) x → v ≡ vanishAt F (drop i xs) x →
-      m ≡ getD cs (i - 1) 0 ⊗ v → r ≡ a ⊕ m → r ≡ newtonAt F (drop (i - 1) xs) (drop (i - 1) cs) x
-  newton-turn xs cs i x h l k ea ev em er =
-      cc (drop-back xs i h l, drop-back cs i h k, newton-cons (getD xs (i - 1) 0) (getD cs (i - 1) 0) (drop i xs) (drop i cs) x)
+  pub walked-turn : (xs cs : List ℕ) (x i : ℕ) {a v r d u : ℕ} → 0 < i → i ≤ length xs → i ≤ length cs → Walked xs cs x i a v →
+      r ≡ a ⊕ getD cs (i - 1) 0 ⊗ v → d ≡ x ⊖ getD xs (i - 1) 0 → u ≡ d ⊗ v → Walked xs cs x (i - 1) r u
+  walked-turn xs cs x i h l k w er ed eu =
+      let ea = w .0 in
+      let ev = w .1 in
+      let point = getD xs (i - 1) 0 in (
+        cc (drop-back xs i h l, drop-back cs i h k, newton-cons point (getD cs (i - 1) 0) (drop i xs) (drop i cs) x),
+        cc (drop-back xs i h l, vanish-cons point (drop i xs) x),
+      )
 
-  pub vanish-turn : (xs : List ℕ) (i x : ℕ) {v d r : ℕ} → 0 < i → i ≤ length xs → v ≡ vanishAt F (drop i xs) x →
-      d ≡ x ⊖ getD xs (i - 1) 0 → r ≡ d ⊗ v → r ≡ vanishAt F (drop (i - 1) xs) x
-  vanish-turn xs i x h l ev ed er = cc (drop-back xs i h l, vanish-cons (getD xs (i - 1) 0) (drop i xs) x)
+  pub walked-from : (xs cs : List ℕ) (x : ℕ) {i from value vanish : ℕ} → i ≡ from → Walked xs cs x i value vanish → Walked xs cs x from value vanish
+  walked-from xs cs x {value = value} {vanish = vanish} e w = subst (λ (n : ℕ). Walked xs cs x n value vanish) e w
 
   -- ---- the coefficients of Newton's form
 
-  step-cons : (x y : ℕ) (xs ys : List ℕ) →
-      newton F (x ∷ xs) (y ∷ ys) ≡ ((y ⊖ newtonAt F xs (newton F xs ys) x) ⊗ inverse (vanishAt F xs x)) ∷ newton F xs ys
+  step-cons : (x y : ℕ) (xs ys : List ℕ) → newton F (x ∷ xs) (y ∷ ys) ≡ nextCoefficient F (newtonAt F xs (newton F xs ys) x) (vanishAt F xs x) y ∷ newton F xs ys
   unfolding newton
   step-cons x y xs ys = refl
 
@@ -66,22 +69,65 @@ module _ (F : Field ℕ) where
   unfolding newton
   step-end xs ys out e = rw (drop-length xs, ← e, drop-length)
 
-  pub step-turn : (xs ys out : List ℕ) (i : ℕ) {a v d u r : ℕ} → 0 < i → i ≤ length xs → i ≤ length ys → i ≤ length out →
-      drop i out ≡ newton F (drop i xs) (drop i ys) →
-      a ≡ newtonAt F (drop i xs) (drop i out) (getD xs (i - 1) 0) → v ≡ vanishAt F (drop i xs) (getD xs (i - 1) 0) →
-      d ≡ getD ys (i - 1) 0 ⊖ a → u ≡ inverse v → r ≡ d ⊗ u →
+  pub step-turn : (xs ys out : List ℕ) (i : ℕ) {a v r : ℕ} → 0 < i → i ≤ length xs → i ≤ length ys → i ≤ length out →
+      drop i out ≡ newton F (drop i xs) (drop i ys) → Walked xs out (getD xs (i - 1) 0) i a v → r ≡ nextCoefficient F a v (getD ys (i - 1) 0) →
       drop (i - 1) (set out (i - 1) r) ≡ newton F (drop (i - 1) xs) (drop (i - 1) ys)
-  step-turn xs ys out i {r = r} h l k o eo ea ev ed eu er =
+  step-turn xs ys out i {r = r} h l k o eo w er =
+      let ea = w .0 in
+      let ev = w .1 in
       cc (drop-back xs i h l, drop-back ys i h k, drop-store out i r h o, step-cons (getD xs (i - 1) 0) (getD ys (i - 1) 0) (drop i xs) (drop i ys))
+
+  -- a walk reads no coefficient before number i
+  walked-store : (xs cs : List ℕ) (x i r : ℕ) {a v : ℕ} → 0 < i → Walked xs cs x i a v → Walked xs (set cs (i - 1) r) x i a v
+  walked-store xs cs x i r h w = let t : i - 1 < i = omega arith in rw (drop-set-lt i cs (i - 1) r t) w
+
+  pub step-two : (xs ys out : List ℕ) (i : ℕ) {va wa vb wb c r : ℕ} → 1 < i → i ≤ length xs → i ≤ length ys → i ≤ length out →
+      drop i out ≡ newton F (drop i xs) (drop i ys) →
+      Walked xs out (getD xs (i - 1) 0) i va wa → Walked xs out (getD xs (i - 2) 0) i vb wb → c ≡ nextCoefficient F va wa (getD ys (i - 1) 0) →
+      r ≡ coefficientInFront F vb wb (getD xs (i - 1) 0) c (getD xs (i - 2) 0) (getD ys (i - 2) 0) →
+      drop (i - 2) (set (set out (i - 1) c) (i - 2) r) ≡ newton F (drop (i - 2) xs) (drop (i - 2) ys)
+  step-two xs ys out i {vb = vb} {wb = wb} {c = c} h l k o eo a b ec er =
+      let stored = set out (i - 1) c in
+      let two : i - 2 ≡ i - 1 - 1 = omega arith in
+      let inside : i - 1 < length out = omega arith in
+      let room : i ≤ length stored = rw length-set o in
+      let same : vb ⊕ c ⊗ wb ≡ vb ⊕ getD stored (i - 1) 0 ⊗ wb = rw (getD-set-same out (i - 1) c 0 inside) in
+      let next = walked-turn xs stored (getD xs (i - 2) 0) i (omega arith) l room (walked-store xs out (getD xs (i - 2) 0) i c (omega arith) b) same refl refl in
+      let first = step-turn xs ys out i (omega arith) l k o eo a ec in
+      rw two (step-turn xs ys stored (i - 1) (omega arith) (omega arith) (omega arith) (omega arith) first (rw two at next) (rw two at er))
+
+  -- from number i on the coefficients stand in out, and in front of them an even number is left to do
+  abbrev pub Filled : List ℕ → List ℕ → ℕ → List ℕ → ℕ → Type 0
+  Filled xs ys from out i =
+      (from ≤ i) × ((i ≤ length xs) × ((length out ≡ length xs) × (((i - from) % 2 ≡ 0) × (drop i out ≡ newton F (drop i xs) (drop i ys)))))
+
+  pub filled-none : (xs ys : List ℕ) (from : ℕ) {l out : List ℕ} {i : ℕ} → from ≤ length xs → length l ≡ length xs → ((length xs - from) % 2 ≡ 1 → ⊥) →
+      out ≡ l → i ≡ length xs → Filled xs ys from out i
+  filled-none xs ys from {l} h e odd eo ei = rw (eo, ei) (h, (omega arith, (e, (omega arith, step-end xs (drop (length xs) ys) l e))))
+
+  pub filled-one : (xs ys : List ℕ) (from : ℕ) {l out : List ℕ} {i : ℕ} → from ≤ length xs → length l ≡ length xs → (length xs - from) % 2 ≡ 1 →
+      drop (length xs - 1) l ≡ newton F (drop (length xs - 1) xs) (drop (length xs - 1) ys) → out ≡ l → i ≡ length xs - 1 → Filled xs ys from out i
+  filled-one xs ys from {l} h e odd el eo ei = rw (eo, ei) (omega arith, (omega arith, (e, (omega arith, el))))
+
+  -- the words that give a coefficient, and the one in front of it
+  pub next-is : (value vanish y : ℕ) {u d r : ℕ} → u ≡ inverse vanish → d ≡ y ⊖ value → r ≡ d ⊗ u → r ≡ nextCoefficient F value vanish y
+  next-is value vanish y eu ed er = cc er
+
+  pub in-front-is : (value vanish a c b y : ℕ) {d v u n e r : ℕ} → d ≡ b ⊖ a → v ≡ d ⊗ vanish → u ≡ inverse v → n ≡ value ⊕ c ⊗ vanish → e ≡ y ⊖ n → r ≡ e ⊗ u →
+      r ≡ coefficientInFront F value vanish a c b y
+  in-front-is value vanish a c b y ed ev eu en ee er = cc er
 
   -- ---- the corrected value
 
-  pub corrected : (xs cs : List ℕ) (from c x y : ℕ) {a v d u q g r : ℕ} →
-      a ≡ newtonAt F (drop from xs) cs x → v ≡ vanishAt F (drop from xs) x →
-      d ≡ y ⊖ a → u ≡ inverse v → q ≡ d ⊗ u → g ≡ evaluate F (geometric F c (length xs - from)) x → r ≡ q ⊗ g →
-      r ≡ newtonCorrected F (drop from xs) cs c x y
+  pub corrected-by : (c e x y value u : ℕ) {d q g r : ℕ} → d ≡ y ⊖ value → q ≡ d ⊗ u → g ≡ evaluate F (geometric F c e) x → r ≡ q ⊗ g →
+      r ≡ (y ⊖ value) ⊗ u ⊗ evaluate F (geometric F c e) x
+  corrected-by c e x y value u ed eq eg er = cc er
+
+  pub corrected : (xs cs : List ℕ) (from c x y : ℕ) {a v u r : ℕ} →
+      a ≡ newtonAt F (drop from xs) cs x → v ≡ vanishAt F (drop from xs) x → u ≡ inverse v →
+      r ≡ (y ⊖ a) ⊗ u ⊗ evaluate F (geometric F c (length xs - from)) x → r ≡ newtonCorrected F (drop from xs) cs c x y
   unfolding newtonCorrected
-  corrected xs cs from c x y ea ev ed eu eq eg er = cc (length-drop from xs)
+  corrected xs cs from c x y ea ev eu er = cc (length-drop from xs)
 
 module _ (F : Field ℕ) (L : FieldLaws F) where
   pub through : (xs ys : List ℕ) (x : ℕ) {cs : List ℕ} {v : ℕ} → length ys ≡ length xs → cs ≡ newton F xs ys → v ≡ newtonAt F xs cs x →

@@ -51,24 +51,24 @@ module _ {A : Type 0} (F : Field A) (L : FieldLaws F) where
   pub turn-first : (c x : A) (e : ℕ) {q : A} → q ≡ x ⊗ c → Turn (evaluate F (geometric F c e) x) 𝟙 q q e
   turn-first c x e {q} h = record { reduced = reduce-one; left = sym (sum-suc q e) ∙ ap (λ (s : A). geometricSum F s (suc e)) h ∙ geometric-sum c x e }
 
-  pub turn-even : {t a b q a' b₁ u b' q' : A} {n : ℕ} → Turn t a b q n → (n % 2 ≡ 1 → ⊥) → a' ≡ a → b₁ ≡ b → u ≡ 𝟙 ⊕ q → b' ≡ b₁ ⊗ u → q' ≡ q ⊗ q →
+  pub turn-even : {t a b q a' b₁ b' q' : A} {n : ℕ} → Turn t a b q n → (n % 2 ≡ 1 → ⊥) → a' ≡ a → b₁ ≡ b → b' ≡ b₁ ⊕ b₁ ⊗ q → q' ≡ q ⊗ q →
       Turn t a' b' q' (n / 2)
-  turn-even {t} {a} {b} {q} {n = n} turn h ea e₁ eu eb eq =
+  turn-even {t} {a} {b} {q} {n = n} turn h ea e₁ eb eq =
       let whole : n / 2 + n / 2 ≡ n = omega arith in
-      rw (ea, eb, eq, e₁, eu) (record {
+      rw (ea, eb, eq, e₁) (record {
         reduced = turn .reduced;
-        left = solve₄ F L (λ a b q s. a :+ (b :* (:1 :+ q)) :* s := a :+ b :* ((:1 :+ q) :* s)) tt a b q (geometricSum F (q ⊗ q) (n / 2))
+        left = solve₄ F L (λ a b q s. a :+ (b :+ b :* q) :* s := a :+ b :* ((:1 :+ q) :* s)) tt a b q (geometricSum F (q ⊗ q) (n / 2))
             ∙ ap (λ (s : A). a ⊕ b ⊗ s) (sym (double q (n / 2)) ∙ ap (geometricSum F q) whole)
             ∙ turn .left;
       })
 
-  pub turn-odd : {t a b q a' b₁ u b' q' : A} {n : ℕ} → Turn t a b q n → n % 2 ≡ 1 → a' ≡ a ⊕ b → b₁ ≡ b ⊗ q → u ≡ 𝟙 ⊕ q → b' ≡ b₁ ⊗ u → q' ≡ q ⊗ q →
+  pub turn-odd : {t a b q a' b₁ b' q' : A} {n : ℕ} → Turn t a b q n → n % 2 ≡ 1 → a' ≡ a ⊕ b → b₁ ≡ b ⊗ q → b' ≡ b₁ ⊕ b₁ ⊗ q → q' ≡ q ⊗ q →
       Turn t a' b' q' (n / 2)
-  turn-odd {t} {a} {b} {q} {n = n} turn h ea e₁ eu eb eq =
+  turn-odd {t} {a} {b} {q} {n = n} turn h ea e₁ eb eq =
       let whole : suc (n / 2 + n / 2) ≡ n = omega arith in
-      rw (ea, eb, eq, e₁, eu) (record {
+      rw (ea, eb, eq, e₁) (record {
         reduced = L .reduce-add a b;
-        left = solve₄ F L (λ a b q s. (a :+ b) :+ ((b :* q) :* (:1 :+ q)) :* s := a :+ b :* (:1 :+ q :* ((:1 :+ q) :* s))) tt a b q (geometricSum F (q ⊗ q) (n / 2))
+        left = solve₄ F L (λ a b q s. (a :+ b) :+ (b :* q :+ (b :* q) :* q) :* s := a :+ b :* (:1 :+ q :* ((:1 :+ q) :* s))) tt a b q (geometricSum F (q ⊗ q) (n / 2))
             ∙ ap (λ (s : A). a ⊕ b ⊗ (𝟙 ⊕ q ⊗ s)) (sym (double q (n / 2)))
             ∙ ap (λ (s : A). a ⊕ b ⊗ s) (sym (sum-suc q (n / 2 + n / 2)) ∙ ap (geometricSum F q) whole)
             ∙ turn .left;

@@ -2,3 +2,4 @@ pub mod Newton
 pub mod Pairs
 pub mod NewtonLaws
 pub mod GeometricSum
+pub mod Inverses

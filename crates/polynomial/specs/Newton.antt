@@ -22,11 +22,19 @@ module _ {A : Type 0} (F : Field A) where
   newtonAt (a ∷ xs) [] x = 𝟘
   newtonAt (a ∷ xs) (c ∷ cs) x = newtonAt xs cs x ⊕ c ⊗ vanishAt xs x
 
+  -- the coefficient of one sample more, with the value y, where at its point the form of the others has `value` and their vanishing polynomial `vanish`
+  abbrev pub nextCoefficient : A → A → A → A
+  nextCoefficient value vanish y = (y ⊖ value) ⊗ inverse vanish
+
+  -- the same for a sample at b in front of one at a, whose coefficient is c: the others' values at b take the step over a
+  abbrev pub coefficientInFront : A → A → A → A → A → A → A
+  coefficientInFront value vanish a c b y = nextCoefficient (value ⊕ c ⊗ vanish) ((b ⊖ a) ⊗ vanish) y
+
   -- the coefficients of Newton's form through the points and values
   unfoldable pub newton : List A → List A → List A
   newton [] ys = []
   newton (x ∷ xs) [] = []
-  newton (x ∷ xs) (y ∷ ys) = let cs = newton xs ys in ((y ⊖ newtonAt xs cs x) ⊗ inverse (vanishAt xs x)) ∷ cs
+  newton (x ∷ xs) (y ∷ ys) = let cs = newton xs ys in nextCoefficient (newtonAt xs cs x) (vanishAt xs x) y ∷ cs
 
   -- the definition's corrected value at x, where the table sent has y, by Newton's form
   unfoldable pub newtonCorrected : List A → List A → A → A → A → A

@@ -1,21 +1,23 @@
 // Refusals 5 and 6: a word out of range, a fill word not zero.
 //
 // The walk of refusal 5 counts two rounds beside the rounds 1 to M: round 0 is table 0 with its fold coin, round M + 1 is the final coefficients and
-// indices. Each is then a run of elements and a run of indices below one limit, and the three functions before the walk give their numbers.
+// indices. Each is then a run of elements and a run of indices below one limit, and the functions before the walk give their numbers. A list of coins
+// alone has the same rounds with fewer elements, so that one walk serves the words of a stream and the coins of an order.
 use outcome::Found;
 ghost use mathlib.Core.Path.{_≡_};
-ghost use mathlib.Core.Bool.{not};
+ghost use mathlib.Core.Bool.{true, not};
 ghost use mathlib.Core.List.{map, zipWith};
 ghost use Prim.Native.Nat.{_+_, _≤_, _<_};
-ghost use lib.Dec.{eqb};
+ghost use lib.Dec.{eqb, leb};
 ghost use lib.ListN.{length, getD, drop};
+ghost use Rattle.definition.specs.Field.{primeOf};
 ghost use Rattle.definition.specs.Lists.{firstTrue};
-ghost use Rattle.definition.specs.Layout.{layout, wordsDue};
+ghost use Rattle.definition.specs.Layout.{coinKinds, layout, wordsDue};
 ghost use Rattle.definition.specs.Reading.{outOfRange, sheetTest};
 ghost use Rattle.definition.specs.Sheet.{sheetOf};
 ghost use Rattle.definition.specs.Verdict.{accepted};
 ghost use Rattle.outcome.specs.Meaning.{placeOf};
-ghost use Rattle.ranges.specs.Rounds.{divided, elementCount, indexCount, indexLimit};
+ghost use Rattle.ranges.specs.Rounds.{Fine, allLimits, divided, elementCount, indexCount, indexLimit};
 
 // A word, to count with: sums of a few words fit.
 fn word(w: &[u32], i: usize) -> usize
@@ -39,12 +41,30 @@ fn divide(x: usize, b: usize, times: usize) -> usize
     q
 }
 
-// How many elements a round begins with: table 0 and a fold coin; then table, out coins, replies and two coins; at last the final coefficients.
-fn elements(w: &[u32], round: usize) -> usize
+// How many elements the coins of a round begin with: a fold coin; then out coins and two coins; at last none.
+fn coin_elements(w: &[u32], round: usize) -> usize
+    requires { ⌜ 12 ≤ length (now w) ⌝ }
+    ensures { λ r. ⌜ r ≡ elementCount true (now (w .entry)) round ⌝ }
+{
+    if round == 0 {
+        return 1;
+    }
+    if round <= word(w, 4) {
+        return word(w, 5) + 2;
+    }
+    0
+}
+
+// How many elements a round begins with: table 0 and a fold coin; then table, out coins, replies and two coins; at last the final coefficients. Where the
+// coins stand alone, only they count.
+fn elements(w: &[u32], alone: bool, round: usize) -> usize
     requires { ⌜ 12 ≤ length (now w) ⌝ }
     requires { ⌜ 0 < getD (now w) 3 0 ⌝ }
-    ensures { λ r. ⌜ r ≡ elementCount (now (w .entry)) round ⌝ }
+    ensures { λ r. ⌜ r ≡ elementCount alone (now (w .entry)) round ⌝ }
 {
+    if alone {
+        return coin_elements(w, round);
+    }
     if round == 0 {
         return word(w, 1) + 1;
     }
@@ -78,26 +98,25 @@ fn limit(w: &[u32], round: usize) -> usize
     divide(word(w, 1), 2, round - 1) / word(w, 3)
 }
 
-// Refusal 5: the first word after the sheet that is not below its limit, by its number in the stream.
-pub fn out_of_range(w: &[u32]) -> Found
-    requires { ⌜ sheetTest (now w) ≡ accepted ⌝ }
-    requires { ⌜ wordsDue (sheetOf (now w)) ≤ length (now w) ⌝ }
-    ensures { λ r.
-        ⌜ placeOf r ≡ firstTrue 12 (zipWith (outOfRange (sheetOf (now (w .entry)))) (layout (sheetOf (now (w .entry)))) (drop 12 (now (w .entry)))) ⌝ }
+// The first of the words from number `from` on that is not below its limit, by its number. They are those after the sheet w, or the coins alone.
+fn first_beyond(w: &[u32], alone: bool, words: &[u32], from: usize) -> Found
+    requires { ⌜ Fine (now w) ⌝ }
+    requires { ⌜ from + length (allLimits alone (now w)) ≤ length (now words) ⌝ }
+    ensures { λ r. ⌜ placeOf r ≡ firstTrue from (zipWith leb (allLimits alone (now (w .entry))) (drop from (now (words .entry)))) ⌝ }
 {
     let p = field::modulus(w[0]) as usize;
     let rounds = word(w, 4) + 2;
     let mut found = Found::Nothing;
-    let mut at = 12;
+    let mut at = from;
     let mut round = 0;
     'walk: while round < rounds {
-        let first = elements(w, round);
+        let first = elements(w, alone, round);
         let count = first + indices(w, round);
         let below = limit(w, round);
         let mut j = 0;
         while j < count {
             let bound = if j < first { p } else { below };
-            if bound <= word(w, at) {
+            if bound <= word(words, at) {
                 found = Found::At(at);
                 break 'walk;
             }
@@ -107,6 +126,41 @@ pub fn out_of_range(w: &[u32]) -> Found
         round += 1;
     }
     found
+}
+
+// Refusal 5 of a stream: the first word after the sheet that is not below its limit, by its number in the stream.
+pub fn out_of_range(w: &[u32]) -> Found
+    requires { ⌜ sheetTest (now w) ≡ accepted ⌝ }
+    requires { ⌜ wordsDue (sheetOf (now w)) ≤ length (now w) ⌝ }
+    ensures { λ r.
+        ⌜ placeOf r ≡ firstTrue 12 (zipWith (outOfRange (sheetOf (now (w .entry)))) (layout (sheetOf (now (w .entry)))) (drop 12 (now (w .entry)))) ⌝ }
+{
+    first_beyond(w, false, w, 12)
+}
+
+// Refusal 5 of a full coin list: the first coin that is not below its limit, by its number in the list.
+pub fn coin_out_of_range(w: &[u32], coins: &[u32]) -> Found
+    requires { ⌜ (12 ≤ length (now w)) × (sheetTest (now w) ≡ accepted) ⌝ }
+    requires { ⌜ length (now coins) ≡ length (coinKinds (layout (sheetOf (now w)))) ⌝ }
+    ensures { λ r.
+        ⌜ placeOf r ≡ firstTrue 0 (zipWith (outOfRange (sheetOf (now (w .entry)))) (coinKinds (layout (sheetOf (now (w .entry))))) (now (coins .entry))) ⌝ }
+{
+    first_beyond(w, true, coins, 0)
+}
+
+// Refusal 5 of coefficients: the first that is no element, by its number.
+pub fn coefficient_out_of_range(field: u32, f: &[u32]) -> Found
+    ensures { λ r. ⌜ placeOf r ≡ firstTrue 0 (map (leb (primeOf field)) (now (f .entry))) ⌝ }
+{
+    let p = field::modulus(field);
+    let mut i = 0;
+    while i < f.len() {
+        if p <= f[i] {
+            return Found::At(i);
+        }
+        i += 1;
+    }
+    Found::Nothing
 }
 
 // Refusal 6: the first word after those due that is not zero, by its number in the stream.

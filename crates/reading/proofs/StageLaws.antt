@@ -16,25 +16,16 @@ use Rattle.definition.specs.Block.{blockCount, fileBlocks, streamOf, wrongCheck
 use Rattle.definition.specs.Verdict.{Outcome, accepted, refused, refuseAt, refuseIf, _then_}
 use Rattle.definition.specs.Reading.{lengthTest, checkTest, sheetTest, blocksTest, outOfRange, rangeTest, fillTest, bodyTests, streamTests, reading}
 use Rattle.outcome.specs.declared.Found.{Found}
-use Rattle.outcome.specs.declared.Found.the-variants.{At, Nothing}
+use Rattle.outcome.specs.declared.Found.the-variants.{Nothing}
 use Rattle.outcome.specs.declared.Outcome.{Outcome as Answered}
 use Rattle.outcome.specs.declared.Outcome.the-variants.{Refused}
-use Rattle.outcome.specs.Meaning.{outcomeOf, placeOf}
+use Rattle.outcome.specs.Meaning.{outcomeOf}
 use Rattle.sheet.specs.Rules.{refusal-of, none-broken}
 use Rattle.sheet.specs.Front.{test-front, sheet-front}
 use Rattle.stream.specs.FileWords.{stream-length}
 use Rattle.stream.specs.Loaded.{Loaded, loaded-all}
 use Rattle.reading.specs.Stages.{Loads, Read}
 use Rattle.reading.specs.Passed.{few-blocks}
-
--- an answer says where a test fails
-pub at-place : {r : Found} {place : ℕ} {t : Option ℕ} → placeOf r ≡ t → r ≡ At place → some place ≡ t
-unfolding placeOf
-at-place {r} {place} e h = sym (ap placeOf h) ∙ e
-
-pub nowhere : {r : Found} {t : Option ℕ} → placeOf r ≡ t → r ≡ Nothing → none ≡ t
-unfolding placeOf
-nowhere {r} e h = sym (ap placeOf h) ∙ e
 
 -- the tests of 5 and 6 by their first place
 unfoldable pub range : List ℕ → Option ℕ

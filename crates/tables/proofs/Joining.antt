@@ -1,31 +1,27 @@
 -- Two tables of the halves, joined, are the table of the whole; the table of a constant. Assumes nothing.
-use mathlib.Core.Path.{_≡_, _∙_, sym, ap, ap₂, refl, subst}
+use mathlib.Core.Path.{_≡_, _∙_, sym, ap, ap₂, refl}
 use mathlib.Core.List.{List, [], _∷_, _++_}
 use mathlib.Core.Logic.{_⊎_, inl, inr, ⊎-elim}
 use Prim.Native.Nat.{ℕ, _+_, _-_, _*_, _%_, _≤_, _<_}
 use native.Mathlib.Nat.{eq-zero-or-pos, mul-zero, add-zero, zero-mod}
 use native.Mathlib.Omega.{arith}
-use lib.ListN.{getD, replicate, getD-replicate, length-replicate, length-append, List·getD-append}
+use lib.ListN.{length, getD, replicate, getD-replicate, List·getD-append}
 use lib.Seq.{getD-append-add}
-use Rattle.definition.specs.Field.{Field, primeField, primeOf, fieldOf, power}
+use Rattle.definition.specs.Field.{Field, primeField, primeOf, fieldOf}
 use Rattle.definition.specs.Polynomial.{evaluate}
-use Rattle.algebra.specs.Laws.{FieldLaws}
-use Rattle.algebra.specs.RootsOfUnity.{minusOne}
-use Rattle.tables.specs.Halving.{strided, cosetPoint, Table, Joined}
-use Rattle.tables.proofs.EvenOdd.{even-odd, square-point, opposite-point, square-opposite, add-opposite}
+use Rattle.algebra.specs.PrimeField.{laws}
+use Rattle.domain.specs.Powers.{Powers}
+use Rattle.tables.specs.Halving.{strided, Spaced, pointAt, Table, Joined}
+use Rattle.tables.proofs.EvenOdd.{even-odd}
+use Rattle.tables.proofs.Squares.{near-square, far-square}
 
 lt-or-le : (i h : ℕ) → (i < h) ⊎ (h ≤ i)
 lt-or-le i h = ⊎-elim (λ z. inr (omega arith)) (λ z. inl (omega arith)) (eq-zero-or-pos (h - i))
 
--- a table at equal points and sizes
-pub same-table : (F : Field ℕ) {cs : List ℕ} {a a' g g' n n' : ℕ} {l : List ℕ} → Table F cs a g n l → a ≡ a' → g ≡ g' → n ≡ n' → Table F cs a' g' n' l
-same-table F {cs} {a} {a'} {g} {g'} {n} {n'} {l} t ea eg en =
-    subst (λ (x : ℕ). Table F cs x g' n' l) ea (subst (λ (x : ℕ). Table F cs a x n' l) eg (subst (λ (x : ℕ). Table F cs a g x l) en t))
-
-module _ (F : Field ℕ) (L : FieldLaws F) (s : List ℕ) (from stride d a g h : ℕ) (turn : power F g h ≡ minusOne F) (l₁ l₂ out : List ℕ) where
-  infixl 65 _⊕_ _⊖_
+module _ (field : ℕ) (s : List ℕ) (from stride d : ℕ) (pw : List ℕ) (at step h : ℕ) (spaced : Spaced at step (h + h) (length pw)) (l₁ l₂ out : List ℕ) where
+  infixl 65 _⊕_
   infixl 70 _⊗_
-  open Field F using (𝟘, _⊕_, _⊖_, _⊗_)
+  open Field (fieldOf field) using (_⊕_, _⊗_)
 
   abbrev whole : List ℕ
   whole = strided s from stride (d + d)
@@ -36,36 +32,33 @@ module _ (F : Field ℕ) (L : FieldLaws F) (s : List ℕ) (from stride d a g h :
   abbrev odd : List ℕ
   odd = strided s (from + stride) (2 * stride) d
 
-  module _ (t₁ : Table F even (a ⊗ a) (g ⊗ g) h l₁) (t₂ : Table F odd (a ⊗ a) (g ⊗ g) h l₂) (joined : Joined F a g h (l₁ ++ l₂) out) where
-    left : (j : ℕ) → j < h → getD (l₁ ++ l₂) j 0 ≡ evaluate F even (cosetPoint F (a ⊗ a) (g ⊗ g) j)
-    left j b = List·getD-append l₁ l₂ 0 j (omega (arith, t₁ .size)) ∙ t₁ .value j b
+  abbrev square : ℕ → ℕ
+  square j = pointAt pw (2 * at + 1) (2 * step) j
 
-    right : (j : ℕ) → j < h → getD (l₁ ++ l₂) (h + j) 0 ≡ evaluate F odd (cosetPoint F (a ⊗ a) (g ⊗ g) j)
-    right j b = ap (λ (n : ℕ). getD (l₁ ++ l₂) (n + j) 0) (sym (t₁ .size)) ∙ getD-append-add l₁ l₂ j 0 ∙ t₂ .value j b
+  module _ (one : length l₁ ≡ h) (t₁ : Table field even pw (2 * at + 1) (2 * step) h l₁) (t₂ : Table field odd pw (2 * at + 1) (2 * step) h l₂)
+      (joined : Joined (fieldOf field) pw at step h h (l₁ ++ l₂) out) (ω : ℕ) (w : Powers field ω pw) where
+    left : (j : ℕ) → j < h → getD (l₁ ++ l₂) j 0 ≡ evaluate (fieldOf field) even (square j)
+    left j b = List·getD-append l₁ l₂ 0 j (omega (arith, one)) ∙ t₁ ω w j b
+
+    right : (j : ℕ) → j < h → getD (l₁ ++ l₂) (h + j) 0 ≡ evaluate (fieldOf field) odd (square j)
+    right j b = ap (λ (n : ℕ). getD (l₁ ++ l₂) (n + j) 0) (sym one) ∙ getD-append-add l₁ l₂ j 0 ∙ t₂ ω w j b
 
     -- the value at a point x whose square is the halves' point
-    meet : (j x : ℕ) → j < h → x ⊗ x ≡ cosetPoint F (a ⊗ a) (g ⊗ g) j → getD (l₁ ++ l₂) j 0 ⊕ x ⊗ getD (l₁ ++ l₂) (h + j) 0 ≡ evaluate F whole x
+    meet : (j x : ℕ) → j < h → x ⊗ x ≡ square j → getD (l₁ ++ l₂) j 0 ⊕ x ⊗ getD (l₁ ++ l₂) (h + j) 0 ≡ evaluate (fieldOf field) whole x
     meet j x b e =
-        ap₂ (λ (u v : ℕ). u ⊕ x ⊗ v) (left j b ∙ ap (evaluate F even) (sym e)) (right j b ∙ ap (evaluate F odd) (sym e)) ∙ sym (even-odd F L s d from stride x)
+        ap₂ (λ (u v : ℕ). u ⊕ x ⊗ v) (left j b ∙ ap (evaluate (fieldOf field) even) (sym e)) (right j b ∙ ap (evaluate (fieldOf field) odd) (sym e))
+        ∙ sym (even-odd (fieldOf field) (laws field) s d from stride x)
 
-    low : (j : ℕ) → j < h → getD out j 0 ≡ evaluate F whole (cosetPoint F a g j)
-    low j b = joined .low j b ∙ meet j (cosetPoint F a g j) b (square-point F L a g j)
+    value : (i : ℕ) → i < h + h → (i < h) ⊎ (h ≤ i) → getD out i 0 ≡ evaluate (fieldOf field) whole (pointAt pw at step i)
+    value i b (inl c) = joined .low i c ∙ meet i (pointAt pw at step i) c (near-square field ω pw w at step h i spaced c)
+    value i b (inr c) =
+        let j = i - h in
+        let in-half : j < h = omega arith in
+        let e : h + j ≡ i = omega arith in
+        rw e at (joined .high j in-half ∙ meet j (pointAt pw at step (h + j)) in-half (far-square field ω pw w at step h j spaced in-half))
 
-    high : (j : ℕ) → j < h → getD out (h + j) 0 ≡ evaluate F whole (cosetPoint F a g (h + j))
-    high j b =
-        let x : ℕ = cosetPoint F a g j in
-        joined .high j b ∙ add-opposite F L (getD (l₁ ++ l₂) j 0) x (getD (l₁ ++ l₂) (h + j) 0)
-        ∙ meet j (𝟘 ⊖ x) b (square-opposite F L x ∙ square-point F L a g j) ∙ ap (evaluate F whole) (sym (opposite-point F L a g h j turn))
-
-    value : (i : ℕ) → i < h + h → (i < h) ⊎ (h ≤ i) → getD out i 0 ≡ evaluate F whole (cosetPoint F a g i)
-    value i b (inl c) = low i c
-    value i b (inr c) = let e : h + (i - h) ≡ i = omega arith in rw e at (high (i - h) (omega arith))
-
-    pub joined-table : Table F whole a g (h + h) out
-    joined-table = record {
-      size = joined .size ∙ length-append l₁ l₂ ∙ omega (arith, t₁ .size, t₂ .size);
-      value = λ i b. value i b (lt-or-le i h);
-    }
+    pub joined-table : (i : ℕ) → i < h + h → getD out i 0 ≡ evaluate (fieldOf field) whole (pointAt pw at step i)
+    joined-table i b = value i b (lt-or-le i h)
 
 constant : (field c x : ℕ) {cs : List ℕ} → cs ≡ c ∷ [] → c % primeOf field ≡ evaluate (fieldOf field) cs x
 unfolding evaluate fieldOf primeField
@@ -75,10 +68,8 @@ constant field c x e =
     ∙ ap (λ (m : ℕ). (c + m) % p) (zero-mod p) ∙ ap (λ (m : ℕ). m % p) (add-zero c))
 
 -- the table of one coefficient
-pub constant-table : (field : ℕ) (s : List ℕ) (from stride a g n : ℕ)
-    → Table (fieldOf field) (strided s from stride 1) a g n (replicate n (getD s from 0 % primeOf field))
+pub constant-table : (field : ℕ) (s : List ℕ) (from stride : ℕ) (pw : List ℕ) (at step n : ℕ)
+    → Table field (strided s from stride 1) pw at step n (replicate n (getD s from 0 % primeOf field))
 unfolding strided
-constant-table field s from stride a g n = record {
-  size = length-replicate n (getD s from 0 % primeOf field);
-  value = λ j b. getD-replicate n j (getD s from 0 % primeOf field) 0 b ∙ constant field (getD s from 0) (cosetPoint (fieldOf field) a g j) refl;
-}
+constant-table field s from stride pw at step n ω w j b =
+    getD-replicate n j (getD s from 0 % primeOf field) 0 b ∙ constant field (getD s from 0) (pointAt pw at step j) refl

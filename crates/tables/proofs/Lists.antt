@@ -28,7 +28,6 @@ reaches l l₁ h n e = simp (length-append, length-drop, e, length-take) (omega 
 -- l₁ and l₂ stand where the two halves of l were
 pub record Both (l l₁ l₂ : List ℕ) (h : ℕ) : Type 0 where
   pub one : length l₁ ≡ h
-  pub two : length l₂ ≡ h
   pub whole : putMid h (length (begun l l₁ h) - h) (begun l l₁ h) l₂ ≡ l₁ ++ l₂
   pub size : length (putMid h (length (begun l l₁ h) - h) (begun l l₁ h) l₂) ≡ h + h
 
@@ -44,4 +43,4 @@ both l l₁ l₂ h n e f =
     let one : length l₁ ≡ h = e ∙ first-length l h n in
     let two : length l₂ ≡ h = f ∙ second-length l l₁ h n e in
     let whole = together l l₁ l₂ h one in
-    record { one = one; two = two; whole = whole; size = ap length whole ∙ length-append l₁ l₂ ∙ omega (arith, one, two) }
+    record { one = one; whole = whole; size = ap length whole ∙ length-append l₁ l₂ ∙ omega (arith, one, two) }

@@ -2,17 +2,18 @@
 -- passed, and the places below i are as they were.
 use Prim.Native.Nat.{ℕ, _-_, _≤_, _<_}
 use native.Mathlib.Omega.{arith}
-use mathlib.Core.Path.{_≡_, refl}
-use mathlib.Core.List.{_∷_}
+use mathlib.Core.Path.{_≡_, refl, _∙_}
+use mathlib.Core.List.{[], _∷_}
 use lib.ListN.{length, take, drop, getD, length-set}
 use Rattle.definition.specs.Field.{fieldOf, primeField}
+use Rattle.algebra.specs.PrimeField.{laws}
 use Rattle.correction.proofs.Lists.{unchanged}
-use Rattle.correction.proofs.Division.{scheme, scheme-start, scheme-turn, scheme-end}
+use Rattle.correction.proofs.Division.{schemes, schemes-start, one-turn, schemes-end, quotient-one}
 use Rattle.correction.proofs.divide.Statement.{statement}
 use Rattle.correction.proofs.divide.Tie as tie
 
 abbrev Inv-loop : tie.InvT-loop
-Inv-loop field a f₀ count above₀ i₀ f above i = (i ≤ count) × ((length f ≡ length f₀) × (((j : ℕ) → j < i → getD f j 0 ≡ getD f₀ j 0) × (above ∷ take (count - i) (drop i f) ≡ scheme (fieldOf field) a (take (count - i) (drop i f₀)))))
+Inv-loop field a f₀ count above₀ i₀ f above i = (i ≤ count) × ((length f ≡ length f₀) × (((j : ℕ) → j < i → getD f j 0 ≡ getD f₀ j 0) × (above ∷ take (count - i) (drop i f) ≡ schemes (fieldOf field) (a ∷ []) (take (count - i) (drop i f₀)))))
 
 abbrev μ-loop : tie.MeasureT-loop
 μ-loop field a f₀ count above₀ i₀ f above i = i
@@ -21,7 +22,7 @@ loop-holds : tie.Need-loop-holds Inv-loop μ-loop
 unfolding fieldOf primeField
 loop-holds c =
     let a = c .before .args in
-    (omega arith, (refl, (λ j h. refl, scheme-start (fieldOf (a .field)) (a .f .now) (a .f .now) (a .count) (a .a))))
+    (omega arith, (refl, (λ j h. refl, schemes-start (fieldOf (a .field)) (a .a ∷ []) (a .f .now) (a .f .now) (a .count))))
 
 sub-i : tie.Need-sub-i Inv-loop μ-loop
 sub-i c = omega arith
@@ -38,26 +39,23 @@ mul-f c = omega arith
 slice-write-f : tie.Need-slice-write-f Inv-loop μ-loop
 slice-write-f c = omega arith
 
-mul-requires : tie.Need-mul-requires Inv-loop μ-loop
-mul-requires c κs = omega arith
-
-add-requires : tie.Need-add-requires Inv-loop μ-loop
-add-requires c κs = omega arith
+add-product-requires : tie.Need-add-product-requires Inv-loop μ-loop
+add-product-requires c κs = omega arith
 
 loop-less : tie.Need-loop-less Inv-loop μ-loop
 loop-less c = omega arith
 
 loop-again : tie.Need-loop-again Inv-loop μ-loop
 loop-again c =
-    let l = c .before .before .before .before .loop in
-    let a = c .before .before .before .before .before .before .args in
+    let l = c .before .before .before .loop in
+    let a = c .before .before .before .before .before .args in
     let n = l .inv .1 in (
       omega arith,
       (
         simp length-set (n .0),
         (
           unchanged (l .f) (a .f .now) (l .i) (l .above) (n .1 .0) (omega arith),
-          scheme-turn (fieldOf (a .field)) (a .f .now) (l .f) (a .count) (l .i) (a .a) (omega arith) (omega arith) (omega arith) (omega arith) (n .1 .0 (l .i - 1) (omega arith)) (n .1 .1) (c .before .mul .ensures) (c .add .ensures),
+          one-turn (fieldOf (a .field)) (a .f .now) (l .f) (a .count) (l .i) (a .a) (omega arith) (omega arith) (omega arith) (omega arith) (n .1 .0 (l .i - 1) (omega arith)) (n .1 .1) (c .add-product .ensures),
         ),
       ),
     )
@@ -69,7 +67,8 @@ returns : tie.Need-returns Inv-loop μ-loop
 returns c =
     let l = c .before .loop in
     let a = c .before .before .before .args in
-    scheme-end (fieldOf (a .field)) (a .f .now) (l .f) (a .count) (l .i) (a .a) (omega arith) (omega arith) (l .inv .1 .1 .1)
+    schemes-end (fieldOf (a .field)) (laws (a .field)) (a .a ∷ []) (l .above ∷ []) (a .f .now) (l .f) (a .count) (l .i) refl (omega arith) (omega arith) (l .inv .1 .1 .1)
+    ∙ quotient-one (fieldOf (a .field)) (take (a .count) (a .f .now)) (a .a)
 
 pub divide-spec : {M : Type 1} → statement M
 divide-spec =
@@ -83,8 +82,7 @@ divide-spec =
     slice-read-coefficient
     mul-f
     slice-write-f
-    mul-requires
-    add-requires
+    add-product-requires
     loop-less
     loop-again
     same-length

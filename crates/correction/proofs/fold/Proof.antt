@@ -22,19 +22,31 @@ loop-holds c =
 sub-j : tie.Need-sub-j Inv-loop μ-loop
 sub-j c = omega arith
 
-mul-value-of : tie.Need-mul-value-of Inv-loop μ-loop
-mul-value-of c =
+-- the chunk lies inside f, and so each number on the way to it fits
+part-value-at-end : tie.Need-part-value-at-end Inv-loop μ-loop
+part-value-at-end c =
     let l = c .before .loop in
     let s = c .before .before .before .before in
     let a = s .args in
     omega (arith, chunk-inside (l .j) (a .k) (length (a .out .now)) (length (a .f .now)) (omega arith) (l .inv .0) (s .pre .1))
 
-value-of-requires : tie.Need-value-of-requires Inv-loop μ-loop
-value-of-requires c κs =
-    let l = c .before .loop in
-    let s = c .before .before .before .before in
-    let a = s .args in
-    omega (arith, chunk-inside (l .j) (a .k) (length (a .out .now)) (length (a .f .now)) (omega arith) (l .inv .0) (s .pre .1))
+mul-from : tie.Need-mul-from Inv-loop μ-loop
+mul-from c = omega (arith, part-value-at-end c)
+
+add-value-at : tie.Need-add-value-at Inv-loop μ-loop
+add-value-at c = omega (arith, part-value-at-end c)
+
+mul-value-at : tie.Need-mul-value-at Inv-loop μ-loop
+mul-value-at c = omega (arith, part-value-at-end c)
+
+sub-value-at : tie.Need-sub-value-at Inv-loop μ-loop
+sub-value-at c = omega arith
+
+part-value-at-start : tie.Need-part-value-at-start Inv-loop μ-loop
+part-value-at-start c = omega arith
+
+value-at-requires : tie.Need-value-at-requires Inv-loop μ-loop
+value-at-requires c κs = tt
 
 mul-out : tie.Need-mul-out Inv-loop μ-loop
 mul-out c = omega arith
@@ -47,10 +59,15 @@ loop-less c = omega arith
 
 loop-again : tie.Need-loop-again Inv-loop μ-loop
 loop-again c =
-    let l = c .before .before .loop in
-    let a = c .before .before .before .before .before .args in
-    let n = l .inv .1 in
-    (omega arith, (simp length-set (n .0), fold-turn (fieldOf (a .field)) (a .f .now) (l .out) (a .k) (a .r) (length (a .out .now)) (l .j) (omega arith) (l .inv .0) (n .0) (n .1) (c .value-of .ensures)))
+    let l = c .before .before .before .loop in
+    let a = c .before .before .before .before .before .before .args in
+    let n = l .inv .1 in (
+      omega arith,
+      (
+        simp length-set (n .0),
+        fold-turn (fieldOf (a .field)) (a .f .now) (l .out) (a .k) (a .r) (length (a .out .now)) (l .j) (omega arith) (l .inv .0) (n .0) (n .1) (c .value-at .ensures),
+      ),
+    )
 
 same-length : tie.Need-same-length Inv-loop μ-loop
 same-length c = omega arith
@@ -70,8 +87,13 @@ fold-spec =
     μ-loop
     loop-holds
     sub-j
-    mul-value-of
-    value-of-requires
+    mul-from
+    add-value-at
+    mul-value-at
+    sub-value-at
+    part-value-at-start
+    part-value-at-end
+    value-at-requires
     mul-out
     slice-write-out
     loop-less

@@ -14,7 +14,7 @@ use borrow.Fn.PlainCycle.{Measures, is, falls, and}
 use Rattle.deciding.proofs.outs.Reads as outs
 use Rattle.deciding.proofs.outs.Kinds as outs-kinds
 use Rattle.deciding.proofs.+outs.Lts-outs as outs-lts
-use Rattle.deciding.proofs.first_inside.Reads as first-inside-reads
+use Rattle.domain.proofs.first_inside.Reads as first-inside-reads
 use Rattle.deciding.proofs.next_stand.Reads as next-stand-reads
 use Rattle.deciding.proofs.+outs.{statement}
 use Rattle.deciding.proofs.+outs.Tie.{close}

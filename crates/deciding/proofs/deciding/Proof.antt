@@ -3,8 +3,8 @@ use mathlib.Core.Path.{sym}
 use native.Mathlib.Omega.{arith}
 use lib.ListN.{getD}
 use lib.Seq.{length-take-le}
-use Rattle.deciding.specs.First.{fitting, shaped}
-use Rattle.deciding.proofs.Ready.{points-there, still-within}
+use Rattle.domain.specs.OfSheet.{fitting, points-there, still-within}
+use Rattle.deciding.specs.First.{shaped}
 use borrow.Author.Needs.{needs}
 use Rattle.deciding.proofs.deciding.Statement.{statement}
 use Rattle.deciding.proofs.deciding.Tie as tie
@@ -48,7 +48,7 @@ points-requires c κs =
     let s = c .before .before .before .before .before in
     let w = s .args .w .now in
     let h = shaped w (s .pre .0 .0) (s .pre .1) in
-    (fitting w (s .pre .0 .0) (s .pre .1), length-take-le (getD w 1 0) (c .before .before .points-room .result) (omega (arith, h .size, c .before .before .points-room .ensures)))
+    (fitting w (s .pre .0 .0), length-take-le (getD w 1 0) (c .before .before .points-room .result) (omega (arith, h .size, c .before .before .points-room .ensures)))
 
 array-share-prefix-pw : tie.Need-array-share-prefix-pw
 array-share-prefix-pw c =

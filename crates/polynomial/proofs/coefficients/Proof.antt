@@ -1,90 +1,64 @@
--- `polynomial::coefficients` meets its contract: from number i on the coefficients stand in out. Assumes nothing.
-use mathlib.Core.Path.{_≡_}
-use Prim.Native.Nat.{_≤_}
+-- `polynomial::coefficients` meets its contract: from number i on the coefficients stand in out, and an even number is left. Assumes nothing.
+use mathlib.Core.Path.{_≡_, _∙_}
+use mathlib.Core.Logic.{⊎-elim}
 use native.Mathlib.Omega.{arith}
-use lib.ListN.{length, drop, length-set}
-use borrow.Author.Needs.{needs}
 use Rattle.definition.specs.Field.{fieldOf}
-use Rattle.polynomial.specs.Newton.{newton}
-use Rattle.polynomial.proofs.Walks.{step-end, step-turn}
+use Rattle.polynomial.proofs.Walks.{step-end, Filled, filled-none, filled-one}
 use Rattle.polynomial.proofs.coefficients.Statement.{statement}
 use Rattle.polynomial.proofs.coefficients.Tie as tie
 
 abbrev Inv-loop : tie.InvT-loop
 Inv-loop field xs ys from out₀ i₀ out i =
-    (from ≤ i) × ((i ≤ length xs) × ((length out ≡ length xs) × (drop i out ≡ newton (fieldOf field) (drop i xs) (drop i ys))))
+    Filled (fieldOf field) xs ys from out i
 
 abbrev μ-loop : tie.MeasureT-loop
 μ-loop field xs ys from out₀ i₀ out i = i
 
-loop-holds : tie.Need-loop-holds Inv-loop μ-loop
-loop-holds c =
-    let a = c .before .before .before .args in
-    (omega arith, (omega arith, (omega arith, step-end (fieldOf (a .field)) (a .xs .now) _ (a .out .now) (omega arith))))
+sub-if1 : tie.Need-sub-if1 Inv-loop μ-loop
+sub-if1 c = omega arith
 
-sub-newton-at : tie.Need-sub-newton-at Inv-loop μ-loop
-sub-newton-at c = omega arith
-
-mul-newton-at : tie.Need-mul-newton-at Inv-loop μ-loop
-mul-newton-at c = omega arith
-
-shared-slice-read-newton-at : tie.Need-shared-slice-read-newton-at Inv-loop μ-loop
-shared-slice-read-newton-at c = omega arith
-
-newton-at-requires : tie.Need-newton-at-requires Inv-loop μ-loop
-newton-at-requires c κs = omega arith
+one-more-requires : tie.Need-one-more-requires Inv-loop μ-loop
+one-more-requires c κs =
+    let a = c .before .before .before .before .before .args in
+    (omega arith, step-end (fieldOf (a .field)) (a .xs .now) _ (a .out .now) (omega arith))
 
 sub-i : tie.Need-sub-i Inv-loop μ-loop
 sub-i c = omega arith
 
-mul-sub : tie.Need-mul-sub Inv-loop μ-loop
-mul-sub c = omega arith
+loop-holds : tie.Need-loop-holds Inv-loop μ-loop
+loop-holds c =
+    let s = c .before .before .before .before in
+    let a = s .args in
+    let F = fieldOf (a .field) in
+    ⊎-elim
+    (λ w. filled-one F (a .xs .now) (a .ys .now) (a .from) (s .pre .0) (w .2 .kept .1 .1 .1 .1 .0 ∙ s .pre .1 .1) (w .0 .taken) (w .2 .ensures) (w .5) (w .6))
+    (λ w. filled-none F (a .xs .now) (a .ys .now) (a .from) (s .pre .0) (s .pre .1 .1) (w .0 .left) (w .1) (w .2))
+    (c .if1 .came)
 
-shared-slice-read-sub : tie.Need-shared-slice-read-sub Inv-loop μ-loop
-shared-slice-read-sub c = omega arith
+two-more-requires : tie.Need-two-more-requires Inv-loop μ-loop
+two-more-requires c κs = (omega arith, c .before .before .loop .inv .1 .1 .1 .1)
 
-sub-requires : tie.Need-sub-requires Inv-loop μ-loop
-sub-requires c κs = search needs
-
-inv-requires : tie.Need-inv-requires Inv-loop μ-loop
-inv-requires c κs = search needs
-
-mul-requires : tie.Need-mul-requires Inv-loop μ-loop
-mul-requires c κs = search needs
-
-mul-out : tie.Need-mul-out Inv-loop μ-loop
-mul-out c = omega arith
-
-slice-write-out : tie.Need-slice-write-out Inv-loop μ-loop
-slice-write-out c = omega arith
+sub-i-2 : tie.Need-sub-i-2 Inv-loop μ-loop
+sub-i-2 c = omega arith
 
 loop-less : tie.Need-loop-less Inv-loop μ-loop
 loop-less c = omega arith
 
 loop-again : tie.Need-loop-again Inv-loop μ-loop
 loop-again c =
-    let l = c .before .before .before .before .before .before .before .before .loop in
-    let a = c .before .before .before .before .before .before .before .before .before .before .before .before .args in
-    let n = c .before .before .before .before .newton-at in (
-      omega arith,
-      (
-        omega arith,
-        (
-          simp length-set (l .inv .1 .1 .0),
-          step-turn (fieldOf (a .field)) (a .xs .now) (a .ys .now) (l .out) (l .i) (omega arith) (omega arith) (omega arith) (omega arith) (l .inv .1 .1 .1) (n .ensures .0) (n .ensures .1) (c .before .before .sub .ensures) (c .before .inv .ensures) (c .mul .ensures),
-        ),
-      ),
-    )
+    let l = c .before .before .before .before .before .before .loop in
+    let t = c .before .before .before .two-more in
+    (omega arith, (omega arith, (t .kept .1 .1 .1 .1 .0 ∙ l .inv .1 .1 .0, (omega arith, t .ensures))))
 
 same-length : tie.Need-same-length Inv-loop μ-loop
 same-length c = omega arith
 
 returns : tie.Need-returns Inv-loop μ-loop
 returns c =
-    let a = c .before .before .before .before .before .args in
+    let a = c .before .before .before .before .before .before .args in
     let l = c .before .loop in
     let z : l .i ≡ a .from = omega arith in
-    rw z at (l .inv .1 .1 .1)
+    rw z at (l .inv .1 .1 .1 .1)
 
 pub coefficients-spec : {M : Type 1} → statement M
 coefficients-spec =
@@ -92,19 +66,12 @@ coefficients-spec =
     (tie.spec
     Inv-loop
     μ-loop
-    loop-holds
-    sub-newton-at
-    mul-newton-at
-    shared-slice-read-newton-at
-    newton-at-requires
+    sub-if1
+    one-more-requires
     sub-i
-    mul-sub
-    shared-slice-read-sub
-    sub-requires
-    inv-requires
-    mul-requires
-    mul-out
-    slice-write-out
+    loop-holds
+    two-more-requires
+    sub-i-2
     loop-less
     loop-again
     same-length

@@ -32,29 +32,24 @@ add-requires c κs = search needs
 mul-requires-2 : tie.Need-mul-requires-2 Inv-loop μ-loop
 mul-requires-2 c κs = search needs
 
-add-requires-2 : tie.Need-add-requires-2 Inv-loop μ-loop
-add-requires-2 c κs = search needs
+add-product-requires : tie.Need-add-product-requires Inv-loop μ-loop
+add-product-requires c κs = search needs
 
 mul-requires-3 : tie.Need-mul-requires-3 Inv-loop μ-loop
 mul-requires-3 c κs = search needs
-
-mul-requires-4 : tie.Need-mul-requires-4 Inv-loop μ-loop
-mul-requires-4 c κs = search needs
 
 loop-less : tie.Need-loop-less Inv-loop μ-loop
 loop-less c = omega arith
 
 loop-again : tie.Need-loop-again Inv-loop μ-loop
-unfolding fieldOf primeField
 loop-again c =
-    let l = c .before .before .before .before .before .loop in
-    let a = c .before .before .before .before .before .before .before .args in
+    let l = c .before .before .before .before .loop in
+    let a = c .before .before .before .before .before .before .args in
     let F = fieldOf (a .field) in
-    let u = c .before .before .add2 .ensures in
     ⊎-elim
-    (λ w. turn-odd F (laws (a .field)) (l .inv) (w .0 .taken) (w .3 ∙ w .1 .ensures) (w .4 ∙ w .2 .ensures) u (c .before .mul3 .ensures) (c .mul4 .ensures))
-    (λ w. turn-even F (laws (a .field)) (l .inv) (w .0 .left) (w .1) (w .2) u (c .before .mul3 .ensures) (c .mul4 .ensures))
-    (c .before .before .before .if1 .came)
+    (λ w. turn-odd F (laws (a .field)) (l .inv) (w .0 .taken) (w .3 ∙ w .1 .ensures) (w .4 ∙ w .2 .ensures) (c .before .add-product .ensures) (c .mul3 .ensures))
+    (λ w. turn-even F (laws (a .field)) (l .inv) (w .0 .left) (w .1) (w .2) (c .before .add-product .ensures) (c .mul3 .ensures))
+    (c .before .before .if1 .came)
 
 returns : tie.Need-returns Inv-loop μ-loop
 returns c =
@@ -72,9 +67,8 @@ geometric-at-spec =
     loop-holds
     add-requires
     mul-requires-2
-    add-requires-2
+    add-product-requires
     mul-requires-3
-    mul-requires-4
     loop-less
     loop-again
     returns)

@@ -25,26 +25,23 @@ loop-holds c =
 sub-i : tie.Need-sub-i Inv-loop μ-loop
 sub-i c = omega arith
 
-mul-add : tie.Need-mul-add Inv-loop μ-loop
-mul-add c = omega arith
+mul-add-product : tie.Need-mul-add-product Inv-loop μ-loop
+mul-add-product c = omega arith
 
-shared-slice-read-add : tie.Need-shared-slice-read-add Inv-loop μ-loop
-shared-slice-read-add c = omega arith
+shared-slice-read-add-product : tie.Need-shared-slice-read-add-product Inv-loop μ-loop
+shared-slice-read-add-product c = omega arith
 
-mul-requires : tie.Need-mul-requires Inv-loop μ-loop
-mul-requires c κs = search needs
-
-add-requires : tie.Need-add-requires Inv-loop μ-loop
-add-requires c κs = search needs
+add-product-requires : tie.Need-add-product-requires Inv-loop μ-loop
+add-product-requires c κs = search needs
 
 loop-less : tie.Need-loop-less Inv-loop μ-loop
 loop-less c = omega arith
 
 loop-again : tie.Need-loop-again Inv-loop μ-loop
 loop-again c =
-    let l = c .before .before .before .before .loop in
-    let a = c .before .before .before .before .before .before .args in
-    (omega arith, evaluate-turn (fieldOf (a .field)) (a .coefficients .now) (l .i) (a .x) (omega arith) (omega arith) (l .inv .1) (c .before .mul .ensures) (c .add .ensures))
+    let l = c .before .before .before .loop in
+    let a = c .before .before .before .before .before .args in
+    (omega arith, evaluate-turn (fieldOf (a .field)) (a .coefficients .now) (l .i) (a .x) (omega arith) (omega arith) (l .inv .1) (c .add-product .ensures))
 
 returns : tie.Need-returns Inv-loop μ-loop
 returns c =
@@ -61,10 +58,9 @@ value-at-spec =
     μ-loop
     loop-holds
     sub-i
-    mul-add
-    shared-slice-read-add
-    mul-requires
-    add-requires
+    mul-add-product
+    shared-slice-read-add-product
+    add-product-requires
     loop-less
     loop-again
     returns)

@@ -6,7 +6,8 @@ use lib.Seq.{length-take-le}
 use borrow.Author.Needs.{needs}
 use Rattle.outcome.specs.Meaning.{outcomeOf}
 use Rattle.sheet.specs.Rules.{none-broken}
-use Rattle.reading.proofs.StageLaws.{at-place, nowhere, front-passes, due-fits, sheet-broken, other-blocks, whole}
+use Rattle.outcome.specs.Answers.{at-place, nowhere}
+use Rattle.reading.proofs.StageLaws.{front-passes, due-fits, sheet-broken, other-blocks, whole}
 use Rattle.reading.proofs.after_checks.Statement.{statement}
 use Rattle.reading.proofs.after_checks.Tie as tie
 use Rattle.reading.proofs.after_checks.Reads as reads

@@ -3,7 +3,8 @@ use mathlib.Core.Path.{_≡_, sym, ap, _∙_}
 use native.Mathlib.Omega.{arith}
 use borrow.Author.Needs.{needs}
 use Rattle.outcome.specs.Meaning.{outcomeOf}
-use Rattle.reading.proofs.StageLaws.{at-place, nowhere, range, fill-from, out-of-range, not-filled, body-passes, long-enough}
+use Rattle.outcome.specs.Answers.{at-place, nowhere}
+use Rattle.reading.proofs.StageLaws.{range, fill-from, out-of-range, not-filled, body-passes, long-enough}
 use Rattle.reading.proofs.body.Statement.{statement}
 use Rattle.reading.proofs.body.Tie as tie
 use Rattle.reading.proofs.body.Reads as reads

@@ -1,7 +1,8 @@
 use mathlib.Core.Path.{_≡_, sym, ap, _∙_}
 use native.Mathlib.Omega.{arith}
 use borrow.Author.Needs.{needs}
-use Rattle.reading.proofs.StageLaws.{at-place, nowhere, empty, no-blocks, wrong-check, checks-pass, loads-stream, read-refused, read-loaded}
+use Rattle.outcome.specs.Answers.{at-place, nowhere}
+use Rattle.reading.proofs.StageLaws.{empty, no-blocks, wrong-check, checks-pass, loads-stream, read-refused, read-loaded}
 use Rattle.reading.proofs.read.Statement.{statement}
 use Rattle.reading.proofs.read.Tie as tie
 use Rattle.reading.proofs.read.Reads as reads

@@ -1,0 +1,156 @@
+// The tests that prove and encode make of an order before they write anything: refusals 3, 5, 7, 10 and 11, up to the first that fails. An order is a sheet w,
+// coefficients f, for prove coins, and an output, of which only its size counts here.
+use outcome::Found;
+use outcome::Outcome;
+ghost use mathlib.Core.Path.{_≡_};
+ghost use mathlib.Core.List.{List, _++_};
+ghost use Prim.Native.Nat.{ℕ, _≤_};
+ghost use lib.ListN.{length, getD};
+ghost use Rattle.definition.specs.Layout.{coinKinds, layout};
+ghost use Rattle.definition.specs.Prove.{coinDomainTest, encodeTests, inputRangeTest, proveTests, sheetLengthTest};
+ghost use Rattle.definition.specs.Reading.{sheetTest};
+ghost use Rattle.definition.specs.Sheet.{rootOfUnity, sheetOf};
+ghost use Rattle.definition.specs.Verdict.{accepted, refuseAt, _then_};
+ghost use Rattle.domain.specs.Powers.{Powers};
+ghost use Rattle.outcome.specs.Meaning.{outcomeOf, placeOf};
+
+// Refusal 5 of prove: the first word out of range, by its position in the coefficients followed by the coins.
+fn input_out_of_range(w: &[u32], f: &[u32], coins: &[u32]) -> Found
+    requires { ⌜ (12 ≤ length (now w)) × (sheetTest (now w) ≡ accepted) ⌝ }
+    requires { ⌜ length (now f) ≡ getD (now w) 2 0 ⌝ }
+    requires { ⌜ length (now coins) ≡ length (coinKinds (layout (sheetOf (now w)))) ⌝ }
+    ensures { λ r.
+        ⌜ refuseAt 5 (placeOf r) ≡ inputRangeTest (sheetOf (now (w .entry))) (coinKinds (layout (sheetOf (now (w .entry))))) (now (f .entry) ++ now (coins .entry)) ⌝ }
+{
+    let coefficient = ranges::coefficient_out_of_range(w[0], f);
+    if let Found::At(place) = coefficient {
+        return Found::At(place);
+    }
+    let coin = ranges::coin_out_of_range(w, coins);
+    if let Found::At(place) = coin {
+        return Found::At(f.len() + place);
+    }
+    Found::Nothing
+}
+
+// The first out coin of a round that lies in the round's domain, by its position in the coins and by the table of points.
+fn coin_inside(w: &[u32], pw: &[u32], coins: &[u32]) -> Found
+    requires { ⌜ (12 ≤ length (now w)) × (sheetTest (now w) ≡ accepted) ⌝ }
+    requires { ⌜ length (now coins) ≡ length (coinKinds (layout (sheetOf (now w)))) ⌝ }
+    requires { ⌜ (Powers (getD (now w) 0 0) (rootOfUnity (sheetOf (now w))) (now pw)) × (length (now pw) ≡ getD (now w) 1 0) ⌝ }
+    ensures { λ r. ⌜ refuseAt 7 (placeOf r) ≡ coinDomainTest (sheetOf (now (w .entry))) (now (coins .entry)) ⌝ }
+{
+    let rounds = w[4] as usize;
+    let s = w[5] as usize;
+    // fold coin 0 is behind
+    let mut at = 1;
+    let mut scale = 1;
+    let mut i = 0;
+    while i < rounds {
+        scale *= 2;
+        let first = domain::first_inside(coins, pw, scale, at, s);
+        if let Found::At(place) = first {
+            return Found::At(place);
+        }
+        // out coins, combination coin, fold coin, shift indices
+        at += s + 2 + w[6 + i] as usize;
+        i += 1;
+    }
+    Found::Nothing
+}
+
+// Refusal 7 of prove: the same, with the table of points made for it.
+fn coin_in_domain(w: &[u32], coins: &[u32]) -> Found
+    requires { ⌜ (12 ≤ length (now w)) × (sheetTest (now w) ≡ accepted) ⌝ }
+    requires { ⌜ length (now coins) ≡ length (coinKinds (layout (sheetOf (now w)))) ⌝ }
+    ensures { λ r. ⌜ refuseAt 7 (placeOf r) ≡ coinDomainTest (sheetOf (now (w .entry))) (now (coins .entry)) ⌝ }
+{
+    let size = w[1] as usize;
+    let mut pw = domain::points_room();
+    domain::points(w[0], size, &mut pw[..size]);
+    coin_inside(w, &pw[..size], coins)
+}
+
+// What both begin with: the sheet is 12 words long (else 10), and none of them breaks its rule (else 3).
+fn sheet_tests(w: &[u32]) -> Outcome
+    ensures { λ r. ⌜ outcomeOf r ≡ (sheetLengthTest (now (w .entry)) then sheetTest (now (w .entry))) ⌝ }
+{
+    if w.len() != 12 {
+        return Outcome::Refused(10, 0);
+    }
+    let broken = sheet::broken(w);
+    if let Found::At(place) = broken {
+        return Outcome::Refused(3, place);
+    }
+    Outcome::Accepted
+}
+
+// The tests of prove after the sheet's.
+fn prove_after_sheet(w: &[u32], f: &[u32], coins: &[u32], room: usize) -> Outcome
+    requires { ⌜ (12 ≤ length (now w)) × (sheetTest (now w) ≡ accepted) ⌝ }
+    ensures { λ r.
+        ⌜ ((output : List ℕ) → length output ≡ room → outcomeOf r ≡ proveTests (sheetOf (now (w .entry))) (now (f .entry)) (now (coins .entry)) output) ⌝ }
+{
+    if f.len() != w[2] as usize {
+        return Outcome::Refused(10, 1);
+    }
+    if coins.len() != sheet::coins_due(w) {
+        return Outcome::Refused(10, 2);
+    }
+    let range = input_out_of_range(w, f, coins);
+    if let Found::At(place) = range {
+        return Outcome::Refused(5, place);
+    }
+    let inside = coin_in_domain(w, coins);
+    if let Found::At(place) = inside {
+        return Outcome::Refused(7, place);
+    }
+    let blocks = sheet::blocks_due(w);
+    if room < 512 * blocks {
+        return Outcome::Refused(11, blocks);
+    }
+    Outcome::Accepted
+}
+
+// The tests of encode after the sheet's.
+fn encode_after_sheet(w: &[u32], f: &[u32], room: usize) -> Outcome
+    requires { ⌜ (12 ≤ length (now w)) × (sheetTest (now w) ≡ accepted) ⌝ }
+    ensures { λ r. ⌜ ((output : List ℕ) → length output ≡ room → outcomeOf r ≡ encodeTests (sheetOf (now (w .entry))) (now (f .entry)) output) ⌝ }
+{
+    if f.len() != w[2] as usize {
+        return Outcome::Refused(10, 1);
+    }
+    let range = ranges::coefficient_out_of_range(w[0], f);
+    if let Found::At(place) = range {
+        return Outcome::Refused(5, place);
+    }
+    let size = w[1] as usize;
+    if room < size {
+        return Outcome::Refused(11, size);
+    }
+    Outcome::Accepted
+}
+
+// The tests of an order to prove; `room` is the number of bytes of the output.
+pub fn prove_tests(w: &[u32], f: &[u32], coins: &[u32], room: usize) -> Outcome
+    ensures { λ r.
+        ⌜ ((output : List ℕ) → length output ≡ room → outcomeOf r ≡ (sheetLengthTest (now (w .entry)) then sheetTest (now (w .entry)) then proveTests (sheetOf (now (w .entry))) (now (f .entry)) (now (coins .entry)) output)) ⌝ }
+{
+    let sheet = sheet_tests(w);
+    if let Outcome::Refused(number, place) = sheet {
+        return Outcome::Refused(number, place);
+    }
+    prove_after_sheet(w, f, coins, room)
+}
+
+// The tests of an order to encode; `room` is the number of words of the output.
+pub fn encode_tests(w: &[u32], f: &[u32], room: usize) -> Outcome
+    ensures { λ r.
+        ⌜ ((output : List ℕ) → length output ≡ room → outcomeOf r ≡ (sheetLengthTest (now (w .entry)) then sheetTest (now (w .entry)) then encodeTests (sheetOf (now (w .entry))) (now (f .entry)) output)) ⌝ }
+{
+    let sheet = sheet_tests(w);
+    if let Outcome::Refused(number, place) = sheet {
+        return Outcome::Refused(number, place);
+    }
+    encode_after_sheet(w, f, room)
+}
