@@ -9,11 +9,8 @@ use tevrolig_model::{self as model, field, stream};
 /// The fences, made once.
 struct Fences {
     file: Fence<u8>,
-    #[cfg(feature = "orders")]
     lists: [Fence<u32>; 3],
-    #[cfg(feature = "orders")]
     output: Fence<u8>,
-    #[cfg(feature = "orders")]
     table: Fence<u32>,
 }
 
@@ -21,11 +18,8 @@ impl Fences {
     fn new() -> Fences {
         Fences {
             file: Fence::new(),
-            #[cfg(feature = "orders")]
             lists: [Fence::new(), Fence::new(), Fence::new()],
-            #[cfg(feature = "orders")]
             output: Fence::new(),
-            #[cfg(feature = "orders")]
             table: Fence::new(),
         }
     }
@@ -69,11 +63,7 @@ fn verdicts(fences: &mut Fences, file: &[u8]) -> tevrolig::Verdict {
     verdict
 }
 
-#[cfg(not(feature = "orders"))]
-fn orders(_: &mut Fences, _: &Order) {}
-
 /// Prove and encode of both, and the verdict on the file.
-#[cfg(feature = "orders")]
 fn orders(fences: &mut Fences, order: &Order) {
     let Order {
         sheet,
@@ -114,7 +104,6 @@ fn orders(fences: &mut Fences, order: &Order) {
 }
 
 /// An answer in the model's terms.
-#[cfg(feature = "orders")]
 fn told(answer: Result<usize, tevrolig::OrderRefusal>) -> model::Answer {
     match answer {
         Ok(size) => model::Answer::Done(size as u64),

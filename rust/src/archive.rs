@@ -14,10 +14,7 @@ extern "C" {
     pub fn tevrolig_product(field: u32, a: u32, b: u32, element: &mut u32) -> u32;
     pub fn tevrolig_power(field: u32, a: u32, exponent: u32, element: &mut u32) -> u32;
     pub fn tevrolig_inverse(field: u32, a: u32, element: &mut u32) -> u32;
-}
 
-#[cfg(feature = "orders")]
-extern "C" {
     pub fn tevrolig_prove(
         sheet: *const u32,
         sheet_length: usize,

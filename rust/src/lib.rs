@@ -22,12 +22,10 @@
 
 mod archive;
 mod field;
-#[cfg(feature = "orders")]
 mod order;
 mod verdict;
 
 pub use field::Field;
-#[cfg(feature = "orders")]
 pub use order::{encode, prove, OrderRefusal};
 pub use verdict::{verify, word, Outcome, Refusal, Verdict};
 

@@ -1,9 +1,7 @@
 //! What the answers say in words, with their numbers and places.
 
 use std::error::Error;
-#[cfg(feature = "orders")]
-use tevrolig::OrderRefusal;
-use tevrolig::{Outcome, Refusal, Verdict};
+use tevrolig::{OrderRefusal, Outcome, Refusal, Verdict};
 
 #[test]
 fn refusals_of_verify() {
@@ -105,7 +103,6 @@ fn accepted() {
     );
 }
 
-#[cfg(feature = "orders")]
 #[test]
 fn refusals_of_orders() {
     let all = [
