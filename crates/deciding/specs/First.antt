@@ -1,6 +1,6 @@
 -- Before round 1: what the tests of reading say of the first place, and that the verdict from there on is the definition's.
 use Prim.Native.Nat.{ℕ, suc, _+_, _-_, _^_, _≤_}
-use native.Mathlib.Nat.{mul-div-le}
+use native.Mathlib.Nat.{sub-zero}
 use native.Mathlib.Omega.{arith}
 use mathlib.Core.Path.{_≡_, refl, sym, ap, _∙_, subst}
 use mathlib.Core.Bool.{_&&_}
@@ -9,7 +9,7 @@ use lib.Dec.{leb}
 use lib.ListN.{length, getD, take, drop, replicate, length-append, length-drop, length-replicate}
 use lib.Seq.{drop-cons, drop-drop, getD-drop}
 use borrow.Author.Tests.{leb-true}
-use Rattle.completeness.specs.SheetRules.{between-true, rules-hold, small-repetitions}
+use Rattle.completeness.specs.SheetRules.{between-true, exponents, rules-hold, small-repetitions}
 use Rattle.completeness.specs.Tests.{and-true, at-passes}
 use Rattle.definition.specs.Deciding.{decide, decideRest, readsOf, tableFunction}
 use Rattle.definition.specs.Field.{fieldOf, primeField, primeOf}
@@ -23,6 +23,7 @@ use Rattle.rounds.specs.NextRound.{serves-first}
 use Rattle.rounds.specs.Round.{Fits}
 use Rattle.rounds.specs.RoundLaws.{Serves}
 use Rattle.deciding.specs.Begins.{Begins, begins-after, begins-tail, begins-tested}
+use Rattle.deciding.specs.Inside.{divided}
 use Rattle.deciding.specs.Stand.{firstFunction, firstStand, levelOf, levelsOf, restOf, tableOf}
 use Rattle.deciding.specs.Standing.{Decided, Placed, Served, Shaped, Standing}
 
@@ -87,15 +88,21 @@ module _ (w : List ℕ) (passed : sheetTest w ≡ accepted) (due : wordsDue (she
         let h = sheetOf w in
         omega (arith, length-append (replicate (getD w 1 0) message) (coin ∷ restLayout (getD w 5 0) (firstLevel h) (laterLevels h)), length-replicate (getD w 1 0) message)
 
+    -- n0 as level 0 has it
+    first-size : getD w 1 0 ≡ 2 ^ (suc (exponents w passed .a) - 0)
+    first-size = exponents w passed .size ∙ ap (λ (m : ℕ). 2 ^ m) (sym (sub-zero (suc (exponents w passed .a))))
+
     first-fits : (from : ℕ) → Fits (getD w 1 0) (getD w 1 0) (firstFunction w from) (getD w 3 0)
     unfolding firstFunction
     first-fits from =
         let s = shaped in
+        let x = exponents w passed in
         record {
-          folded = omega arith;
+          log = x .c;
+          two = x .fold;
           few = s .folds;
           spaced = omega arith;
-          roots = mul-div-le (getD w 1 0) (getD w 3 0);
+          roots = divided w x 0 (getD w 1 0) first-size (omega arith);
           room = omega arith;
           small = s .size;
         }
@@ -116,6 +123,8 @@ module _ (w : List ℕ) (passed : sheetTest w ≡ accepted) (due : wordsDue (she
     unfolding firstStand firstFunction
     standing-first points samples coefficients from e h g = record {
       place = placed-first;
+      exponents = exponents w passed;
+      size = first-size;
       fits = subst (λ (n : ℕ). Fits n (getD w 1 0) (firstFunction w from) (getD w 3 0)) (sym e) (first-fits from);
       from = h;
       enough = g;

@@ -1,15 +1,17 @@
 -- The words of the next round, or of the final comparison, are there and in range; and what is known at a place is known at the next.
-use Prim.Native.Nat.{ℕ, _+_, _*_, _/_, _^_, _≤_, _<_}
-use native.Mathlib.Nat.{mul-div-le, mul-le-mul-left, mul-le-mul-right, pow-suc}
+use Prim.Native.Nat.{ℕ, suc, _+_, _-_, _*_, _/_, _^_, _≤_, _<_}
+use native.Mathlib.Nat.{mul-comm, mul-le-mul-left, mul-le-mul-right, pow-suc, suc-mul}
 use native.Mathlib.Numerals.{add-one}
 use native.Mathlib.Omega.{arith}
-use mathlib.Core.Path.{_≡_, refl, ap, _∙_, subst}
+use mathlib.Core.Path.{_≡_, refl, sym, ap, _∙_, subst}
 use mathlib.Core.List.{List, _∷_, _++_}
 use lib.ListN.{length, getD, take, drop, replicate, length-append, length-drop, length-replicate}
-use lib.Pow.{pow-mono}
+use lib.Pow.{pow-add, pow-mono}
 use lib.Seq.{drop-drop}
 use Rattle.completeness.specs.ByPlace.{at-place}
 use Rattle.completeness.specs.LayoutFacts.{round-length}
+use Rattle.completeness.specs.LevelSizes.{quotient}
+use Rattle.completeness.specs.SheetRules.{Exponents}
 use Rattle.definition.specs.Field.{primeOf}
 use Rattle.definition.specs.Layout.{coin, index, laterCount, limit, message, out, restLayout, roundLayout}
 use Rattle.definition.specs.Sheet.{Level, finalCount, shiftCount}
@@ -148,20 +150,41 @@ module _ (w : List ℕ) (st : Stand) (ok : Placed w st) (end : st .level ≡ get
         reads = omega (arith, ok .reads, ok .level, ok .sheet .rounds);
       }
 
+-- n_i is a power of two, of which at every level k is a part
+module _ (w : List ℕ) (x : Exponents w) (level n : ℕ) (size : n ≡ 2 ^ (suc (x .a) - level)) where
+  -- the exponent of n_i is at least that of k
+  wide : level ≤ getD w 4 0 → suc (x .c) + level ≤ x .a
+  wide l = omega (arith, x .rounds, x .below, mul-le-mul-left (suc (x .c)) l, suc-mul (x .c) level)
+
+  pub divided : level ≤ getD w 4 0 → getD w 3 0 * (n / getD w 3 0) ≡ n
+  divided l =
+      let k = 2 ^ suc (x .c) in
+      let v = suc (x .a) - level - suc (x .c) in
+      let e : suc (x .a) - level ≡ v + suc (x .c) = omega (arith, wide l) in
+      let whole : n ≡ 2 ^ (v + suc (x .c)) = size ∙ ap (λ (m : ℕ). 2 ^ m) e in
+      (λ i. x .fold i * (whole i / x .fold i)) ∙ ap (λ (m : ℕ). k * m) (quotient v (suc (x .c))) ∙ mul-comm k (2 ^ v) ∙ sym (pow-add 2 v (suc (x .c))) ∙ sym whole
+
+  pub halved : level < getD w 4 0 → (2 * (n / 2) ≡ n) × (n / 2 ≡ 2 ^ (suc (x .a) - (level + 1)))
+  halved l =
+      let e : suc (x .a) - level ≡ suc (suc (x .a) - (level + 1)) = omega (arith, wide (omega arith)) in
+      let whole : n ≡ 2 ^ (suc (x .a) - (level + 1)) * 2 = size ∙ ap (λ (m : ℕ). 2 ^ m) e ∙ pow-suc 2 (suc (x .a) - (level + 1)) in
+      (omega arith, omega arith)
+
 -- the next level's points are in the table of points
-next-fits : (points n k from c : ℕ) (how : Function) → Fits points n how k →
+next-fits : (points n k from c : ℕ) (how : Function) → Fits points n how k → 2 * (n / 2) ≡ n → k * (n / 2 / k) ≡ n / 2 →
     Fits points (n / 2) (record { scale = 2 * how .scale; step = n / 2 / k; from = from; coin = c }) k
-next-fits points n k from c how f = record {
-  folded = f .folded;
+next-fits points n k from c how f even whole = record {
+  log = f .log;
+  two = f .two;
   few = f .few;
   spaced = omega (arith, f .spaced);
-  roots = mul-div-le (n / 2) k;
+  roots = whole;
   room = go (how .scale) (f .room);
   small = f .small;
 }
   where
-    go : (s : ℕ) → s * n ≤ points → 2 * s * (n / 2) ≤ points
-    go s h = let e : s * (2 * (n / 2)) ≤ s * n = mul-le-mul-left s (omega arith) in omega arith
+    go : (s : ℕ) → s * n ≡ points → 2 * s * (n / 2) ≡ points
+    go s h = let e : s * (2 * (n / 2)) ≡ s * n = ap (λ (m : ℕ). s * m) even in omega arith
 
 pub scale-next : (scale level : ℕ) → scale ≡ 2 ^ level → 2 * scale ≡ 2 ^ (level + 1)
 scale-next scale level e = omega (arith, e, pow-suc 2 level, ap (λ (n : ℕ). 2 ^ n) (add-one level))
@@ -184,11 +207,16 @@ pub standing-next : (w : List ℕ) {points samples coefficients : ℕ} (st : Sta
     st .level < getD w 4 0 → (samples′ coefficients′ j : ℕ) → j ≤ samples′ → samples′ ≤ coefficients′ →
     Standing w points samples′ coefficients′ (nextStand w st) (nextFunction w st (how .scale) j)
 unfolding nextStand nextFunction
-standing-next w st how ok more samples′ coefficients′ j hj hc = record {
-  place = placed-next w st (ok .place) more;
-  fits = next-fits _ (st .size) (getD w 3 0) j _ how (ok .fits);
-  from = hj;
-  enough = hc;
-  scale = scale-next (how .scale) (st .level) (ok .scale);
-  step = refl;
-}
+standing-next w st how ok more samples′ coefficients′ j hj hc =
+    let x = ok .exponents in
+    let half = halved w x (st .level) (st .size) (ok .size) more in
+    record {
+      place = placed-next w st (ok .place) more;
+      exponents = x;
+      size = half .1;
+      fits = next-fits _ (st .size) (getD w 3 0) j _ how (ok .fits) (half .0) (divided w x (st .level + 1) (st .size / 2) (half .1) (omega arith));
+      from = hj;
+      enough = hc;
+      scale = scale-next (how .scale) (st .level) (ok .scale);
+      step = refl;
+    }

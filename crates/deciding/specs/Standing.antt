@@ -1,9 +1,10 @@
 -- What is known at a place where deciding stands, and what its verdict says from there on.
-use Prim.Native.Nat.{ℕ, _+_, _*_, _/_, _^_, _≤_, _<_}
+use Prim.Native.Nat.{ℕ, suc, _+_, _-_, _*_, _/_, _^_, _≤_, _<_}
 use mathlib.Core.Path.{_≡_}
 use mathlib.Core.List.{List}
 use mathlib.Core.Option.{Option}
 use lib.ListN.{length, getD, drop}
+use Rattle.completeness.specs.SheetRules.{Exponents}
 use Rattle.definition.specs.Deciding.{Place, decideRest, ownPlace, readsOf}
 use Rattle.definition.specs.Field.{fieldOf, primeOf}
 use Rattle.definition.specs.Layout.{restLayout}
@@ -48,10 +49,12 @@ pub record RoundInside (w : List ℕ) (st : Stand) : Type 0 where
   pub fewer : repetitionsOf w st * getD w 3 0 ≤ 1024
   pub reads : st .reads ≤ 8192
 
--- At a place with a way to work out the level's function: the roots of shift points and their points are in the tables. The numbers are those of points,
--- samples and coefficients lent.
+-- At a place with a way to work out the level's function: the roots of shift points and their points are in the tables, whose sizes are powers of two. The
+-- numbers are those of points, samples and coefficients lent.
 pub record Standing (w : List ℕ) (points samples coefficients : ℕ) (st : Stand) (how : Function) : Type 0 where
   pub place : Placed w st
+  pub exponents : Exponents w
+  pub size : st .size ≡ 2 ^ (suc (exponents .a) - st .level)
   pub fits : Fits points (st .size) how (getD w 3 0)
   pub from : how .from ≤ samples
   pub enough : samples ≤ coefficients

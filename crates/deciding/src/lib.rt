@@ -42,7 +42,7 @@ fn room() -> [u32; 66]
     [0u32; 66]
 }
 
-// Places for the roots of a shift point, at most 16.
+// Places for the values at the roots of a shift point, at most 16.
 fn roots() -> [u32; 16]
     ensures { λ r. ⌜ length r ≡ 16 ⌝ }
 {
@@ -121,7 +121,7 @@ fn next_function(w: &[u32], stand: Stand, scale: usize, from: usize) -> Function
     }
 }
 
-// G of a round in the last places of px and py, with places of its own for k roots.
+// G of a round in the last places of px and py, with places of its own for k values.
 fn answer(
     field: u32,
     pw: &[u32],
@@ -144,9 +144,7 @@ fn answer(
     ensures { λ v. ⌜ Answered field (now (pw .entry)) (now (table .entry)) (now (xs .entry)) (now (cs .entry)) how k r (now (shifts .entry)) (now (outs .entry)) (now (replies .entry)) (kept v (now (px .exit)) (now (py .exit))) ⌝ }
     ensures { λ v. ⌜ Room (length (now (px .entry))) (length (now (outs .entry)) + length (now (shifts .entry))) v ⌝ }
 {
-    let mut rx = roots();
-    let mut ry = roots();
-    let mut rc = roots();
+    let mut values = roots();
     rounds::answer(
         field,
         pw,
@@ -158,9 +156,7 @@ fn answer(
         shifts,
         outs,
         replies,
-        &mut rx[..k],
-        &mut ry[..k],
-        &mut rc[..k],
+        &mut values[..k],
         px,
         py,
     )
@@ -204,7 +200,7 @@ fn round_at(
     )
 }
 
-// The first final index at which the final polynomial differs, with places of its own for k roots.
+// The first final index at which the final polynomial differs, with places of its own for k values.
 fn difference(
     field: u32,
     pw: &[u32],
@@ -222,9 +218,7 @@ fn difference(
     requires { ⌜ Below (how .step) (now finals) ⌝ }
     ensures { λ v. ⌜ Compared field (now (pw .entry)) (now (table .entry)) (now (xs .entry)) (now (cs .entry)) how k r (now (coefficients .entry)) (now (finals .entry)) (placeOf v) ⌝ }
 {
-    let mut rx = roots();
-    let mut ry = roots();
-    let mut rc = roots();
+    let mut values = roots();
     rounds::first_difference(
         field,
         pw,
@@ -235,9 +229,7 @@ fn difference(
         r,
         coefficients,
         finals,
-        &mut rx[..k],
-        &mut ry[..k],
-        &mut rc[..k],
+        &mut values[..k],
     )
 }
 

@@ -11,7 +11,7 @@ use Rattle.algebra.specs.PrimeField.{laws}
 use Rattle.algebra.specs.RootsOfUnity.{power-suc, power-mul}
 use Rattle.powers.specs.Root.{root, Stored}
 use Rattle.domain.specs.Powers.{Powers, Fitting}
-use Rattle.domain.specs.Roots.{around, round, root-step, size-positive, whole-steps}
+use Rattle.domain.specs.Roots.{around, halfway, round, root-step, size-positive, whole-steps}
 
 -- the power 0 is 1
 pub first-power : (field w : ℕ) → 1 ≡ power (fieldOf field) w 0
@@ -30,6 +30,7 @@ pub powers-of : (field size : ℕ) (pw : List ℕ) → Fitting field size → le
 powers-of field size pw f s h = record {
   entry = λ e l. h e (subst⁻¹ (λ (n : ℕ). e < n) (sym s) l);
   round = ap (power (fieldOf field) (root field size)) s ∙ round field size f;
+  half = ap (λ (n : ℕ). power (fieldOf field) (root field size) (n / 2)) s ∙ halfway field size f;
 }
 
 -- 4096 fits field 2

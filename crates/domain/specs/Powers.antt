@@ -7,11 +7,13 @@ use lib.ListN.{length, getD}
 use Rattle.definition.specs.Field.{Field, primeOf, fieldOf, power}
 use Rattle.definition.specs.Sheet.{Level}
 use Rattle.definition.specs.Domain.{inDomain}
+use Rattle.algebra.specs.RootsOfUnity.{minusOne}
 
--- entry e is ω^(1 + e), and as many powers as the table has words make the round
+-- entry e is ω^(1 + e), as many powers as the table has words make the round, and half as many make -1
 pub record Powers (field ω : ℕ) (pw : List ℕ) : Type 0 where
   pub entry : (e : ℕ) → e < length pw → getD pw e 0 ≡ power (fieldOf field) ω (1 + e)
   pub round : power (fieldOf field) ω (length pw) ≡ fieldOf field .𝟙
+  pub half : power (fieldOf field) ω (length pw / 2) ≡ minusOne (fieldOf field)
 
 -- The field has a domain of this size: a power of two from 2 to 4096 that divides p - 1. (A sheet asks for 4 at least, which nothing here needs.)
 pub record Fitting (field size : ℕ) : Type 0 where

@@ -39,22 +39,27 @@ root-by field size = power-is (primeOf field) (big field) (generatorOf field) ((
 pub size-positive : {field size : ℕ} → Fitting field size → 0 < size
 size-positive f = omega (arith, f .two, pow-pos (suc (f .log)))
 
--- ω^n0 = 1
-pub round : (field size : ℕ) → Fitting field size → power (fieldOf field) (root field size) size ≡ fieldOf field .𝟙
+-- an even number is twice its half
+even : {field size : ℕ} → Fitting field size → size / 2 + size / 2 ≡ size
+even f = omega (arith, f .two, pow-suc 2 (f .log))
+
+-- ω^(n0/2) = -1
+pub halfway : (field size : ℕ) → Fitting field size → power (fieldOf field) (root field size) (size / 2) ≡ minusOne (fieldOf field)
 unfolding fieldOf root
-round field size f =
+halfway field size f =
     let p = primeOf field in
     let g = generatorOf field in
     let h = size / 2 in
     let s = suited field in
-    let F = primeField p in
-    let e : h + h ≡ size = omega (arith, f .two, pow-suc 2 (f .log)) in
-    let half : power F (g ^ ((p - 1) / (h + h)) % p) h ≡ minusOne F =
-    fitting-root p g h (s .large) (s .fits) (ap (λ (n : ℕ). (p - 1) % n) e ∙ f .divides) in
-    let half′ : power F (g ^ ((p - 1) / size) % p) h ≡ minusOne F = ap (λ (n : ℕ). power F (g ^ ((p - 1) / n) % p) h) (sym e) ∙ half in
-    ap (power F (g ^ ((p - 1) / size) % p)) (sym e)
-    ∙ power-add F (laws field) (g ^ ((p - 1) / size) % p) h h
-    ∙ rw half′ (minus-square F (laws field))
+    ap (λ (n : ℕ). power (primeField p) (g ^ ((p - 1) / n) % p) h) (sym (even f))
+    ∙ fitting-root p g h (s .large) (s .fits) (ap (λ (n : ℕ). (p - 1) % n) (even f) ∙ f .divides)
+
+-- ω^n0 = 1
+pub round : (field size : ℕ) → Fitting field size → power (fieldOf field) (root field size) size ≡ fieldOf field .𝟙
+round field size f =
+    let F = fieldOf field in
+    let ω = root field size in
+    ap (power F ω) (sym (even f)) ∙ power-add F (laws field) ω (size / 2) (size / 2) ∙ rw (halfway field size f) (minus-square F (laws field))
 
 -- where n·step = m and m divides p - 1, the ω of n is the step-th power of that of m
 pub root-step : (field n m step : ℕ) → 0 < n → step * n ≡ m → (primeOf field - 1) % m ≡ 0 → root field n ≡ power (fieldOf field) (root field m) step

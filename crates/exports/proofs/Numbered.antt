@@ -4,17 +4,21 @@ use mathlib.Core.Path.{_≡_, sym, ap, _∙_}
 use mathlib.Core.Option.{Option}
 use Rattle.definition.specs.Verdict as definition
 use Rattle.definition.specs.Field.{FieldAnswer}
+use Rattle.definition.specs.Prove as prove
 use Rattle.field.specs.declared.Element.{Element}
 use Rattle.field.specs.declared.Element.the-variants as element
 use Rattle.field.specs.Answer.{answerOf}
 use Rattle.reader.specs.declared.Word.{Word}
 use Rattle.reader.specs.declared.Word.the-variants as word
-use Rattle.reader.specs.Words.{valueOf}
+use Rattle.reader.specs.Words as words
 use Rattle.outcome.specs.declared.Outcome.{Outcome}
 use Rattle.outcome.specs.declared.Outcome.the-variants.{Accepted, Refused}
 use Rattle.outcome.specs.declared.Verdict.{Verdict}
+use Rattle.outcome.specs.declared.Answer.{Answer}
+use Rattle.outcome.specs.declared.Answer.the-variants.{Done, Refusal}
+use Rattle.outcome.specs.Meaning as meaning
 use Rattle.outcome.specs.Meaning.{outcomeOf, verdictOf}
-use Rattle.exports.specs.Numbers.{numberOf, placeIn, wordThere, wordOrZero, fieldNamed, elementOrZero}
+use Rattle.exports.specs.Numbers.{numberOf, placeIn, refusalOf, valueOf, wordThere, wordOrZero, fieldNamed, elementOrZero}
 
 module _ (v : Verdict) {d : definition.Verdict} (e : verdictOf v ≡ d) where
   outcome-is : outcomeOf (v .outcome) ≡ d .outcome
@@ -40,21 +44,41 @@ module _ (v : Verdict) {d : definition.Verdict} (e : verdictOf v ≡ d) where
       let o = ap outcomeOf (sym h) ∙ outcome-is in
       (ap numberOf o, (ap placeIn o, reads-is))
 
-module _ (w : Word) {d : Option ℕ} (e : valueOf w ≡ d) where
+module _ (w : Word) {d : Option ℕ} (e : words.valueOf w ≡ d) where
   abbrev pub WordNumbers : ℕ → ℕ → Type 0
   WordNumbers there word = (there ≡ wordThere d) × (word ≡ wordOrZero d)
 
   pub value-numbers : (x : ℕ) → w ≡ word.Value x → WordNumbers 1 x
-  unfolding valueOf wordThere wordOrZero
+  unfolding words.valueOf wordThere wordOrZero
   value-numbers x h =
-      let o = ap valueOf (sym h) ∙ e in
+      let o = ap words.valueOf (sym h) ∙ e in
       (ap wordThere o, ap wordOrZero o)
 
   pub end-numbers : w ≡ word.End → WordNumbers 0 0
-  unfolding valueOf wordThere wordOrZero
+  unfolding words.valueOf wordThere wordOrZero
   end-numbers h =
-      let o = ap valueOf (sym h) ∙ e in
+      let o = ap words.valueOf (sym h) ∙ e in
       (ap wordThere o, ap wordOrZero o)
+
+abbrev pub AnswerNumbers : prove.Answer → ℕ → ℕ → Type 0
+AnswerNumbers d number value = (number ≡ refusalOf d) × (value ≡ valueOf d)
+
+module _ (a : Answer) where
+  pub done-numbers : (count : ℕ) → a ≡ Done count → AnswerNumbers (meaning.answerOf a) 0 count
+  unfolding meaning.answerOf refusalOf valueOf
+  done-numbers count h =
+      let o = ap meaning.answerOf (sym h) in
+      (ap refusalOf o, ap valueOf o)
+
+  pub refusal-numbers : (number place : ℕ) → a ≡ Refusal number place → AnswerNumbers (meaning.answerOf a) number place
+  unfolding meaning.answerOf refusalOf valueOf
+  refusal-numbers number place h =
+      let o = ap meaning.answerOf (sym h) in
+      (ap refusalOf o, ap valueOf o)
+
+  -- what is written of an answer is what the definition's answer says
+  pub order-numbers : {d : prove.Answer} {number value : ℕ} → AnswerNumbers (meaning.answerOf a) number value → meaning.answerOf a ≡ d → AnswerNumbers d number value
+  order-numbers n e = (n .0 ∙ ap refusalOf e, n .1 ∙ ap valueOf e)
 
 abbrev pub ElementNumbers : FieldAnswer → ℕ → ℕ → Type 0
 ElementNumbers d named element = (named ≡ fieldNamed d) × (element ≡ elementOrZero d)

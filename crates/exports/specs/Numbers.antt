@@ -2,6 +2,7 @@
 use Prim.Native.Nat.{ℕ}
 use mathlib.Core.Option.{Option, none, some}
 use Rattle.definition.specs.Verdict.{Outcome, accepted, refused}
+use Rattle.definition.specs.Prove.{Answer, done, refusal}
 use Rattle.definition.specs.Field.{FieldAnswer, element, noField}
 
 -- an outcome: 0 and 0 for accepted, else the fault's number and place
@@ -12,6 +13,15 @@ numberOf (refused number place) = number
 unfoldable pub placeIn : Outcome → ℕ
 placeIn accepted = 0
 placeIn (refused number place) = place
+
+-- an answer to an order: 0 and the count where done, else the refusal's number and place
+unfoldable pub refusalOf : Answer → ℕ
+refusalOf (done count) = 0
+refusalOf (refusal number place) = number
+
+unfoldable pub valueOf : Answer → ℕ
+valueOf (done count) = count
+valueOf (refusal number place) = place
 
 -- a word that may be there: 1 and the word, else 0 and 0
 unfoldable pub wordThere : Option ℕ → ℕ

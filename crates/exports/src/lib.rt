@@ -1,14 +1,17 @@
 // The operations as C functions. Nothing is allocated and no state is kept; what is lent is lent for the call alone.
 use field::Element;
+use outcome::Answer;
 use outcome::Outcome;
 use reader::Word;
 ghost use mathlib.Core.Path.{_≡_};
 ghost use Rattle.definition.specs.Verify.{verify};
 ghost use Rattle.definition.specs.Block.{streamOf};
+ghost use Rattle.definition.specs.Prove.{encode, prove};
 ghost use Rattle.definition.specs.Field.{sum, difference, product, powerOf, inverseOf};
 ghost use Rattle.field.specs.Answer.{answerOf};
+ghost use Rattle.outcome.specs.Meaning.{answerOf as orderAnswer};
 ghost use Rattle.reader.specs.Words.{wordIn};
-ghost use Rattle.exports.specs.Numbers.{numberOf, placeIn, wordThere, wordOrZero, fieldNamed, elementOrZero};
+ghost use Rattle.exports.specs.Numbers.{numberOf, placeIn, refusalOf, valueOf, wordThere, wordOrZero, fieldNamed, elementOrZero};
 
 // Judges a file. Answers 0 for accepted, else the fault's number, and writes the fault's place (0 where accepted) and the count of reads.
 #[no_mangle]
@@ -50,6 +53,58 @@ pub extern "C" fn tevrolig_word(file: &[u8], number: u64, word: &mut u32) -> u32
             0
         }
     }
+}
+
+// Writes an answer's value: the count where done, else the refusal's place. Answers 0 where done, else the refusal's number.
+fn write_value(answer: Answer, value: &mut u64) -> u32
+    ensures { λ r. ⌜ r ≡ refusalOf (orderAnswer answer) ⌝ }
+    ensures { λ r. ⌜ now (value .exit) ≡ valueOf (orderAnswer answer) ⌝ }
+{
+    match answer {
+        Answer::Done(count) => {
+            *value = count as u64;
+            0
+        }
+        Answer::Refusal(number, place) => {
+            *value = place as u64;
+            number
+        }
+    }
+}
+
+// Writes the honest file of a polynomial and coins at the front of `output`. Answers 0, with the number of blocks in `value`; or a refusal's number, with its
+// place in `value`, and the output is as before.
+#[no_mangle]
+pub extern "C" fn tevrolig_prove(
+    sheet: &[u32],
+    coefficients: &[u32],
+    coins: &[u32],
+    output: &mut [u8],
+    value: &mut u64,
+) -> u32
+    ensures { λ r. ⌜ r ≡ refusalOf (prove (now (sheet .entry)) (now (coefficients .entry)) (now (coins .entry)) (now (output .entry)) .answer) ⌝ }
+    ensures { λ r. ⌜ now (value .exit) ≡ valueOf (prove (now (sheet .entry)) (now (coefficients .entry)) (now (coins .entry)) (now (output .entry)) .answer) ⌝ }
+    ensures { λ r. ⌜ now (output .exit) ≡ prove (now (sheet .entry)) (now (coefficients .entry)) (now (coins .entry)) (now (output .entry)) .output ⌝ }
+{
+    let answer = prove::prove(sheet, coefficients, coins, output);
+    write_value(answer, value)
+}
+
+// Writes table 0 of a polynomial at the front of `output`. Answers 0, with n0 in `value`; or a refusal's number, with its place in `value`, and the output is as
+// before.
+#[no_mangle]
+pub extern "C" fn tevrolig_encode(
+    sheet: &[u32],
+    coefficients: &[u32],
+    output: &mut [u32],
+    value: &mut u64,
+) -> u32
+    ensures { λ r. ⌜ r ≡ refusalOf (encode (now (sheet .entry)) (now (coefficients .entry)) (now (output .entry)) .answer) ⌝ }
+    ensures { λ r. ⌜ now (value .exit) ≡ valueOf (encode (now (sheet .entry)) (now (coefficients .entry)) (now (output .entry)) .answer) ⌝ }
+    ensures { λ r. ⌜ now (output .exit) ≡ encode (now (sheet .entry)) (now (coefficients .entry)) (now (output .entry)) .output ⌝ }
+{
+    let answer = encode::encode(sheet, coefficients, output);
+    write_value(answer, value)
 }
 
 // Writes an element, or 0 where the number named no field; answers 1 or 0.

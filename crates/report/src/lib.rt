@@ -22,6 +22,15 @@ pub fn print(v: Verdict) {
     io::write_all(STDOUT_FILENO, b"\n");
 }
 
+// A refusal as a line: its number and place.
+pub fn refuse(fd: i32, number: u32, place: usize) {
+    io::write_all(fd, b"refused ");
+    io::print_decimal(fd, number as u64);
+    io::write_all(fd, b" ");
+    io::print_decimal(fd, place as u64);
+    io::write_all(fd, b"\n");
+}
+
 // Judges what a descriptor gives, at most its first 65,536 bytes. No accepted file is so long.
 pub fn judge(fd: i32) {
     let mut buffer = [0u8; 65536];

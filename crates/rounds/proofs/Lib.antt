@@ -1,2 +1,3 @@
 pub mod Roots
+pub mod Turns
 pub mod Shifts

@@ -1,75 +1,69 @@
--- The value at a point, and one turn of the walk that gathers the roots and the values there. Assumes nothing.
-use Prim.Native.Nat.{ℕ, zero, suc, _+_, _-_, _*_, _≤_, _<_}
+-- The value at a point, and one turn of the walk that gathers the values at opposite roots. Assumes nothing.
+use Prim.Native.Nat.{ℕ, suc, _+_, _-_, _*_, _≤_, _<_}
 use mathlib.Core.Path.{_≡_, _∙_, refl}
-use mathlib.Core.List.{List, [], _∷_, map}
-use native.Mathlib.Nat.{not-suc-le-zero, sub-zero}
+use mathlib.Core.List.{List, _∷_}
+use native.Mathlib.Decide.{decLt}
 use native.Mathlib.Omega.{arith}
-use lib.ListN.{length, drop, getD, set, drop-of-length-le}
-use lib.Seq.{drop-cons}
-use Rattle.definition.specs.Lists.{range}
+use borrow.Author.Count.{below-none, below-more}
+use lib.ListN.{length, drop, getD, set, length-set, drop-of-length-le}
+use lib.Seq.{drop-cons, getD-set-same, getD-set-other}
 use Rattle.definition.specs.Field.{Field, fieldOf}
-use Rattle.definition.specs.Polynomial.{pair, evaluate, interpolate}
 use Rattle.polynomial.specs.Newton.{newtonCorrected}
-use Rattle.polynomial.proofs.Backwards.{drop-store}
 use Rattle.rounds.specs.declared.Function.{Function}
 use Rattle.rounds.specs.PointsIn.{pointIn}
-use Rattle.rounds.specs.Round.{numbersFrom, valueOf, valueIn, foldIn}
+use Rattle.rounds.specs.Round.{valueOf, valueIn}
 
 -- ---- the value at a point, without samples and with some
-
-pub value-first : (F : Field ℕ) (xs cs : List ℕ) (from c x y : ℕ) → from ≡ length xs → y ≡ valueOf F (drop from xs) cs c x y
-unfolding valueOf
-value-first F xs cs from c x y e =
-    let h : length xs ≤ from = omega arith in
-    rw (drop-of-length-le xs h)
 
 value-cons : (F : Field ℕ) (a : ℕ) (xs cs : List ℕ) (c x y : ℕ) → newtonCorrected F (a ∷ xs) cs c x y ≡ valueOf F (a ∷ xs) cs c x y
 unfolding valueOf
 value-cons F a xs cs c x y = refl
 
-pub value-next : (F : Field ℕ) (xs cs : List ℕ) (from c x y : ℕ) {r : ℕ} → from < length xs → r ≡ newtonCorrected F (drop from xs) cs c x y → r ≡ valueOf F (drop from xs) cs c x y
-value-next F xs cs from c x y h e = cc (drop-cons xs from 0 h, value-cons F (getD xs from 0) (drop (suc from) xs) cs c x y)
+module _ (field : ℕ) (pw table xs cs : List ℕ) (how : Function) (m : ℕ) where
+  pub value-first : how .from ≡ length xs → getD table m 0 ≡ valueIn field pw table xs cs how m
+  unfolding valueIn valueOf
+  value-first e =
+      let h : length xs ≤ how .from = omega arith in
+      rw (drop-of-length-le xs h)
 
--- ---- a function's values at the roots, from root i on
+  pub value-next : {v : ℕ} → how .from < length xs →
+      v ≡ newtonCorrected (fieldOf field) (drop (how .from) xs) (drop (how .from) cs) (how .coin) (getD pw (how .scale * m) 0) (getD table m 0) → v ≡ valueIn field pw table xs cs how m
+  unfolding valueIn pointIn
+  value-next h e =
+      let from = how .from in
+      cc (drop-cons xs from 0 h, value-cons (fieldOf field) (getD xs from 0) (drop (suc from) xs) (drop from cs) (how .coin) (getD pw (how .scale * m) 0) (getD table m 0))
 
-numbers-cons : (step j i count : ℕ) → numbersFrom step j i (suc count) ≡ (j + i * step) ∷ numbersFrom step j (suc i) count
-unfolding numbersFrom range
-numbers-cons step j i count = refl
+-- ---- the values at the roots: i of the h pairs of opposite ones are there
 
-numbers-back : (step j i k : ℕ) → 0 < i → i ≤ k → numbersFrom step j (i - 1) (k - (i - 1)) ≡ (j + (i - 1) * step) ∷ numbersFrom step j i (k - i)
-numbers-back step j zero k h l = absurd (not-suc-le-zero h)
-numbers-back step j (suc i) k h l =
-    let here : suc i - 1 ≡ i = omega arith in
-    let more : k - i ≡ suc (k - suc i) = omega arith in
-    rw (here, more) (numbers-cons step j i (k - suc i))
+pub record Paired (f : ℕ → ℕ) (h i : ℕ) (out : List ℕ) : Type 0 where
+  pub low : (m : ℕ) → m < i → getD out m 0 ≡ f m
+  pub high : (m : ℕ) → m < i → getD out (h + m) 0 ≡ f (h + m)
 
-module _ (f : ℕ → ℕ) (step j : ℕ) where
-  map-cons : (n : ℕ) (ns : List ℕ) → map f (n ∷ ns) ≡ f n ∷ map f ns
-  map-cons n ns = refl
+module _ (f : ℕ → ℕ) (h : ℕ) (out : List ℕ) where
+  pub paired-none : Paired f h 0 out
+  paired-none = record { low = below-none (λ m. getD out m 0 ≡ f m); high = below-none (λ m. getD out (h + m) 0 ≡ f (h + m)) }
 
-  numbers-none : (k : ℕ) → [] ≡ map f (numbersFrom step j k 0)
-  unfolding numbersFrom range
-  numbers-none k = refl
+  pub paired-next : (i : ℕ) {v w : ℕ} → i < h → length out ≡ h + h → Paired f h i out → v ≡ f i → w ≡ f (h + i) → Paired f h (i + 1) (set (set out i v) (h + i) w)
+  paired-next i {v} {w} below two p ev ew = record {
+    low = below-more (λ m. getD both m 0 ≡ f m) i
+        (λ m l. other m (λ e. omega arith) (λ e. omega arith) ∙ p .low m l)
+        (getD-set-other (set out i v) (h + i) i w 0 (λ e. omega arith) ∙ getD-set-same out i v 0 (omega arith) ∙ ev);
+    high = below-more (λ m. getD both (h + m) 0 ≡ f (h + m)) i
+        (λ m l. other (h + m) (λ e. omega arith) (λ e. omega arith) ∙ p .high m l)
+        (getD-set-same (set out i v) (h + i) w 0 (simp length-set (omega arith)) ∙ ew);
+  }
+    where
+      both : List ℕ
+      both = set (set out i v) (h + i) w
 
-  pub roots-end : (out : List ℕ) (k : ℕ) → length out ≡ k → drop k out ≡ map f (numbersFrom step j k (k - k))
-  roots-end out k e =
-      let h : length out ≤ k = omega arith in
-      let z : k - k ≡ 0 = omega arith in
-      drop-of-length-le out h ∙ rw z (numbers-none k)
+      other : (m : ℕ) → (m ≡ i → ⊥) → (m ≡ h + i → ⊥) → getD both m 0 ≡ getD out m 0
+      other m a b = getD-set-other (set out i v) (h + i) m w 0 b ∙ getD-set-other out i m v 0 a
 
-  pub roots-turn : (out : List ℕ) (i k : ℕ) {v : ℕ} → 0 < i → i ≤ k → length out ≡ k → drop i out ≡ map f (numbersFrom step j i (k - i)) →
-      v ≡ f (j + (i - 1) * step) → drop (i - 1) (set out (i - 1) v) ≡ map f (numbersFrom step j (i - 1) (k - (i - 1)))
-  roots-turn out i k {v} h l e eo ev =
-      let m : i ≤ length out = omega arith in
-      cc (drop-store out i v h m, numbers-back step j i k h l, map-cons (j + (i - 1) * step) (numbersFrom step j i (k - i)))
-
-  pub roots-all : (out : List ℕ) (i k : ℕ) → i ≡ 0 → drop i out ≡ map f (numbersFrom step j i (k - i)) → out ≡ map f (numbersFrom step j 0 k)
-  roots-all out i k z e = rw (z, sub-zero) at e
-
--- ---- the fold
-
-pub folded : (field : ℕ) (pw table xs cs : List ℕ) (how : Function) (k r j : ℕ) {rx ry : List ℕ} {v : ℕ} →
-    rx ≡ map (pointIn pw (how .scale)) (numbersFrom (how .step) j 0 k) → ry ≡ map (valueIn field pw table xs cs how) (numbersFrom (how .step) j 0 k) →
-    v ≡ evaluate (fieldOf field) (interpolate (fieldOf field) (pair rx ry)) r → v ≡ foldIn field pw table xs cs how k r j
-unfolding foldIn
-folded field pw table xs cs how k r j ex ey ev = ev ∙ (λ i. evaluate (fieldOf field) (interpolate (fieldOf field) (pair (ex i) (ey i))) r)
+  pub paired-all : (i : ℕ) → h ≤ i → Paired f h i out → (m : ℕ) → m < h + h → getD out m 0 ≡ f m
+  paired-all i all p m l = go (decLt m h)
+    where
+      go : Dec (m < h) → getD out m 0 ≡ f m
+      go (yes a) = p .low m (omega arith)
+      go (no a) =
+          let b : h + (m - h) ≡ m = omega arith in
+          rw b at (p .high (m - h) (omega arith))

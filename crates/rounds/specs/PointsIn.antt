@@ -1,5 +1,5 @@
--- The points and the shift points of a domain in the table of the powers of ω.
-use Prim.Native.Nat.{ℕ, zero, suc, _+_, _-_, _*_, _/_, _%_, _^_, _<_}
+-- The points and the shift points of a domain, and the inverses of points, in the table of the powers of ω.
+use Prim.Native.Nat.{ℕ, zero, suc, _+_, _-_, _*_, _%_, _^_, _<_}
 use mathlib.Core.Path.{_≡_, _∙_, sym, ap, refl}
 use mathlib.Core.List.{List, [], _∷_}
 use native.Mathlib.Nat.{mod-lt}
@@ -8,7 +8,8 @@ use lib.ListN.{length, getD}
 use Rattle.definition.specs.Field.{Field, primeField, primeOf, fieldOf, power}
 use Rattle.definition.specs.Sheet.{Level}
 use Rattle.definition.specs.Domain.{point, shiftPoint}
-use Rattle.algebra.specs.RootsOfUnity.{power-mul}
+use Rattle.algebra.specs.RingLaws.{power-add}
+use Rattle.algebra.specs.RootsOfUnity.{minusOne, power-mul}
 use Rattle.algebra.specs.PrimeField.{laws}
 use Rattle.domain.specs.Powers.{Powers}
 use Rattle.domain.specs.Roots.{around}
@@ -21,6 +22,24 @@ pointIn pw scale m = getD pw (scale * m) 0
 -- the k-th power of point j: the exponent 1 + scale·j becomes k + k·scale·j, and goes round
 unfoldable pub shiftIn : List ℕ → ℕ → ℕ → ℕ → ℕ
 shiftIn pw scale k j = getD pw ((k - 1 + k * (scale * j)) % length pw) 0
+
+-- the inverse of ω^e: ω^(n - e mod n), where n powers make the round
+unfoldable pub backIn : List ℕ → ℕ → ℕ
+backIn pw e = getD pw (length pw - 1 - e % length pw) 0
+
+pub back-power : {field ω : ℕ} {pw : List ℕ} → Powers field ω pw → 0 < length pw → (e : ℕ) → fieldOf field ._⊗_ (power (fieldOf field) ω e) (backIn pw e) ≡ fieldOf field .𝟙
+unfolding backIn
+back-power {field} {ω} {pw} w long e =
+    let F = fieldOf field in
+    let n = length pw in
+    let b = n - 1 - e % n in
+    let below = mod-lt e long in
+    let inside : b < n = omega arith in
+    let swapped : e + (1 + b) ≡ 1 + b + e = omega arith in
+    let whole : 1 + b + e % n ≡ n = omega arith in
+    ap (F ._⊗_ (power F ω e)) (w .entry b inside)
+    ∙ sym (power-add F (laws field) ω e (1 + b)) ∙ ap (power F ω) swapped
+    ∙ sym (around F (laws field) ω (1 + b) e n (w .round)) ∙ ap (power F ω) whole ∙ w .round
 
 -- v is the k-th power of ω^(1 + scale·j), for every ω that the table is of
 abbrev pub ShiftPoint : List ℕ → ℕ → ℕ → ℕ → ℕ → Type 0
@@ -47,8 +66,8 @@ module _ {field ω : ℕ} {pw : List ℕ} (w : Powers field ω pw) (b : Level) {
 
 -- such a table: the four powers of 13 in the field of 17
 pub four-powers : Powers 0 13 (13 ∷ 16 ∷ 4 ∷ 1 ∷ [])
-unfolding fieldOf primeOf primeField power
-four-powers = record { entry = entry; round = refl }
+unfolding fieldOf primeOf primeField power minusOne
+four-powers = record { entry = entry; round = refl; half = refl }
   where
     entry : (e : ℕ) → e < 4 → getD (13 ∷ 16 ∷ 4 ∷ 1 ∷ []) e 0 ≡ power (fieldOf 0) 13 (1 + e)
     entry zero h = refl

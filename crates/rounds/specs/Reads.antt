@@ -1,5 +1,5 @@
 -- The reads of a round and of the final comparison are products: k for each coin.
-use Prim.Native.Nat.{ℕ, zero, suc, _+_, _*_, _≤_, _<_}
+use Prim.Native.Nat.{ℕ, suc, _+_, _*_, _≤_, _<_}
 use mathlib.Core.Path.{_≡_, _∙_, sym, ap, refl}
 use mathlib.Core.Bool.{Bool, true, false, not}
 use mathlib.Core.List.{List, [], _∷_, _++_, flatMap}
@@ -8,21 +8,13 @@ use native.Mathlib.Nat.{suc-mul, zero-mul}
 use native.Mathlib.Omega.{arith}
 use lib.ListN.{length, take, length-append, length-map}
 use lib.Seq.{length-take-le}
-use Rattle.definition.specs.Lists.{range, firstTrue}
-use Rattle.definition.specs.Sheet.{Level, shiftCount}
+use Rattle.completeness.specs.DecidingAccepts.{roots-length}
+use Rattle.definition.specs.Lists.{firstTrue}
+use Rattle.definition.specs.Sheet.{Level}
 use Rattle.definition.specs.Field.{Field}
 use Rattle.definition.specs.Polynomial.{evaluate}
 use Rattle.definition.specs.Domain.{rootNumbers, shiftPoint, foldAt}
 use Rattle.definition.specs.Deciding.{Place, ownPlace, placesOf, readsOf, treated, differences}
-
-length-range : (from count : ℕ) → length (range from count) ≡ count
-unfolding range
-length-range from zero = refl
-length-range from (suc count) = ap suc (length-range (suc from) count)
-
-length-roots : (l : Level) (j : ℕ) → length (rootNumbers l j) ≡ l .fold
-unfolding rootNumbers
-length-roots l j = length-map (range 0 (l .fold)) (λ m. j + m * shiftCount l) ∙ length-range 0 (l .fold)
 
 -- a list of n for each element
 length-flat : {A B : Type 0} (f : A → List B) (n : ℕ) (xs : List A) → ((x : A) → length (f x) ≡ n) → length (flatMap f xs) ≡ length xs * n
@@ -35,7 +27,7 @@ pub reads-are : (l b : Level) (js : List ℕ) → readsOf (placesOf l (ownPlace 
 unfolding readsOf placesOf ownPlace
 reads-are l b js =
     length-flat (λ j. flatMap (ownPlace b) (rootNumbers l j)) (l .fold) js
-    (λ j. length-flat (ownPlace b) 1 (rootNumbers l j) (λ m. refl) ∙ omega (arith, length-roots l j))
+    (λ j. length-flat (ownPlace b) 1 (rootNumbers l j) (λ m. refl) ∙ omega (arith, roots-length l j))
 
 -- the reads add up
 pub reads-add : (used more : List Place) → readsOf (used ++ more) ≡ readsOf used + readsOf more

@@ -1,19 +1,18 @@
 -- One round of deciding over the words in hand: a table of powers, a table of values, and the points and Newton coefficients of the samples.
-use Prim.Native.Nat.{ℕ, _+_, _*_, _≤_, _<_}
-use mathlib.Core.List.{List, [], _∷_, map}
-use native.Mathlib.Nat.{suc-mul, mul-le-mul-left, mul-le-mul-right}
+use Prim.Native.Nat.{ℕ, suc, _+_, _*_, _/_, _^_, _≤_, _<_}
+use mathlib.Core.Path.{_≡_, _∙_, ap, sym}
+use mathlib.Core.List.{List, [], _∷_}
+use native.Mathlib.Nat.{suc-mul, mul-le-mul-left, mul-le-mul-right, le-of-eq, pow-suc}
 use native.Mathlib.Omega.{arith}
 use lib.ListN.{length, getD, drop}
-use Rattle.definition.specs.Lists.{range}
-use Rattle.definition.specs.Field.{Field, fieldOf}
-use Rattle.definition.specs.Polynomial.{Sample, pair, evaluate, interpolate}
+use lib.Pow.{pow-pos}
+use Rattle.definition.specs.Field.{Field, fieldOf, primeOf}
+use Rattle.definition.specs.Polynomial.{Sample}
 use Rattle.polynomial.specs.Newton.{newtonCorrected}
 use Rattle.rounds.specs.declared.Function.{Function}
-use Rattle.rounds.specs.PointsIn.{pointIn, shiftIn}
-
--- the numbers j + m·step, m from `first` on
-unfoldable pub numbersFrom : ℕ → ℕ → ℕ → ℕ → List ℕ
-numbersFrom step j first count = map (λ m. j + m * step) (range first count)
+use Rattle.rounds.specs.Halving.{halving, exponentOf}
+use Rattle.rounds.specs.HalvingLaw.{exponent-of}
+use Rattle.rounds.specs.PointsIn.{pointIn, shiftIn, backIn}
 
 -- the value at x, where the table has y: y itself where there are no samples, else the corrected value
 unfoldable pub valueOf : {A : Type 0} → Field A → List A → List A → A → A → A → A
@@ -25,24 +24,32 @@ unfoldable pub valueIn : ℕ → List ℕ → List ℕ → List ℕ → List ℕ
 valueIn field pw table xs cs how m =
     valueOf (fieldOf field) (drop (how .from) xs) (drop (how .from) cs) (how .coin) (pointIn pw (how .scale) m) (getD table m 0)
 
--- the fold at shift index j with coin r, by the values at the k roots
+-- the value at root m of shift point j
+abbrev pub rootIn : ℕ → List ℕ → List ℕ → List ℕ → List ℕ → Function → ℕ → ℕ → ℕ
+rootIn field pw table xs cs how j m = valueIn field pw table xs cs how (j + m * how .step)
+
+-- 1/2 is (p + 1)/2, and p is odd
+unfoldable pub halfOf : ℕ → ℕ
+halfOf field = primeOf field / 2 + 1
+
+-- the fold at shift index j with coin r, by halves of the values at the k roots: the first root is ω^(1 + scale·j), the next are scale·step powers apart
 unfoldable pub foldIn : ℕ → List ℕ → List ℕ → List ℕ → List ℕ → Function → ℕ → ℕ → ℕ → ℕ
 foldIn field pw table xs cs how k r j =
-    evaluate (fieldOf field)
-    (interpolate (fieldOf field)
-    (pair (map (pointIn pw (how .scale)) (numbersFrom (how .step) j 0 k)) (map (valueIn field pw table xs cs how) (numbersFrom (how .step) j 0 k)))) r
+    halving (fieldOf field) (halfOf field) (backIn pw) (exponentOf k) (1 + how .scale * j) (how .scale * how .step) r (rootIn field pw table xs cs how j)
 
 -- the sample at shift index j
 unfoldable pub sampleIn : ℕ → List ℕ → List ℕ → List ℕ → List ℕ → Function → ℕ → ℕ → ℕ → Sample ℕ
 sampleIn field pw table xs cs how k r j = record { point = shiftIn pw (how .scale) k j; value = foldIn field pw table xs cs how k r j }
 
--- The k roots of each shift index stand in a table of n words, and their points in a table of `points` words.
+-- The folding number k is a power of two from 2 to 16. A table of n words has k roots of each shift index, and its points are every scale-th in a table of
+-- `points` words.
 pub record Fits (points n : ℕ) (how : Function) (k : ℕ) : Type 0 where
-  pub folded : 0 < k
+  pub log : ℕ
+  pub two : k ≡ 2 ^ suc log
   pub few : k ≤ 16
   pub spaced : 0 < how .scale
-  pub roots : k * how .step ≤ n
-  pub room : how .scale * n ≤ points
+  pub roots : k * how .step ≡ n
+  pub room : how .scale * n ≡ points
   pub small : points ≤ 4096
 
 -- each index of a list is below the number of shift points
@@ -50,19 +57,40 @@ abbrev pub Below : ℕ → List ℕ → Type 0
 Below count js = (i : ℕ) → i < length js → getD js i 0 < count
 
 module _ {points n : ℕ} {how : Function} {k : ℕ} (fits : Fits points n how k) where
+  -- k is a power of two, and not 1
+  pub folded : 1 < k
+  folded = omega (arith, fits .two, pow-suc 2 (fits .log), pow-pos (fits .log))
+
+  pub even : k / 2 + k / 2 ≡ k
+  even = omega (arith, fits .two, pow-suc 2 (fits .log))
+
+  pub exponent : exponentOf k ≡ suc (fits .log)
+  exponent = ap exponentOf (fits .two) ∙ exponent-of (suc (fits .log))
+
+  pub power-of : k ≡ 2 ^ exponentOf k
+  power-of = fits .two ∙ ap (λ (a : ℕ). 2 ^ a) (sym exponent)
+
   -- each point of the table of values stands in that of points
   pub point-room : (m : ℕ) → m < n → how .scale * m < points
-  point-room m l = less (how .scale) (fits .spaced) (fits .room)
+  point-room m l = less (how .scale) (fits .spaced) (le-of-eq (fits .room))
     where
       less : (s : ℕ) → 0 < s → s * n ≤ points → s * m < points
       less s h r = let e : s * (m + 1) ≤ s * n = mul-le-mul-left s (omega arith) in omega arith
 
-  -- root i of shift index j stands in the table of values, and its point in that of points
+  -- root i of shift index j stands in the table of values, and the point of index j in that of points
   pub root-number : {j : ℕ} → j < how .step → (i : ℕ) → i < k → j + i * how .step < n
   root-number below i l = let r = fits .roots in omega (arith, suc-mul i (how .step), mul-le-mul-right (how .step) l)
 
-  pub root-point : {j : ℕ} → j < how .step → (i : ℕ) → i < k → how .scale * (j + i * how .step) < points
-  root-point {j} below i l = point-room (j + i * how .step) (root-number below i l)
-
   pub first-point : {j : ℕ} → j < how .step → how .scale * j < points
-  first-point {j} below = point-room j (omega (arith, root-number below 0 (fits .folded)))
+  first-point {j} below = point-room j (omega (arith, root-number below 0 (omega (arith, folded))))
+
+  -- the k roots lie all around: half of all powers is half of k times the way from one root to the next
+  pub half-way : points / 2 ≡ 2 ^ fits .log * (how .scale * how .step)
+  half-way =
+      let q = 2 ^ fits .log in
+      let double : k ≡ q * 2 = fits .two ∙ pow-suc 2 (fits .log) in
+      let whole : how .scale * (q * 2 * how .step) ≡ points = ap (λ (x : ℕ). how .scale * (x * how .step)) (sym double) ∙ ap (λ (x : ℕ). how .scale * x) (fits .roots) ∙ fits .room in
+      omega (arith, whole)
+
+  pub spacing : how .scale * how .step ≤ points
+  spacing = omega (arith, half-way, mul-le-mul-right (how .scale * how .step) (pow-pos (fits .log)))

@@ -1,5 +1,5 @@
 -- What is worked out over the words in hand is the definition's, where the words are those of a level's function.
-use Prim.Native.Nat.{ℕ, suc, _+_, _*_, _^_, _<_, zero-le, suc-le-suc}
+use Prim.Native.Nat.{ℕ, zero, suc, _+_, _*_, _^_, _<_, zero-le, suc-le-suc}
 use mathlib.Core.Path.{_≡_, _∙_, sym, ap, refl}
 use mathlib.Core.Bool.{Bool, not}
 use mathlib.Core.List.{List, [], _∷_, _++_, map}
@@ -7,20 +7,23 @@ use mathlib.Core.Option.{Option}
 use native.Mathlib.Omega.{arith}
 use lib.Dec.{eqb}
 use lib.ListN.{length}
-use Rattle.definition.specs.Lists.{range, firstTrue}
-use Rattle.definition.specs.Field.{Field, primeField, fieldOf}
+use Rattle.definition.specs.Lists.{firstTrue}
+use Rattle.definition.specs.Field.{Field, primeField, primeOf, fieldOf, power}
 use Rattle.definition.specs.Sheet.{Level, shiftCount}
-use Rattle.definition.specs.Polynomial.{Sample, pair, evaluate, interpolate}
-use Rattle.definition.specs.Domain.{point, rootNumbers, shiftPoint, foldAt}
+use Rattle.definition.specs.Polynomial.{Sample, pair, evaluate}
+use Rattle.definition.specs.Domain.{shiftPoint, foldAt}
 use Rattle.definition.specs.Transcript.{Round}
 use Rattle.definition.specs.Deciding.{answers, differences}
-use Rattle.algebra.specs.ListFacts.{all-of-map, all-range, map-all}
-use Rattle.polynomial.specs.Pairs.{pair-map}
+use Rattle.algebra.specs.PrimeField.{laws, signs-differ, suited}
+use Rattle.algebra.specs.RootsOfUnity.{minusOne}
 use Rattle.samples.specs.Samples.{sifted}
 use Rattle.rounds.specs.declared.Function.{Function}
-use Rattle.rounds.specs.PointsIn.{pointIn, point-in, shift-in}
+use Rattle.rounds.specs.PointsIn.{backIn, back-power, shift-in}
 use Rattle.domain.specs.Powers.{Powers}
-use Rattle.rounds.specs.Round.{numbersFrom, valueIn, foldIn, sampleIn, Fits, Below, point-room, root-number, root-point}
+use Rattle.rounds.specs.Halving.{halving}
+use Rattle.rounds.specs.HalvingLaw.{halving-same}
+use Rattle.rounds.specs.FoldLaw.{fold-by-halves}
+use Rattle.rounds.specs.Round.{valueIn, rootIn, halfOf, foldIn, sampleIn, Fits, Below, exponent, first-point, folded, half-way, root-number}
 
 -- The words in hand are those of the function f at level b, whose folding number is k.
 pub record Serves (field ω : ℕ) (b : Level) (f : ℕ → ℕ) (pw table xs cs : List ℕ) (how : Function) (k : ℕ) : Type 0 where
@@ -47,42 +50,47 @@ differsIn field coefficients s = not (eqb (evaluate (fieldOf field) coefficients
 
 -- ---- folds and samples
 
--- the definition's fold, by the list of the roots and that of the values there
-fold-pair : {A : Type 0} (F : Field A) (ω : A) (b : Level) (f : ℕ → A) (r : A) (j : ℕ) →
-    evaluate F (interpolate F (pair (map (point F ω b) (rootNumbers b j)) (map f (rootNumbers b j)))) r ≡ foldAt F ω b f r j
-unfolding foldAt
-fold-pair {A} F ω b f r j = ap (λ (s : List (Sample A)). evaluate F (interpolate F s) r) (sym (pair-map (point F ω b) f (rootNumbers b j)))
+-- twice 1/2 is 1
+two-halves : (field : ℕ) → fieldOf field ._⊗_ (fieldOf field ._⊕_ (fieldOf field .𝟙) (fieldOf field .𝟙)) (halfOf field) ≡ fieldOf field .𝟙
+unfolding fieldOf primeField primeOf halfOf
+two-halves zero = refl
+two-halves (suc zero) = refl
+two-halves (suc (suc field)) = refl
 
-roots-are : (b : Level) (j : ℕ) → numbersFrom (shiftCount b) j 0 (b .fold) ≡ rootNumbers b j
-unfolding numbersFrom rootNumbers
-roots-are b j = refl
+opposite-signs : (field : ℕ) → minusOne (fieldOf field) ≡ fieldOf field .𝟙 → ⊥
+unfolding fieldOf
+opposite-signs field = signs-differ (primeOf field) (suited field .large)
 
 module _ {field ω : ℕ} {b : Level} {f : ℕ → ℕ} {pw table xs cs : List ℕ} {how : Function} {k : ℕ} (s : Serves field ω b f pw table xs cs how k)
     (fits : Fits (length pw) (length table) how k) (r : ℕ) where
   abbrev F : Field ℕ
   F = fieldOf field
 
-  -- two functions that agree on the domain have the same values at the roots
-  on-roots : (g h : ℕ → ℕ) (j : ℕ) → j < how .step → ((m : ℕ) → m < length table → g m ≡ h m) → map g (numbersFrom (how .step) j 0 k) ≡ map h (rootNumbers b j)
-  unfolding numbersFrom
-  on-roots g h j l e =
-      map-all (λ m. m < length table) g h (numbersFrom (how .step) j 0 k)
-      (all-of-map (λ m. m < length table) (λ m. j + m * how .step) (range 0 k)
-      (all-range (λ m. j + m * how .step < length table) 0 k (λ m a u. root-number fits l m (omega arith)))) e
-      ∙ ap (map h) ((λ i. numbersFrom (s .step i) j 0 (s .fold i)) ∙ roots-are b j)
+  long : {j : ℕ} → j < how .step → 0 < length pw
+  long l = omega (arith, first-point fits l)
+
+  -- k/2 roots on stands the opposite of a root
+  turn : power F ω (2 ^ fits .log * (2 ^ b .number * shiftCount b)) ≡ minusOne F
+  turn = ap (power F ω) ((λ i. 2 ^ fits .log * (sym (s .scale) i * sym (s .step) i)) ∙ sym (half-way fits)) ∙ s .powers .half
 
   pub fold-is : (j : ℕ) → j < how .step → foldIn field pw table xs cs how k r j ≡ foldAt F ω b f r j
   unfolding foldIn
   fold-is j l =
-      let x = on-roots (pointIn pw (how .scale)) (point F ω b) j l (λ m h. point-in (s .powers) b (s .scale) m (point-room fits m h)) in
-      let y = on-roots (valueIn field pw table xs cs how) f j l (s .values) in
-      (λ i. evaluate F (interpolate F (pair (x i) (y i))) r) ∙ fold-pair F ω b f r j
+      let half = halfOf field in
+      let back = backIn pw in
+      let e = 1 + how .scale * j in
+      let d = how .scale * how .step in
+      ap (λ (a : ℕ). halving F half back a e d r (rootIn field pw table xs cs how j)) (exponent fits)
+      ∙ halving-same F half back (suc (fits .log)) e d r (rootIn field pw table xs cs how j) (λ m. f (j + m * how .step))
+      (λ m h. s .values (j + m * how .step) (root-number fits l m (omega (arith, fits .two))))
+      ∙ (λ i. halving F half back (suc (fits .log)) (1 + s .scale i * j) (s .scale i * s .step i) r (λ m. f (j + m * s .step i)))
+      ∙ fold-by-halves F (laws field) ω half back (opposite-signs field) (two-halves field) (back-power (s .powers) (long l)) b f r j (fits .log) (sym (s .fold) ∙ fits .two) turn
 
   pub sample-is : (j : ℕ) → j < how .step → sampleIn field pw table xs cs how k r j ≡ record { point = shiftPoint F ω b j; value = foldAt F ω b f r j }
   unfolding sampleIn
   sample-is j l =
-      let long : 0 < length pw = omega (arith, root-point fits l 0 (fits .folded)) in
-      λ i. record { point = shift-in (s .powers) b (s .scale) (s .fold) j (fits .folded) long i; value = fold-is j l i }
+      let some : 0 < k = omega (arith, folded fits) in
+      λ i. record { point = shift-in (s .powers) b (s .scale) (s .fold) j some (long l) i; value = fold-is j l i }
 
   samples-are : (js : List ℕ) → Below (how .step) js →
       map (sampleIn field pw table xs cs how k r) js ≡ map (λ j. record { point = shiftPoint F ω b j; value = foldAt F ω b f r j }) js

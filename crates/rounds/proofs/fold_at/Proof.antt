@@ -1,41 +1,62 @@
 -- `rounds::fold_at` meets its contract. Assumes nothing.
+use Prim.Native.Nat.{ℕ, _^_}
+use mathlib.Core.Path.{_∙_, sym, ap}
 use native.Mathlib.Omega.{arith}
 use lib.ListN.{length}
 use borrow.Author.Needs.{needs}
-use Rattle.rounds.proofs.Roots.{folded}
+use Rattle.rounds.specs.Halving.{exponentOf}
+use Rattle.rounds.specs.Round.{first-point, spacing, power-of}
+use Rattle.rounds.proofs.Turns.{folded}
 use Rattle.rounds.proofs.fold_at.Statement.{statement}
 use Rattle.rounds.proofs.fold_at.Tie as tie
 
 gather-requires : tie.Need-gather-requires
-gather-requires c κs =
-    let s = c .before .before .before .before .before .before .before .before .before in
-    (s .pre .0, (s .pre .1 .0, (s .pre .1 .1 .0, s .pre .1 .1 .1 .0)))
+gather-requires c κs = search needs
 
-interpolated-at-requires : tie.Need-interpolated-at-requires
-interpolated-at-requires c κs = (omega arith, omega arith)
+mul-fold-values : tie.Need-mul-fold-values
+mul-fold-values c =
+    let s = c .before .before .before .before .before .before .before .before .before .before in
+    omega (arith, first-point (s .pre .1 .0) (s .pre .1 .1), s .pre .1 .0 .small)
+
+add-fold-values : tie.Need-add-fold-values
+add-fold-values c =
+    let s = c .before .before .before .before .before .before .before .before .before .before in
+    omega (arith, first-point (s .pre .1 .0) (s .pre .1 .1), s .pre .1 .0 .small)
+
+mul-fold-values-2 : tie.Need-mul-fold-values-2
+mul-fold-values-2 c =
+    let s = c .before .before .before .before .before .before .before .before .before .before .before in
+    omega (arith, spacing (s .pre .1 .0), s .pre .1 .0 .small)
+
+fold-values-requires : tie.Need-fold-values-requires
+fold-values-requires c κs =
+    let s = c .before .before .before .before .before .before .before .before .before .before .before .before in
+    let fits = s .pre .1 .0 in
+    let first = first-point fits (s .pre .1 .1) in
+    let long = c .before .before .before .before .before .gather .kept .1 .1 .1 .1 .1 .1 .1 .0 in (
+      (omega (arith, first), (omega (arith, first, fits .small), omega (arith, spacing fits, fits .small))),
+      (long ∙ power-of fits ∙ ap (λ (n : ℕ). 2 ^ exponentOf n) (sym long), omega (arith, long, fits .few)),
+    )
 
 same-length : tie.Need-same-length
 same-length c = search needs
 
-same-length-2 : tie.Need-same-length-2
-same-length-2 c = search needs
-
-same-length-3 : tie.Need-same-length-3
-same-length-3 c = search needs
-
 returns : tie.Need-returns
 returns c =
-    let g = c .before .before .before .before .before .before .before .before .before .before in
-    let a = g .before .before .before .before .before .before .before .before .before .before .args in
-    folded (a .field) (a .pw .now) (a .table .now) (a .xs .now) (a .cs .now) (a .how) (length (a .rx .now)) (a .r) (a .j) (g .gather .ensures .0) (g .gather .ensures .1) (c .before .before .interpolated-at .ensures)
+    let v = c .before .before .fold-values in
+    let g = c .before .before .before .before .before .before .before .before .gather in
+    let s = c .before .before .before .before .before .before .before .before .before .before .before .before .before .before .before in
+    let a = s .args in
+    folded (a .field) (a .pw .now) (a .table .now) (a .xs .now) (a .cs .now) (a .how) (length (a .values .now)) (a .r) (a .j) (g .last .1 .1 .1 .1 .1 .1 .1 .0) (s .pre .1 .0) (g .kept .1 .1 .1 .1 .1 .1 .1 .0) (g .ensures) (v .ensures)
 
 pub fold-at-spec : {M : Type 1} → statement M
 fold-at-spec =
     tie.close
     (tie.spec
     gather-requires
-    interpolated-at-requires
+    mul-fold-values
+    add-fold-values
+    mul-fold-values-2
+    fold-values-requires
     same-length
-    same-length-2
-    same-length-3
     returns)

@@ -1,34 +1,28 @@
 -- `rounds::sample_at` meets its contract. Assumes nothing.
+use native.Mathlib.Omega.{arith}
 use lib.ListN.{length}
 use borrow.Author.Needs.{needs}
-use Rattle.rounds.specs.Round.{first-point}
+use Rattle.rounds.specs.Round.{first-point, folded}
 use Rattle.rounds.proofs.Shifts.{sampled}
 use Rattle.rounds.proofs.sample_at.Statement.{statement}
 use Rattle.rounds.proofs.sample_at.Tie as tie
 
 shift-point-requires : tie.Need-shift-point-requires
 shift-point-requires c κs =
-    let s = c .before .before .before .before .before .before .before in
-    (first-point (s .pre .1 .0) (s .pre .1 .1 .0), (s .pre .1 .0 .small, (s .pre .1 .0 .folded, s .pre .1 .0 .few)))
+    let s = c .before .before .before .before .before in
+    let fits = s .pre .1 .0 in
+    (first-point fits (s .pre .1 .1), (fits .small, (omega (arith, folded fits), fits .few)))
 
 fold-at-requires : tie.Need-fold-at-requires
-fold-at-requires c κs =
-    let s = c .before .before .before .before .before .before .before .before .before .before .before in
-    s .pre
+fold-at-requires c κs = c .before .before .before .before .before .before .before .pre
 
 same-length : tie.Need-same-length
 same-length c = search needs
 
-same-length-2 : tie.Need-same-length-2
-same-length-2 c = search needs
-
-same-length-3 : tie.Need-same-length-3
-same-length-3 c = search needs
-
 returns : tie.Need-returns
 returns c =
-    let a = c .before .before .before .before .before .before .before .before .before .before .before .before .before .before .before .before .before .before .args in
-    sampled (a .field) (a .pw .now) (a .table .now) (a .xs .now) (a .cs .now) (a .how) (length (a .rx .now)) (a .r) (a .j) (c .before .before .before .before .before .before .before .before .before .before .shift-point .ensures .0) (c .before .before .before .before .before .before .fold-at .ensures)
+    let a = c .before .before .before .before .before .before .before .before .before .before .args in
+    sampled (a .field) (a .pw .now) (a .table .now) (a .xs .now) (a .cs .now) (a .how) (length (a .values .now)) (a .r) (a .j) (c .before .before .before .before .shift-point .ensures .0) (c .before .before .fold-at .ensures)
 
 pub sample-at-spec : {M : Type 1} → statement M
 sample-at-spec =
@@ -37,6 +31,4 @@ sample-at-spec =
     shift-point-requires
     fold-at-requires
     same-length
-    same-length-2
-    same-length-3
     returns)

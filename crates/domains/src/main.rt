@@ -1,0 +1,66 @@
+// The program `domains`: reads a sheet on standard input, as words, and prints whether it keeps its rules and, where it does, its evaluation domains, round
+// by round. The points of domain 0 are table 0 of the polynomial X, and those of domain i are every 2^i-th of them.
+use intake::Taken;
+use libc::STDIN_FILENO;
+use libc::STDOUT_FILENO;
+use outcome::Answer;
+ghost use Prim.Native.Nat.{_<_};
+
+fn main() {
+    let mut words = [0u32; 4096];
+    let taken = intake::words(STDIN_FILENO, &mut words);
+    let Taken::Words(count) = taken else {
+        report::refuse(STDOUT_FILENO, 10, 0);
+        return;
+    };
+    let mut x = [0u32; 2048];
+    x[1] = 1;
+    let mut points = [0u32; 4096];
+    let answer = encode::encode(
+        intake::front(&words, count),
+        intake::front(&x, intake::degree_bound(&words)),
+        &mut points,
+    );
+    match answer {
+        Answer::Done(size) => show(rounds(&words), intake::front(&points, size)),
+        Answer::Refusal(number, place) => report::refuse(STDOUT_FILENO, number, place),
+    }
+}
+
+// The number of rounds, M.
+fn rounds(words: &[u32]) -> u32 {
+    if words.len() < 5 {
+        return 0;
+    }
+    words[4]
+}
+
+// A line for each domain: its number and its points.
+fn show(rounds: u32, points: &[u32]) {
+    io::write_all(STDOUT_FILENO, b"keeps its rules\n");
+    for i in 0..6u32 {
+        if i <= rounds {
+            line(i, points);
+        }
+    }
+}
+
+// Domain i: every 2^i-th point.
+fn line(i: u32, points: &[u32])
+    requires { ⌜ i < 6 ⌝ }
+{
+    io::write_all(STDOUT_FILENO, b"domain ");
+    io::print_decimal(STDOUT_FILENO, i as u64);
+    io::write_all(STDOUT_FILENO, b":");
+    for j in 0..points.len() {
+        if (j >> i) << i == j {
+            point(points[j]);
+        }
+    }
+    io::write_all(STDOUT_FILENO, b"\n");
+}
+
+fn point(x: u32) {
+    io::write_all(STDOUT_FILENO, b" ");
+    io::print_decimal(STDOUT_FILENO, x as u64);
+}

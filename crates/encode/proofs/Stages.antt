@@ -1,0 +1,81 @@
+-- What the tests' outcome says about the definition's result, and table 0 from the table of points.
+use Prim.Native.Nat.{ℕ, suc, _≤_}
+use native.Mathlib.Omega.{arith}
+use mathlib.Core.Path.{_≡_, refl, sym, ap, _∙_}
+use mathlib.Core.List.{List, [], _++_}
+use lib.Dec.{ltb}
+use lib.ListN.{length, getD, drop}
+use borrow.Author.Tests.{ltb-false}
+use Rattle.definition.specs.Field.{fieldOf, primeField}
+use Rattle.definition.specs.Prove.{coefficientsTest, done, encode, encodeTests, finish, inputRangeTest, outputTest, refusal, sheetLengthTest}
+use Rattle.definition.specs.Prover.{tableOf}
+use Rattle.definition.specs.Reading.{sheetTest}
+use Rattle.definition.specs.Sheet.{firstLevel, rootOfUnity, sheetLength, sheetOf}
+use Rattle.definition.specs.Verdict as definition
+use Rattle.definition.specs.Verdict.{_then_}
+use Rattle.completeness.specs.SheetRules.{exponents}
+use Rattle.completeness.specs.Tests.{equal-passes, if-passes, then-passes}
+use Rattle.domain.specs.Powers.{Powers}
+use Rattle.outcome.specs.declared.Outcome.{Outcome}
+use Rattle.outcome.specs.declared.Outcome.the-variants.{Accepted, Refused}
+use Rattle.outcome.specs.Meaning.{outcomeOf}
+use Rattle.tables.specs.Halving.{Halves}
+use Rattle.tables.specs.OnDomain.{DomainTable}
+
+abbrev pub tableZero : List ℕ → List ℕ → List ℕ
+tableZero w f = tableOf (primeField (sheetOf w .prime)) (rootOfUnity (sheetOf w)) (firstLevel (sheetOf w)) f
+
+-- d0 and n0 are powers of two, and d0 is the smaller
+pub halves : (w : List ℕ) {d n : ℕ} → sheetTest w ≡ definition.accepted → d ≡ getD w 2 0 → n ≡ getD w 1 0 → Halves d n
+halves w passed ed en =
+    let x = exponents w passed in
+    record { log = x .b; logSize = suc (x .a); count-is = ed ∙ x .degree; size-is = en ∙ x .size; fits = omega (arith, x .below) }
+
+pub table-zero : (w f pw out : List ℕ) {n : ℕ} → Powers (getD w 0 0) (rootOfUnity (sheetOf w)) pw → n ≡ getD w 1 0 → DomainTable (getD w 0 0) f pw 1 n out → out ≡ tableZero w f
+unfolding sheetOf firstLevel fieldOf
+table-zero w f pw out powers size table = table (rootOfUnity (sheetOf w)) (firstLevel (sheetOf w)) powers refl (sym size)
+
+-- what was written, and the output as before after it
+pub placed : (table l output : List ℕ) (n : ℕ) → l ≡ table → length l ≡ n → l ++ drop n output ≡ table ++ drop (length table) output
+placed table l output n e h = (λ i. e i ++ drop (sym h i) output) ∙ ap (λ (m : ℕ). table ++ drop m output) (ap length e)
+
+module _ (w f output : List ℕ) (r : Outcome) (tested : (out : List ℕ) → length out ≡ length output →
+    outcomeOf r ≡ (sheetLengthTest w then sheetTest w then encodeTests (sheetOf w) f out)) where
+  result-is : {o : definition.Outcome} → outcomeOf r ≡ o → encode w f output ≡ finish o (getD w 1 0) (tableZero w f) output
+  unfolding encode sheetOf
+  result-is e = ap (λ (o : definition.Outcome). finish o (getD w 1 0) (tableZero w f) output) (sym (tested output refl) ∙ e)
+
+  -- a refusal: the output as before
+  pub refused-is : {number place : ℕ} → r ≡ Refused number place → encode w f output ≡ record { answer = refusal number place; output = output }
+  unfolding outcomeOf finish
+  refused-is e = result-is (ap outcomeOf e)
+
+  module _ (e : r ≡ Accepted) where
+    pub done-is : encode w f output ≡ record { answer = done (getD w 1 0); output = tableZero w f ++ drop (length (tableZero w f)) output }
+    unfolding outcomeOf finish
+    done-is = result-is (ap outcomeOf e)
+
+    all-passed : (sheetLengthTest w ≡ definition.accepted) × ((sheetTest w ≡ definition.accepted) × (encodeTests (sheetOf w) f output ≡ definition.accepted))
+    unfolding outcomeOf
+    all-passed =
+        let a = then-passes (sheetLengthTest w) _ (sym (tested output refl) ∙ ap outcomeOf e) in
+        let b = then-passes (sheetTest w) _ (a .1) in
+        (a .0, (b .0, b .1))
+
+    pub twelve-words : length w ≡ 12
+    unfolding sheetLengthTest
+    twelve-words = equal-passes 10 0 (length w) sheetLength (all-passed .0)
+
+    pub sheet-passed : sheetTest w ≡ definition.accepted
+    sheet-passed = all-passed .1 .0
+
+    pub coefficients-due : length f ≡ getD w 2 0
+    unfolding encodeTests coefficientsTest sheetOf
+    coefficients-due = equal-passes 10 1 (length f) (getD w 2 0) (then-passes (coefficientsTest (sheetOf w) f) _ (all-passed .1 .1) .0)
+
+    pub enough-room : getD w 1 0 ≤ length output
+    unfolding encodeTests outputTest sheetOf
+    enough-room =
+        let a = then-passes (coefficientsTest (sheetOf w) f) _ (all-passed .1 .1) in
+        let b = then-passes (inputRangeTest (sheetOf w) [] f) _ (a .1) in
+        ltb-false (length output) (getD w 1 0) (if-passes 11 (getD w 1 0) (ltb (length output) (getD w 1 0)) (b .1))

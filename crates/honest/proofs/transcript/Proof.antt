@@ -1,0 +1,75 @@
+-- `honest::transcript` meets its contract. Assumes nothing.
+use native.Mathlib.Omega.{arith}
+use mathlib.Core.Path.{_∙_, refl, sym}
+use lib.ListN.{length, getD}
+use lib.Seq.{length-take-le}
+use Rattle.completeness.specs.LevelsByNumber.{undivided}
+use Rattle.completeness.specs.Numbered.{levelOf}
+use Rattle.honest.proofs.Parts.{joined, others-long}
+use borrow.Author.Needs.{needs}
+use Rattle.honest.proofs.transcript.Statement.{statement}
+use Rattle.honest.proofs.transcript.Tie as tie
+
+slice-relend-prefix-table : tie.Need-slice-relend-prefix-table
+slice-relend-prefix-table c = search needs
+
+slice-aggregate-table : tie.Need-slice-aggregate-table
+slice-aggregate-table c =
+    let s = c .before .before .before .before .before .before in
+    let a = s .args in
+    sym (length-take-le (length (a .pw .now)) (a .out .now) (omega (arith, s .pre .0 .points, s .pre .1 .1 .1)))
+
+table-requires : tie.Need-table-requires
+table-requires c κs =
+    let s = c .before .before .before .before .before .before in
+    let a = s .args in
+    let n = length-take-le (length (a .pw .now)) (a .out .now) (omega (arith, s .pre .0 .points, s .pre .1 .1 .1)) in
+    record { number = 0; standing = s .pre .0; size = n ∙ s .pre .0 .points ∙ sym (undivided (getD (a .w .now) 1 0) 2) }
+
+mul-after-first : tie.Need-mul-after-first
+mul-after-first c = search needs
+
+sub-after-first : tie.Need-sub-after-first
+sub-after-first c = search needs
+
+part-after-first-start : tie.Need-part-after-first-start
+part-after-first-start c = search needs
+
+part-after-first-end : tie.Need-part-after-first-end
+part-after-first-end c = search needs
+
+after-first-requires : tie.Need-after-first-requires
+after-first-requires c κs =
+    let s = c .before .before .before .before .before .before .before .before .before .before in
+    let a = s .args in
+    let t = c .before .before .before .table in
+    let n = others-long (a .out .now) (t .last .1 .1 .1 .1 .0) (length (a .pw .now)) (omega (arith, s .pre .0 .points, s .pre .1 .1 .1)) (t .kept .1 .1 .1 .1 .0) in
+    (s .pre .0, (s .pre .1 .0, (s .pre .1 .1 .0, n ∙ omega (arith, s .pre .0 .points, s .pre .1 .1 .1))))
+
+same-length : tie.Need-same-length
+same-length c = search needs
+
+returns : tie.Need-returns
+returns c =
+    let s = c .before .before .before .before .before .before .before .before .before .before .before .before .before in
+    let a = s .args in
+    let t = c .before .before .before .before .before .before .table in
+    let v = c .before .before .after-first in
+    let n = length-take-le (length (a .pw .now)) (a .out .now) (omega (arith, s .pre .0 .points, s .pre .1 .1 .1)) in
+    let own = t .ensures (levelOf (a .w .now) 0) refl (sym (n ∙ s .pre .0 .points ∙ sym (undivided (getD (a .w .now) 1 0) 2))) in
+    joined (a .out .now) (t .last .1 .1 .1 .1 .0) (length (a .pw .now)) (omega (arith, s .pre .0 .points, s .pre .1 .1 .1)) (t .kept .1 .1 .1 .1 .0) (v .last .1 .1 .1 .1 .0) own (v .ensures)
+
+pub transcript-spec : {M : Type 1} → statement M
+transcript-spec =
+    tie.close
+    (tie.spec
+    slice-relend-prefix-table
+    slice-aggregate-table
+    table-requires
+    mul-after-first
+    sub-after-first
+    part-after-first-start
+    part-after-first-end
+    after-first-requires
+    same-length
+    returns)

@@ -1,0 +1,6 @@
+pub mod Points
+pub mod Standing
+pub mod Levels
+pub mod Sizes
+pub mod Tables
+pub mod Beginning

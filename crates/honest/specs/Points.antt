@@ -1,0 +1,64 @@
+-- The points of G: the different points of a list, of equal points the last. Since all samples are of one polynomial, the points say which are kept.
+use Prim.Native.Nat.{ℕ, _*_, _<_}
+use mathlib.Core.Bool.{Bool, true, false, cond, _||_}
+use mathlib.Core.List.{List, [], _∷_, _++_}
+use mathlib.Core.Path.{_≡_, refl, sym, ap, _∙_}
+use lib.Dec.{eqb}
+use lib.ListN.{length, getD}
+use borrow.Author.Tests.{eqb-true}
+use Rattle.definition.specs.Field.{fieldOf, primeField}
+use Rattle.definition.specs.Lists.{member}
+use Rattle.definition.specs.Polynomial.{Sample, distinct, points, sampledAt}
+use Rattle.definition.specs.Prover.{samplesOf}
+
+-- every index of a list, times the scale, is the number of a word in a table of points
+abbrev pub InTable : ℕ → ℕ → List ℕ → Type 0
+InTable points scale js = (i : ℕ) → i < length js → scale * getD js i 0 < points
+
+-- a point in front of others, unless it is among them
+unfoldable pub keepPoint : ℕ → List ℕ → List ℕ
+keepPoint x kept = cond (member x kept) kept (x ∷ kept)
+
+-- the points of a list in front of others, the last first
+unfoldable pub keepPoints : List ℕ → List ℕ → List ℕ
+keepPoints [] kept = kept
+keepPoints (x ∷ xs) kept = keepPoint x (keepPoints xs kept)
+
+abbrev pub differentPoints : List ℕ → List ℕ
+differentPoints xs = keepPoints xs []
+
+pub keep-append : (xs ys kept : List ℕ) → keepPoints (xs ++ ys) kept ≡ keepPoints xs (keepPoints ys kept)
+unfolding keepPoints
+keep-append [] ys kept = refl
+keep-append (x ∷ xs) ys kept = ap (keepPoint x) (keep-append xs ys kept)
+
+-- what is kept has the points that are given
+member-kept : (x : ℕ) (xs : List ℕ) → member x (differentPoints xs) ≡ member x xs
+unfolding keepPoints keepPoint member
+member-kept x [] = refl
+member-kept x (y ∷ ys) = go (member y (differentPoints ys)) (eqb x y) refl refl (member-kept x ys)
+  where
+    go : (b t : Bool) → member y (differentPoints ys) ≡ b → eqb x y ≡ t → member x (differentPoints ys) ≡ member x ys →
+        member x (cond b (differentPoints ys) (y ∷ differentPoints ys)) ≡ (t || member x ys)
+    go true true e q h = ap (λ (z : ℕ). member z (differentPoints ys)) (eqb-true x y q) ∙ e
+    go true false e q h = h
+    go false t e q h = λ i. q i || h i
+
+module _ (field ω : ℕ) (g : List ℕ) where
+  sampled-member : (x : ℕ) (xs : List ℕ) → sampledAt (fieldOf field) x (samplesOf (fieldOf field) ω g xs) ≡ member x xs
+  unfolding sampledAt samplesOf member fieldOf primeField
+  sampled-member x [] = refl
+  sampled-member x (y ∷ ys) = ap (λ (t : Bool). eqb x y || t) (sampled-member x ys)
+
+  kept-points : (b c : Bool) (s : Sample ℕ) (kept : List (Sample ℕ)) (xs : List ℕ) → b ≡ c → points kept ≡ xs →
+      points (cond b kept (s ∷ kept)) ≡ cond c xs (s .point ∷ xs)
+  unfolding points
+  kept-points b true s kept xs e h = ap (λ (t : Bool). points (cond t kept (s ∷ kept))) e ∙ h
+  kept-points b false s kept xs e h = ap (λ (t : Bool). points (cond t kept (s ∷ kept))) e ∙ ap {B = List ℕ} (λ l. s .point ∷ l) h
+
+  -- the points of the samples that `distinct` keeps
+  pub distinct-points : (xs : List ℕ) → points (distinct (fieldOf field) (samplesOf (fieldOf field) ω g xs)) ≡ differentPoints xs
+  unfolding points distinct samplesOf keepPoints keepPoint
+  distinct-points [] = refl
+  distinct-points (x ∷ xs) =
+      kept-points _ (member x (differentPoints xs)) _ _ (differentPoints xs) (sampled-member x xs ∙ sym (member-kept x xs)) (distinct-points xs)

@@ -1,0 +1,19 @@
+use native.Mathlib.Omega.{arith}
+use borrow.Author.Needs.{needs}
+use Rattle.intake.proofs.degree_bound.Statement.{statement}
+use Rattle.intake.proofs.degree_bound.Tie as tie
+
+returns : tie.Need-returns
+returns c = search needs
+
+shared-slice-read-result : tie.Need-shared-slice-read-result
+shared-slice-read-result c = search needs
+
+cast-result : tie.Need-cast-result
+cast-result c = omega (arith, c .shared-slice-known .given 2)
+
+returns-2 : tie.Need-returns-2
+returns-2 c = search needs
+
+pub degree-bound-spec : {M : Type 1} → statement M
+degree-bound-spec = tie.close (tie.spec returns shared-slice-read-result cast-result returns-2)

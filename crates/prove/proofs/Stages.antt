@@ -1,0 +1,59 @@
+-- What the tests' outcome says about the definition's result.
+use Prim.Native.Nat.{ℕ, _+_, _*_, _/_, _≤_}
+use native.Mathlib.Omega.{arith}
+use mathlib.Core.Path.{_≡_, refl, sym, ap, _∙_}
+use mathlib.Core.List.{List, _++_}
+use lib.ListN.{length, take, drop}
+use lib.Dec.{ltb}
+use borrow.Author.Tests.{ltb-false}
+use Rattle.definition.specs.Block.{blockCount, fileOf}
+use Rattle.definition.specs.Layout.{wordsDue}
+use Rattle.definition.specs.Prove.{Answer, Result, done, finish, outputTest, prove, proveTests, refusal, sheetLengthTest}
+use Rattle.definition.specs.Prover.{honestStream}
+use Rattle.definition.specs.Reading.{sheetTest}
+use Rattle.definition.specs.Sheet.{sheetOf, sheetLength}
+use Rattle.definition.specs.Verdict as definition
+use Rattle.definition.specs.Verdict.{_then_}
+use Rattle.completeness.specs.Numbered.{Allowed, Room}
+use Rattle.completeness.specs.ProveAccepted.{done-allowed}
+use Rattle.completeness.specs.Tests.{equal-passes, if-passes}
+use Rattle.outcome.specs.declared.Outcome.{Outcome}
+use Rattle.outcome.specs.declared.Outcome.the-variants.{Accepted, Refused}
+use Rattle.outcome.specs.Meaning.{outcomeOf}
+
+-- the file written, and its number of blocks
+abbrev pub written : List ℕ → List ℕ → List ℕ → List ℕ
+written w f coins = fileOf (honestStream w f coins)
+
+abbrev pub blocks : List ℕ → ℕ
+blocks w = blockCount (wordsDue (sheetOf w))
+
+module _ (w f coins output : List ℕ) (r : Outcome) (tested : (out : List ℕ) → length out ≡ length output →
+    outcomeOf r ≡ (sheetLengthTest w then sheetTest w then proveTests (sheetOf w) f coins out)) where
+  result-is : {o : definition.Outcome} → outcomeOf r ≡ o → prove w f coins output ≡ finish o (blocks w) (written w f coins) output
+  unfolding prove
+  result-is e = ap (λ (o : definition.Outcome). finish o (blocks w) (written w f coins) output) (sym (tested output refl) ∙ e)
+
+  -- a refusal: the output as before
+  pub refused-is : {number place : ℕ} → r ≡ Refused number place → prove w f coins output ≡ record { answer = refusal number place; output = output }
+  unfolding outcomeOf finish
+  refused-is e = result-is (ap outcomeOf e)
+
+  module _ (e : r ≡ Accepted) where
+    pub done-is : prove w f coins output ≡ record { answer = done (blocks w); output = written w f coins ++ drop (length (written w f coins)) output }
+    unfolding outcomeOf finish
+    done-is = result-is (ap outcomeOf e)
+
+    all-passed : Allowed w f coins × Room w output × (blocks w ≡ blocks w)
+    all-passed = done-allowed w f coins output (blocks w) (ap (λ (x : Result). x .answer) done-is)
+
+    pub allowed : Allowed w f coins
+    allowed = all-passed .0
+
+    pub twelve-words : length w ≡ 12
+    unfolding sheetLengthTest
+    twelve-words = equal-passes 10 0 (length w) sheetLength (allowed .words)
+
+    pub enough-room : 512 * blocks w ≤ length output
+    unfolding outputTest
+    enough-room = ltb-false (length output) (512 * blocks w) (if-passes 11 (blocks w) (ltb (length output) (512 * blocks w)) (all-passed .1))

@@ -1,0 +1,46 @@
+// Prove: an order is refused with number and place and no byte is written, or the honest file stands at the front of the output.
+use outcome::Answer;
+use outcome::Outcome;
+ghost use mathlib.Core.Path.{_≡_};
+ghost use mathlib.Core.List.{_++_};
+ghost use Prim.Native.Nat.{_*_, _≤_};
+ghost use lib.ListN.{length, drop};
+ghost use Rattle.definition.specs.Block.{blockCount, fileOf};
+ghost use Rattle.definition.specs.Layout.{wordsDue};
+ghost use Rattle.definition.specs.Prove.{prove};
+ghost use Rattle.definition.specs.Prover.{honestStream};
+ghost use Rattle.definition.specs.Sheet.{sheetOf};
+ghost use Rattle.completeness.specs.Numbered.{Allowed};
+ghost use Rattle.outcome.specs.Meaning.{answerOf};
+
+// Places for the words of the longest stream.
+fn room() -> [u32; 8636]
+    ensures { λ r. ⌜ length r ≡ 8636 ⌝ }
+{
+    [0u32; 8636]
+}
+
+// Writes the honest file at the front of the output, by way of the stream's words.
+fn write(sheet: &[u32], coefficients: &[u32], coins: &[u32], words: &mut [u32], output: &mut [u8])
+    requires { ⌜ Allowed (now sheet) (now coefficients) (now coins) ⌝ }
+    requires { ⌜ (length (now words) ≡ wordsDue (sheetOf (now sheet))) × (512 * blockCount (length (now words)) ≤ length (now output)) ⌝ }
+    ensures { λ _. ⌜ now (output .exit) ≡ fileOf (honestStream (now (sheet .entry)) (now (coefficients .entry)) (now (coins .entry))) ++ drop (length (fileOf (honestStream (now (sheet .entry)) (now (coefficients .entry)) (now (coins .entry))))) (now (output .entry)) ⌝ }
+{
+    honest::stream(sheet, coefficients, coins, words);
+    stream::seal(words, words.len(), output);
+}
+
+// The answer to an order, and the whole output as it then is. No refusal is found after the first byte is written.
+pub fn prove(sheet: &[u32], coefficients: &[u32], coins: &[u32], output: &mut [u8]) -> Answer
+    ensures { λ r. ⌜ answerOf r ≡ prove (now (sheet .entry)) (now (coefficients .entry)) (now (coins .entry)) (now (output .entry)) .answer ⌝ }
+    ensures { λ r. ⌜ now (output .exit) ≡ prove (now (sheet .entry)) (now (coefficients .entry)) (now (coins .entry)) (now (output .entry)) .output ⌝ }
+{
+    let tests = orders::prove_tests(sheet, coefficients, coins, output.len());
+    if let Outcome::Refused(number, place) = tests {
+        return Answer::Refusal(number, place);
+    }
+    let due = sheet::words_due(sheet);
+    let mut words = room();
+    write(sheet, coefficients, coins, &mut words[..due], output);
+    Answer::Done((due + 126) / 127)
+}

@@ -1,0 +1,104 @@
+-- The fold by halves in place: one turn's walk over the pairs, and the turns. Assumes nothing.
+use Prim.Native.Nat.{ℕ, zero, suc, _+_, _*_, _/_, _^_, _≤_, _<_}
+use mathlib.Core.Path.{_≡_, _∙_, refl, ap}
+use mathlib.Core.List.{List}
+use native.Mathlib.Nat.{pow-suc, pow-zero}
+use native.Mathlib.Omega.{arith}
+use borrow.Author.Count.{below-none, below-more}
+use lib.ListN.{length, getD, set, length-set}
+use lib.Pow.{pow-pos}
+use lib.Seq.{getD-set-same, getD-set-other}
+use Rattle.definition.specs.Field.{Field, fieldOf}
+use Rattle.rounds.specs.declared.Function.{Function}
+use Rattle.rounds.specs.Halving.{joined, halving, exponentOf}
+use Rattle.rounds.specs.HalvingLaw.{halving-same}
+use Rattle.rounds.specs.PointsIn.{backIn}
+use Rattle.rounds.specs.Round.{Fits, halfOf, rootIn, foldIn, power-of}
+
+-- ---- two values joined
+
+pub joined-by : (F : Field ℕ) (half r y v w : ℕ) {sum difference factor both out : ℕ} → sum ≡ F ._⊕_ v w → difference ≡ F ._⊖_ v w → factor ≡ F ._⊗_ r y →
+    both ≡ F ._⊕_ sum (F ._⊗_ factor difference) → out ≡ F ._⊗_ half both → out ≡ joined F half r y v w
+unfolding joined
+joined-by F half r y v w es ed ef eb eo = cc
+
+-- ---- one turn: the first i places of old have become those of g, the others are as before
+
+pub record Turned (g : ℕ → ℕ) (old : List ℕ) (i : ℕ) (new : List ℕ) : Type 0 where
+  pub size : length new ≡ length old
+  pub done : (m : ℕ) → m < i → getD new m 0 ≡ g m
+  pub left : (m : ℕ) → i ≤ m → getD new m 0 ≡ getD old m 0
+
+module _ (g : ℕ → ℕ) (old : List ℕ) where
+  pub turned-none : Turned g old 0 old
+  turned-none = record { size = refl; done = below-none (λ m. getD old m 0 ≡ g m); left = λ m l. refl }
+
+  pub turned-next : (i : ℕ) (new : List ℕ) {v : ℕ} → i < length old → Turned g old i new → v ≡ g i → Turned g old (i + 1) (set new i v)
+  turned-next i new {v} below t e = record {
+    size = length-set new i v ∙ t .size;
+    done = below-more (λ m. getD (set new i v) m 0 ≡ g m) i
+        (λ m l. getD-set-other new i m v 0 (λ q. omega arith) ∙ t .done m l)
+        (getD-set-same new i v 0 (omega (arith, t .size)) ∙ e);
+    left = λ m l. getD-set-other new i m v 0 (λ q. omega arith) ∙ t .left m (omega arith);
+  }
+
+-- the place i becomes the pair i and h + i, joined
+module _ (F : Field ℕ) (half r : ℕ) (back : ℕ → ℕ) (h : ℕ) (old : List ℕ) where
+  abbrev pub pairs : ℕ → ℕ
+  pairs i = joined F half r (back i) (getD old i 0) (getD old (h + i) 0)
+
+  pub turned-pair : (i : ℕ) (new : List ℕ) {y v : ℕ} → i < h → h ≤ length old → Turned pairs old i new → y ≡ back i →
+      v ≡ joined F half r y (getD new i 0) (getD new (h + i) 0) → Turned pairs old (i + 1) (set new i v)
+  turned-pair i new below room t ey ev =
+      turned-next pairs old i new (omega arith) t (ev ∙ (λ x. joined F half r (ey x) (t .left i (omega arith) x) (t .left (h + i) (omega arith) x)))
+
+-- ---- the turns: what is left to fold has the value of the whole
+
+module _ (F : Field ℕ) (half : ℕ) (back : ℕ → ℕ) (whole : ℕ) where
+  pub record Left (count e d r : ℕ) (values : List ℕ) : Type 0 where
+    pub log : ℕ
+    pub two : count ≡ 2 ^ log
+    pub same : halving F half back log e d r (λ m. getD values m 0) ≡ whole
+
+  pub left-next : {count e d r : ℕ} {values values′ : List ℕ} {half′ r′ : ℕ} → 1 < count → Left count e d r values → half′ ≡ half →
+      ((m : ℕ) → m < count / 2 → getD values′ m 0 ≡ joined F half′ r (back (e + m * d)) (getD values m 0) (getD values (count / 2 + m) 0)) →
+      r′ ≡ F ._⊗_ r r → Left (count / 2) (2 * e) (2 * d) r′ values′
+  unfolding halving
+  left-next {count} {e} {d} {r} {values} {values′} {half′} {r′} many given eh turned er = go (given .log) (given .two) (given .same)
+    where
+      go : (a : ℕ) → count ≡ 2 ^ a → halving F half back a e d r (λ m. getD values m 0) ≡ whole → Left (count / 2) (2 * e) (2 * d) r′ values′
+      go zero two same = absurd (omega (arith, pow-zero 2))
+      go (suc a) two same =
+          let h : count / 2 ≡ 2 ^ a = omega (arith, pow-suc 2 a) in
+          record {
+            log = a;
+            two = h;
+            same =
+                ap (λ (s : ℕ). halving F half back a (2 * e) (2 * d) s (λ m. getD values′ m 0)) er
+                ∙ halving-same F half back a (2 * e) (2 * d) (F ._⊗_ r r) (λ m. getD values′ m 0)
+                (λ m. joined F half r (back (e + m * d)) (getD values m 0) (getD values (2 ^ a + m) 0))
+                (λ m l. turned m (omega arith) ∙ (λ i. joined F (eh i) r (back (e + m * d)) (getD values m 0) (getD values (h i + m) 0)))
+                ∙ same;
+          }
+
+  pub left-last : {count e d r : ℕ} {values : List ℕ} → count ≤ 1 → Left count e d r values → getD values 0 0 ≡ whole
+  unfolding halving
+  left-last {count} {e} {d} {r} {values} few given = go (given .log) (given .two) (given .same)
+    where
+      go : (a : ℕ) → count ≡ 2 ^ a → halving F half back a e d r (λ m. getD values m 0) ≡ whole → getD values 0 0 ≡ whole
+      go zero two same = same
+      go (suc a) two same = absurd (omega (arith, pow-suc 2 a, pow-pos a))
+
+-- ---- the fold
+
+pub folded : (field : ℕ) (pw table xs cs : List ℕ) (how : Function) (k r j : ℕ) (values : List ℕ) {points n v : ℕ} → Fits points n how k → length values ≡ k →
+    ((m : ℕ) → m < k → getD values m 0 ≡ rootIn field pw table xs cs how j m) →
+    v ≡ halving (fieldOf field) (halfOf field) (backIn pw) (exponentOf (length values)) (1 + how .scale * j) (how .scale * how .step) r (λ m. getD values m 0) →
+    v ≡ foldIn field pw table xs cs how k r j
+unfolding foldIn
+folded field pw table xs cs how k r j values fits long there e =
+    let d = how .scale * how .step in
+    let w : ℕ → ℕ = λ m. getD values m 0 in
+    e ∙ ap (λ (l : ℕ). halving (fieldOf field) (halfOf field) (backIn pw) (exponentOf l) (1 + how .scale * j) d r w) long
+    ∙ halving-same (fieldOf field) (halfOf field) (backIn pw) (exponentOf k) (1 + how .scale * j) d r w (rootIn field pw table xs cs how j)
+    (λ m l. there m (omega (arith, power-of fits)))

@@ -1,0 +1,50 @@
+// Demand 3 in code: an order is proved, and what was written is judged.
+use outcome::Answer;
+use outcome::Verdict;
+ghost use mathlib.Core.Path.{_≡_};
+ghost use Prim.Native.Nat.{ℕ, _*_};
+ghost use lib.ListN.{take};
+ghost use Rattle.definition.specs.Prove.{done, prove};
+ghost use Rattle.definition.specs.Verdict.{accepted};
+ghost use Rattle.definition.specs.Verify.{verify};
+ghost use Rattle.completeness.specs.Numbered.{readsDue};
+ghost use Rattle.outcome.specs.Meaning.{answerOf, verdictOf};
+ghost use Rattle.selfcheck.specs.Written.{blocksOf};
+
+// The prover's answer, and the verdict on what it wrote.
+pub struct Checked {
+    pub answer: Answer,
+    pub verdict: Verdict,
+}
+
+// The number of blocks written.
+fn blocks(answer: Answer) -> usize
+    ensures { λ r. ⌜ r ≡ blocksOf (answerOf answer) ⌝ }
+{
+    match answer {
+        Answer::Done(count) => count,
+        Answer::Refusal(_, _) => 0,
+    }
+}
+
+// Proves, and then judges the blocks written; of a refused order that is the empty file. Wherever prove answers done, the verdict is accepted with the
+// due reads.
+pub fn prove_then_verify(
+    sheet: &[u32],
+    coefficients: &[u32],
+    coins: &[u32],
+    output: &mut [u8],
+) -> Checked
+    ensures { λ r. ⌜ answerOf (r .answer) ≡ prove (now (sheet .entry)) (now (coefficients .entry)) (now (coins .entry)) (now (output .entry)) .answer ⌝ }
+    ensures { λ r. ⌜ now (output .exit) ≡ prove (now (sheet .entry)) (now (coefficients .entry)) (now (coins .entry)) (now (output .entry)) .output ⌝ }
+    ensures { λ r. ⌜ verdictOf (r .verdict) ≡ verify (take (512 * blocksOf (answerOf (r .answer))) (now (output .exit))) ⌝ }
+    ensures { λ r. ⌜ ((count : ℕ) → answerOf (r .answer) ≡ done count → verdictOf (r .verdict) ≡ record { outcome = accepted; reads = readsDue (now (sheet .entry)) }) ⌝ }
+{
+    let answer = prove::prove(sheet, coefficients, coins, output);
+    let count = blocks(answer);
+    let verdict = verify::verify(&output[..512 * count]);
+    Checked {
+        answer: answer,
+        verdict: verdict,
+    }
+}
