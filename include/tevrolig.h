@@ -17,7 +17,7 @@
  * - Everything is lent for the call alone. No pointer is kept, and inputs are only read.
  * - Nothing is allocated and no state is kept, so calls may run in several threads at once, over the same inputs too.
  * - Each number that a function gives by a pointer is written on every return, whatever was there before.
- * - The stack that a call takes is bounded: below TEVROLIG_VERIFY_STACK bytes for tevrolig_verify, and so for prove and
+ * - The stack that a call takes is bounded: below TEVROLIG_VERIFY_STACK bytes for tevrolig_verify, likewise for prove and
  *   encode, and below 1,024 for tevrolig_word and the field operations. This is measured, not proved.
  *
  * Words are unsigned 32-bit numbers. Numbers, places and positions count from 0.
@@ -57,8 +57,8 @@ extern "C" {
 
 /* Bytes of stack below which a call stays. */
 #define TEVROLIG_VERIFY_STACK 98304
-#define TEVROLIG_PROVE_STACK 262144
-#define TEVROLIG_ENCODE_STACK 131072
+#define TEVROLIG_PROVE_STACK 98304
+#define TEVROLIG_ENCODE_STACK 49152
 
 /* What the functions answer. The place that belongs to each number stands at the function. */
 enum {
