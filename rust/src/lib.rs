@@ -1,42 +1,64 @@
-//! The proved STIR judge, called from Rust.
+//! The proved judge for STIR transcripts, the prover that it answers, and the three fields below them, called from Rust.
 //!
 //! The archive's functions are proved against the written definition for every input; they allocate nothing and keep no state. What
-//! stands here only hands slices over and names the answers.
+//! stands here only hands slices over and names the answers: it has no rule of its own.
+//!
+//! ```
+//! use tevrolig::{verify, word, Outcome, Refusal};
+//!
+//! let mut file = include_bytes!("../../examples/worked-transcript").to_vec();
+//! let verdict = verify(&file);
+//! assert_eq!(verdict.outcome, Outcome::Accepted);
+//! assert_eq!(verdict.reads, 4);
+//! assert_eq!(verdict.line(), "accepted 0 0 4");
+//!
+//! // Another final coefficient, and the check of the block made right: word 42 has a factor of 43 in it.
+//! file[4 * 42] += 1;
+//! assert_eq!(verify(&file).to_string(), "refused after 0 reads: block 0 has a wrong check");
+//! file[508..].copy_from_slice(&(6143_u32 + 43).to_le_bytes());
+//! assert_eq!(verify(&file).outcome.result(), Err(Refusal::Final { position: 0 }));
+//! assert_eq!(word(&file, 42), Some(15));
+//! ```
 
-/// Accepted, or a fault with number and place.
-#[derive(Debug, Clone, Copy, PartialEq, Eq)]
-pub enum Outcome {
-    Accepted,
-    Refused { number: u32, place: u64 },
-}
+mod archive;
+mod field;
+mod order;
+mod verdict;
 
-/// An outcome and a count of reads.
-#[derive(Debug, Clone, Copy, PartialEq, Eq)]
-pub struct Verdict {
-    pub outcome: Outcome,
-    pub reads: u64,
-}
+pub use field::Field;
+pub use order::{encode, prove, OrderRefusal};
+pub use verdict::{verify, word, Outcome, Refusal, Verdict};
 
-mod archive {
-    extern "C" {
-        pub fn tevrolig_verify(
-            file: *const u8,
-            length: usize,
-            place: &mut u64,
-            reads: &mut u64,
-        ) -> u32;
-    }
-}
+/// Bytes of a block: its words and a check word.
+pub const BLOCK_BYTES: usize = 512;
 
-/// Judges a transcript file of any length and content.
-pub fn verify(file: &[u8]) -> Verdict {
-    let (mut place, mut reads) = (0, 0);
-    // The archive reads `length` bytes from `file` and writes the two numbers; both are lent for the call alone.
-    let number =
-        unsafe { archive::tevrolig_verify(file.as_ptr(), file.len(), &mut place, &mut reads) };
-    let outcome = match number {
-        0 => Outcome::Accepted,
-        number => Outcome::Refused { number, place },
-    };
-    Verdict { outcome, reads }
+/// Words of the stream in a block.
+pub const BLOCK_WORDS: usize = 127;
+
+/// Words of the sheet.
+pub const SHEET_WORDS: usize = 12;
+
+/// No file with more blocks is accepted, and no order needs more.
+pub const MOST_BLOCKS: usize = 68;
+
+/// What document 01 calls the words of the sheet.
+const SHEET_NAMES: [&str; SHEET_WORDS] = [
+    "the field",
+    "n0",
+    "d0",
+    "k",
+    "M",
+    "s",
+    "t_0",
+    "t_1",
+    "t_2",
+    "t_3",
+    "t_4",
+    "t_5",
+];
+
+/// A sheet word's refusal in words, which verify, prove and encode have in common.
+fn broken_sheet(f: &mut std::fmt::Formatter, word: u64) -> std::fmt::Result {
+    let name = SHEET_NAMES[word as usize];
+    write!(f, "word {word} of the sheet ({name}) breaks its rule")
 }

@@ -8,7 +8,10 @@ fn judged(file: &[u8]) -> model::Verdict {
     let verdict = tevrolig::verify(file);
     let outcome = match verdict.outcome {
         tevrolig::Outcome::Accepted => model::Outcome::Accepted,
-        tevrolig::Outcome::Refused { number, place } => model::Outcome::Refused { number, place },
+        tevrolig::Outcome::Refused(refusal) => model::Outcome::Refused {
+            number: refusal.number(),
+            place: refusal.place(),
+        },
     };
     model::Verdict {
         outcome,

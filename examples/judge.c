@@ -1,0 +1,75 @@
+/* Judges the file named on the command line, or standard input, and says what the verdict means.
+ * The exit status is 0 for accepted, 1 for refused, 2 where the file cannot be read. */
+#include <inttypes.h>
+#include <stdio.h>
+
+#include "tevrolig.h"
+
+/* A file is read so far and no further, as the program `check` does it: no accepted file is so long. */
+#define MOST_BYTES 65536
+
+static const char *const SHEET_WORD[TEVROLIG_SHEET_WORDS] = {
+    "the field", "n0", "d0", "k", "M", "s", "t_0", "t_1", "t_2", "t_3", "t_4", "t_5"};
+
+/* One sentence on a refusal. */
+static void explain(const uint8_t *file, size_t length, uint32_t number, uint64_t place)
+{
+    /* For the numbers 5, 6 and 7 the place is a word's number, and the file has that word. */
+    uint32_t word;
+    tevrolig_word(file, length, place, &word);
+
+    switch (number) {
+    case TEVROLIG_LENGTH:
+        printf("The file has %zu bytes, and not one or more blocks of %d.\n", length, TEVROLIG_BLOCK_BYTES);
+        break;
+    case TEVROLIG_CHECK:
+        printf("Block %" PRIu64 " has a wrong check.\n", place);
+        break;
+    case TEVROLIG_SHEET:
+        printf("Word %" PRIu64 " of the sheet (%s) breaks its rule.\n", place, SHEET_WORD[place]);
+        break;
+    case TEVROLIG_BLOCKS:
+        printf("The sheet needs %" PRIu64 " blocks, and the file has %zu.\n", place, length / TEVROLIG_BLOCK_BYTES);
+        break;
+    case TEVROLIG_RANGE:
+        printf("Word %" PRIu64 " of the stream is %" PRIu32 ", which is out of range.\n", place, word);
+        break;
+    case TEVROLIG_FILL:
+        printf("Word %" PRIu64 " comes after the stream's end and is %" PRIu32 ", not 0.\n", place, word);
+        break;
+    case TEVROLIG_OUT_COIN:
+        printf("Word %" PRIu64 " of the stream is %" PRIu32 ", an out coin inside its round's domain.\n", place, word);
+        break;
+    case TEVROLIG_CLASH:
+        printf("In round %" PRIu64 " two equal points have different values.\n", place);
+        break;
+    case TEVROLIG_FINAL:
+        printf("The final polynomial differs from the fold at position %" PRIu64 " of the final indices.\n", place);
+        break;
+    }
+}
+
+int main(int argc, char **argv)
+{
+    FILE *input = argc > 1 ? fopen(argv[1], "rb") : stdin;
+    if (input == NULL) {
+        perror(argv[1]);
+        return 2;
+    }
+    uint8_t file[MOST_BYTES];
+    size_t length = fread(file, 1, sizeof file, input);
+    if (ferror(input)) {
+        perror(argc > 1 ? argv[1] : "standard input");
+        return 2;
+    }
+    fclose(input);
+
+    uint64_t place, reads;
+    uint32_t number = tevrolig_verify(file, length, &place, &reads);
+    const char *outcome = number == TEVROLIG_ACCEPTED ? "accepted" : "refused";
+    printf("%s %" PRIu32 " %" PRIu64 " %" PRIu64 "\n", outcome, number, place, reads);
+    if (number == TEVROLIG_ACCEPTED)
+        return 0;
+    explain(file, length, number, place);
+    return 1;
+}

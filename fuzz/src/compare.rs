@@ -1,0 +1,132 @@
+//! The comparison of the archive with the model.
+
+use crate::fence::Fence;
+use crate::input::{Input, Order};
+use std::cell::RefCell;
+use tevrolig::{Field, Outcome};
+use tevrolig_model::{self as model, field, stream};
+
+/// The fences, made once.
+struct Fences {
+    file: Fence<u8>,
+    lists: [Fence<u32>; 3],
+    output: Fence<u8>,
+    table: Fence<u32>,
+}
+
+impl Fences {
+    fn new() -> Fences {
+        Fences {
+            file: Fence::new(),
+            lists: [Fence::new(), Fence::new(), Fence::new()],
+            output: Fence::new(),
+            table: Fence::new(),
+        }
+    }
+}
+
+thread_local! {
+    static FENCES: RefCell<Fences> = RefCell::new(Fences::new());
+}
+
+/// Panics where the archive and the model differ on an input.
+pub fn agree(input: &Input) {
+    FENCES.with_borrow_mut(|fences| match input {
+        Input::Raw(file) | Input::Sealed(file) => {
+            verdicts(fences, file);
+        }
+        Input::Order(order) => orders(fences, order),
+        Input::Field(words) => elements(*words),
+    });
+}
+
+/// The verdict of both, and some words of the stream: the place of the refusal, the words at the end, and one that the file itself names.
+fn verdicts(fences: &mut Fences, file: &[u8]) -> tevrolig::Verdict {
+    let lent: &[u8] = fences.file.lend(file);
+    let verdict = tevrolig::verify(lent);
+    assert_eq!(verdict.line(), model::line(model::verify(file)));
+
+    let end = (file.len() / stream::BLOCK_BYTES * stream::BLOCK_WORDS) as u64;
+    let place = match verdict.outcome {
+        Outcome::Accepted => 0,
+        Outcome::Refused(refusal) => refusal.place(),
+    };
+    let named = file
+        .iter()
+        .take(8)
+        .fold(0, |sum, &byte| sum << 8 | u64::from(byte));
+    for number in [place, end.wrapping_sub(1), end, named] {
+        let word = (number < end).then(|| stream::read_word(file, number as usize));
+        assert_eq!(tevrolig::word(lent, number), word, "word {number}");
+    }
+    assert_eq!(lent, file, "the file is only read");
+    verdict
+}
+
+/// Prove and encode of both, and the verdict on the file.
+fn orders(fences: &mut Fences, order: &Order) {
+    let Order {
+        sheet,
+        coefficients,
+        coins,
+        output,
+    } = order;
+    let length = usize::from(*output);
+    let [lent_sheet, lent_coefficients, lent_coins] = &mut fences.lists;
+    let lent_sheet: &[u32] = lent_sheet.lend(sheet);
+    let lent_coefficients: &[u32] = lent_coefficients.lend(coefficients);
+    let lent_coins: &[u32] = lent_coins.lend(coins);
+
+    let mut expected = vec![0xA5; length];
+    let lent = fences.output.lend(&expected);
+    let answer = tevrolig::prove(lent_sheet, lent_coefficients, lent_coins, lent);
+    assert_eq!(
+        told(answer),
+        model::prove(sheet, coefficients, coins, &mut expected)
+    );
+    assert!(lent == expected, "prove's output differs");
+
+    let mut table = vec![0xA5A5_A5A5; length];
+    let lent = fences.table.lend(&table);
+    let encoded = tevrolig::encode(lent_sheet, lent_coefficients, lent);
+    assert_eq!(
+        told(encoded),
+        model::encode(sheet, coefficients, &mut table)
+    );
+    assert!(lent == table, "encode's output differs");
+
+    let only_read = lent_sheet == sheet && lent_coefficients == coefficients && lent_coins == coins;
+    assert!(only_read, "the lists are only read");
+    if let Ok(blocks) = answer {
+        let verdict = verdicts(fences, &expected[..blocks * tevrolig::BLOCK_BYTES]);
+        assert_eq!(verdict.outcome, Outcome::Accepted, "the prover's file");
+    }
+}
+
+/// An answer in the model's terms.
+fn told(answer: Result<usize, tevrolig::OrderRefusal>) -> model::Answer {
+    match answer {
+        Ok(size) => model::Answer::Done(size as u64),
+        Err(refusal) => model::Answer::Refused {
+            number: refusal.number(),
+            place: refusal.place(),
+        },
+    }
+}
+
+/// The operations of both; neither answers an element where the number names no field.
+fn elements([number, a, b]: [u32; 3]) {
+    let archive = Field::new(number).map_or([None; 5], |field| {
+        let (sum, difference) = (field.sum(a, b), field.difference(a, b));
+        let (product, power) = (field.product(a, b), field.power(a, b));
+        [sum, difference, product, power, field.inverse(a)].map(Some)
+    });
+    let model = [
+        field::sum(number, a, b),
+        field::difference(number, a, b),
+        field::product(number, a, b),
+        field::power(number, a, b),
+        field::inverse(number, a),
+    ];
+    assert_eq!(archive, model);
+}

@@ -1,0 +1,164 @@
+//! New inputs from old ones. Most changes keep the shape of what they change, so that the inputs get past the first tests; now and then an input is
+//! drawn from nothing, which also makes a corpus to begin with needless.
+
+use crate::input::{Input, Order};
+use tevrolig_model::domain::Subgroup;
+use tevrolig_model::generate::{self, Rng};
+use tevrolig_model::layout::{Layout, Part};
+use tevrolig_model::sheet::{Sheet, SHEET_WORDS};
+use tevrolig_model::stream::{read_word, write_word, BLOCK_BYTES, BLOCK_WORDS};
+
+/// An input made from another. `change` alters bytes in libFuzzer's own ways, which know what the model compared.
+pub fn mutate(bytes: &[u8], seed: u32, change: impl Fn(&mut [u8])) -> Vec<u8> {
+    let mut rng = Rng::new(seed.into());
+    if bytes.len() < 2 || rng.one_in(4) {
+        return fresh(&mut rng).write();
+    }
+    if rng.one_in(4) {
+        // A few bytes of any kind; the form and the length stay.
+        let mut changed = bytes.to_vec();
+        let start = 1 + rng.place(changed.len() - 1);
+        let end = changed.len().min(start + rng.pick(&[1, 4, 16, 512]));
+        change(&mut changed[start..end]);
+        return changed;
+    }
+    let mut input = Input::read(bytes);
+    match &mut input {
+        Input::Raw(file) | Input::Sealed(file) => change_file(&mut rng, file),
+        Input::Order(order) => change_order(&mut rng, order),
+        Input::Field(words) => {
+            let at = rng.place(3);
+            words[at] = some_word(&mut rng, words[at]);
+        }
+    }
+    input.write()
+}
+
+/// An honest file, whole or damaged, an allowed order, or words for a field.
+fn fresh(rng: &mut Rng) -> Input {
+    let most_n0 = rng.pick(&[16, 16, 32, 64, 128]);
+    let sheet = generate::sheet_up_to(rng, most_n0);
+    let hostile = rng.one_in(2);
+    let coefficients = generate::coefficients(rng, &sheet);
+    let coins = generate::coins(rng, &sheet, hostile);
+    match rng.below(16) {
+        0 => Input::Raw(generate::honest_file(&sheet, &coefficients, &coins)),
+        1..=7 => {
+            let mut file = generate::honest_file(&sheet, &coefficients, &coins);
+            let number = rng.pick(&[5, 7, 8, 8, 9, 9, 9]);
+            if rng.one_in(2) {
+                generate::aim(rng, &mut file, number);
+            }
+            Input::Sealed(file)
+        }
+        8..=14 => {
+            let output = output_due(&sheet) + rng.pick(&[0, 0, 1, 600]);
+            Input::Order(Order {
+                sheet: sheet.to_vec(),
+                coefficients,
+                coins,
+                output,
+            })
+        }
+        _ => Input::Field([rng.below(3) as u32, rng.word(), rng.word()]),
+    }
+}
+
+/// The bytes that prove's output needs; none for a sheet with a fault.
+fn output_due(sheet: &[u32]) -> u16 {
+    let sheet = sheet.try_into().ok().map(Sheet::read);
+    sheet.and_then(Result::ok).map_or(0, |sheet| {
+        (Layout::new(&sheet).blocks() * BLOCK_BYTES) as u16
+    })
+}
+
+fn change_file(rng: &mut Rng, file: &mut Vec<u8>) {
+    if file.len() < BLOCK_BYTES || rng.one_in(2) {
+        generate::damage(rng, file);
+        return;
+    }
+    let words = file.len() / BLOCK_BYTES * BLOCK_WORDS;
+    for _ in 0..=rng.place(3) {
+        let (at, other) = (rng.place(words), rng.place(words));
+        let word = if rng.one_in(4) {
+            read_word(file, other)
+        } else {
+            some_word(rng, read_word(file, at))
+        };
+        write_word(file, at, word);
+    }
+}
+
+fn change_order(rng: &mut Rng, order: &mut Order) {
+    let words: Option<[u32; SHEET_WORDS]> = order.sheet[..].try_into().ok();
+    match (rng.below(8), words) {
+        (0, _) => {
+            let due = output_due(&order.sheet);
+            let lengths = [
+                due,
+                due.saturating_sub(1),
+                due + 1,
+                due + 512,
+                0,
+                order.output / 2,
+            ];
+            order.output = rng.pick(&lengths);
+        }
+        (1, Some(words)) => order.coins = generate::coins(rng, &words, true),
+        (2, Some(words)) => order.coefficients = generate::coefficients(rng, &words),
+        (3, Some(words)) => move_out_coin(rng, &words, &mut order.coins),
+        _ => {
+            let list = match rng.below(4) {
+                0 => &mut order.sheet,
+                1 => &mut order.coefficients,
+                _ => &mut order.coins,
+            };
+            match rng.below(8) {
+                0 => list.push(0),
+                1 => {
+                    list.pop();
+                }
+                _ if list.is_empty() => {}
+                _ => {
+                    let at = rng.place(list.len());
+                    list[at] = some_word(rng, list[at]);
+                }
+            }
+        }
+    }
+}
+
+/// Moves an out coin into its round's domain, where the sheet has a round.
+fn move_out_coin(rng: &mut Rng, words: &[u32; SHEET_WORDS], coins: &mut [u32]) {
+    let Ok(sheet) = Sheet::read(words) else {
+        return;
+    };
+    let layout = Layout::new(&sheet);
+    let round = 1 + rng.place(sheet.rounds);
+    let outs = layout.range(Part::OutCoins(round));
+    let word = outs.start + rng.place(outs.len());
+    let point = Subgroup::of(&sheet).point(round, rng.place(sheet.n(round)));
+    if let Some(coin) = coins.get_mut(layout.coin_position(word)) {
+        *coin = point as u32;
+    }
+}
+
+/// A word near this one, an element, or a word at which something may change.
+fn some_word(rng: &mut Rng, old: u32) -> u32 {
+    let any = rng.word();
+    let bit = 1 << rng.below(32);
+    let near = [
+        old.wrapping_add(1),
+        old.wrapping_sub(1),
+        old / 2,
+        old.wrapping_mul(2),
+        old ^ bit,
+    ];
+    let elements = [0, 1, 16, any % 17, any % 17, any % 65537, any % 2013265921];
+    let others = [17, 64, 4096, 65537, 2013265921, u32::MAX, any];
+    match rng.below(5) {
+        0 | 1 => rng.pick(&near),
+        2 | 3 => rng.pick(&elements),
+        _ => rng.pick(&others),
+    }
+}

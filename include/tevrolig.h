@@ -1,0 +1,140 @@
+/* Tevrolig: the judge for STIR transcripts, the prover that it answers, and the three fields below them, called from C.
+ *
+ * The functions stand in libexports.a, which `rt staticlib exports` writes to target/staticlib for x86-64 Linux. They use
+ * memcpy and memset and nothing else from outside. They are proved against the written definition: on every input each
+ * one ends, and what it answers and writes is what the definition says (docs/STATEMENTS.md). examples/judge.c is a
+ * program that uses them.
+ *
+ * What a caller owes:
+ *
+ * - No pointer is null, and each is aligned as its type asks.
+ * - A length counts the elements behind its pointer, bytes for uint8_t and words for uint32_t. Where it is 0, nothing is
+ *   read or written there, and any pointer will do that is aligned and not null.
+ * - What a call may write overlaps nothing else that it is given: `place` and `reads`, for one, are two variables.
+ *
+ * What a caller may rely on:
+ *
+ * - Everything is lent for the call alone. No pointer is kept, and inputs are only read.
+ * - Nothing is allocated and no state is kept, so calls may run in several threads at once, over the same inputs too.
+ * - Each number that a function gives by a pointer is written on every return, whatever was there before.
+ * - The stack that a call takes is bounded: below TEVROLIG_VERIFY_STACK bytes for tevrolig_verify, likewise for prove and
+ *   encode, and below 1,024 for tevrolig_word and the field operations. This is measured, not proved.
+ *
+ * Words are unsigned 32-bit numbers. Numbers, places and positions count from 0.
+ */
+#ifndef TEVROLIG_H
+#define TEVROLIG_H
+
+#include <stddef.h>
+#include <stdint.h>
+
+#ifdef __cplusplus
+extern "C" {
+#endif
+
+/* A file is blocks of 512 bytes: 127 words of the stream, each least significant byte first, and a check word. */
+#define TEVROLIG_BLOCK_BYTES 512
+#define TEVROLIG_BLOCK_WORDS 127
+
+/* No file with more blocks is accepted, and no order needs more. */
+#define TEVROLIG_MOST_BLOCKS 68
+
+/* The largest n0: no table has more words, and so no encoding. */
+#define TEVROLIG_MOST_TABLE 4096
+
+/* The sheet:
+ *
+ *   word   name         rule
+ *   0      the field    0: p = 17; 1: p = 65537; 2: p = 2013265921
+ *   1      n0           a power of two from 4 to 4096 that divides p - 1
+ *   2      d0           a power of two from 2 to n0/2
+ *   3      k            a power of two from 2 to 16, at most d0
+ *   4      M            0 to 5, with k^(M+1) at most d0
+ *   5      s            1 or 2
+ *   6..11  t_0 to t_5   t_i is 1 to 64 for i up to M, with t_i + s < d0/k^(i+1) for i below M; past t_M zero
+ */
+#define TEVROLIG_SHEET_WORDS 12
+
+/* Bytes of stack below which a call stays. */
+#define TEVROLIG_VERIFY_STACK 98304
+#define TEVROLIG_PROVE_STACK 98304
+#define TEVROLIG_ENCODE_STACK 49152
+
+/* What the functions answer. The place that belongs to each number stands at the function. */
+enum {
+    TEVROLIG_ACCEPTED = 0,  /* verify: the file is accepted */
+    TEVROLIG_DONE = 0,      /* prove, encode: the output is written */
+    TEVROLIG_LENGTH = 1,    /* the file is empty, or its length is no multiple of 512 bytes */
+    TEVROLIG_CHECK = 2,     /* a block's check word is wrong */
+    TEVROLIG_SHEET = 3,     /* a sheet word breaks its rule */
+    TEVROLIG_BLOCKS = 4,    /* the sheet needs another number of blocks */
+    TEVROLIG_RANGE = 5,     /* a word after the sheet is out of range: no element of the field, or no index that is due */
+    TEVROLIG_FILL = 6,      /* a word after the end of the stream is not zero */
+    TEVROLIG_OUT_COIN = 7,  /* an out coin of round i lies in domain i */
+    TEVROLIG_CLASH = 8,     /* two equal points of a round have different values */
+    TEVROLIG_FINAL = 9,     /* the final polynomial differs from the fold at a final index's point */
+    TEVROLIG_COUNT = 10,    /* the sheet, the coefficients or the coins are too few or too many */
+    TEVROLIG_OUTPUT = 11    /* the output is too short */
+};
+
+/* Judges a file of any length and content. Answers 0 for accepted, else the number of the first test that fails:
+ *
+ *   number   place
+ *   0        0
+ *   1        0
+ *   2        the first block with a wrong check
+ *   3        the first sheet word that breaks its rule, given those before
+ *   4        the number of blocks that the sheet needs
+ *   5        the number of the first word out of range, as tevrolig_word counts
+ *   6        the number of the first such word that is not zero
+ *   7        the word number of the first such coin
+ *   8        the first such round, from 1 to M
+ *   9        the first such position in the list of final indices
+ *
+ * `reads` is the count of table words used, k for each shift or final coin treated: 0 for the numbers 1 to 7, for 8 and
+ * 9 what was used until then, and k*(t_0 + .. + t_M) for an accepted file. */
+uint32_t tevrolig_verify(const uint8_t *file, size_t length, uint64_t *place, uint64_t *reads);
+
+/* Shows the word of this number in a file's stream. The sheet has the words 0 to 11, and block checks are not counted.
+ * Answers 1, or 0 where the file's whole blocks hold no word of that number; `word` is then 0. */
+uint32_t tevrolig_word(const uint8_t *file, size_t length, uint64_t number, uint32_t *word);
+
+/* Writes the honest prover's file for d0 coefficients, lowest first, and a full list of coins, in the order in which the
+ * stream has them: fold coin 0; for each round i from 1 to M its s out coins, combination coin, fold coin i and t_(i-1)
+ * shift indices; at last t_M final indices. Answers 0 for done: `value` is the number of blocks, which stand at the front
+ * of the output, and the bytes after them are as before. Else it answers the number of the first test that fails, and no
+ * byte of the output is written:
+ *
+ *   number   value
+ *   10       0 where the sheet has not 12 words
+ *   3        the first sheet word that breaks its rule, given those before
+ *   10       1 where there are not d0 coefficients; 2 where the coins are not as many as the sheet makes due
+ *   5        the first position out of range, in the coefficients followed by the coins
+ *   7        the first such position, in the coins alone
+ *   11       the number of blocks needed
+ *
+ * So an output of length 0 asks for the size, and TEVROLIG_MOST_BLOCKS blocks are enough for every order. */
+uint32_t tevrolig_prove(const uint32_t *sheet, size_t sheet_length, const uint32_t *coefficients,
+                        size_t coefficients_length, const uint32_t *coins, size_t coins_length, uint8_t *output,
+                        size_t output_length, uint64_t *value);
+
+/* Writes table 0 alone, the values of the polynomial at the n0 points of domain 0. Answers 0 for done: `value` is n0, the
+ * number of words written, and the words after them are as before. Else it answers the number of the first test that
+ * fails, and no word of the output is written: 10 with 0, 3, 10 with 1 and 5 as in tevrolig_prove, then 11 with n0. */
+uint32_t tevrolig_encode(const uint32_t *sheet, size_t sheet_length, const uint32_t *coefficients,
+                         size_t coefficients_length, uint32_t *output, size_t output_length, uint64_t *value);
+
+/* The operations of a field, given by its number as in word 0 of the sheet. They take a and b modulo p first, so any
+ * words will do; an exponent is taken as it is. 0 to the power 0 is 1, and the inverse of 0 is 0. Each answers 1 and
+ * writes the element, a word below p, or answers 0 where the number names no field; `element` is then 0. */
+uint32_t tevrolig_sum(uint32_t field, uint32_t a, uint32_t b, uint32_t *element);
+uint32_t tevrolig_difference(uint32_t field, uint32_t a, uint32_t b, uint32_t *element);
+uint32_t tevrolig_product(uint32_t field, uint32_t a, uint32_t b, uint32_t *element);
+uint32_t tevrolig_power(uint32_t field, uint32_t a, uint32_t exponent, uint32_t *element);
+uint32_t tevrolig_inverse(uint32_t field, uint32_t a, uint32_t *element);
+
+#ifdef __cplusplus
+}
+#endif
+
+#endif

@@ -1,0 +1,39 @@
+//! The archive's functions as `include/tevrolig.h` declares them.
+//!
+//! Every pointer that the crate hands over comes from a slice or a reference, so it is aligned, not null and lent for the call, and what
+//! is written overlaps nothing else; a slice without elements has such a pointer too.
+
+extern "C" {
+    pub fn tevrolig_verify(file: *const u8, length: usize, place: &mut u64, reads: &mut u64)
+        -> u32;
+
+    pub fn tevrolig_word(file: *const u8, length: usize, number: u64, word: &mut u32) -> u32;
+
+    pub fn tevrolig_sum(field: u32, a: u32, b: u32, element: &mut u32) -> u32;
+    pub fn tevrolig_difference(field: u32, a: u32, b: u32, element: &mut u32) -> u32;
+    pub fn tevrolig_product(field: u32, a: u32, b: u32, element: &mut u32) -> u32;
+    pub fn tevrolig_power(field: u32, a: u32, exponent: u32, element: &mut u32) -> u32;
+    pub fn tevrolig_inverse(field: u32, a: u32, element: &mut u32) -> u32;
+
+    pub fn tevrolig_prove(
+        sheet: *const u32,
+        sheet_length: usize,
+        coefficients: *const u32,
+        coefficients_length: usize,
+        coins: *const u32,
+        coins_length: usize,
+        output: *mut u8,
+        output_length: usize,
+        value: &mut u64,
+    ) -> u32;
+
+    pub fn tevrolig_encode(
+        sheet: *const u32,
+        sheet_length: usize,
+        coefficients: *const u32,
+        coefficients_length: usize,
+        output: *mut u32,
+        output_length: usize,
+        value: &mut u64,
+    ) -> u32;
+}

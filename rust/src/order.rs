@@ -1,0 +1,202 @@
+//! The prover: orders, what comes of them, and why one is refused.
+
+use crate::{archive, broken_sheet};
+use std::fmt::{self, Display, Formatter};
+
+/// Why prove or encode refuses an order: the first test that fails, and the first place where it does. Nothing is written then.
+///
+/// ```
+/// use tevrolig::OrderRefusal;
+///
+/// let refusal = OrderRefusal::OutCoin { position: 1 };
+/// assert_eq!(refusal.to_string(), "coin 1 is an out coin inside its round's domain");
+/// assert_eq!((refusal.number(), refusal.place()), (7, 1));
+/// ```
+#[derive(Debug, Clone, Copy, PartialEq, Eq, Hash)]
+pub enum OrderRefusal {
+    /// 10 at 0: the sheet has not 12 words.
+    SheetLength,
+    /// 3: this word of the sheet breaks its rule, given those before.
+    Sheet { word: u64 },
+    /// 10 at 1: there are not d0 coefficients.
+    CoefficientCount,
+    /// 10 at 2: the coins are not as many as the sheet makes due.
+    CoinCount,
+    /// 5: the word at this position of the coefficients followed by the coins is no element of the field, or no index that is due.
+    Range { position: u64 },
+    /// 7: the coin at this position is an out coin of a round i and lies in domain i.
+    OutCoin { position: u64 },
+    /// 11 of prove: the output has not room for these blocks.
+    OutputBlocks { needed: u64 },
+    /// 11 of encode: the output has not room for these words.
+    OutputWords { needed: u64 },
+}
+
+impl OrderRefusal {
+    /// The number of the test that failed.
+    pub fn number(self) -> u32 {
+        match self {
+            OrderRefusal::SheetLength
+            | OrderRefusal::CoefficientCount
+            | OrderRefusal::CoinCount => 10,
+            OrderRefusal::Sheet { .. } => 3,
+            OrderRefusal::Range { .. } => 5,
+            OrderRefusal::OutCoin { .. } => 7,
+            OrderRefusal::OutputBlocks { .. } | OrderRefusal::OutputWords { .. } => 11,
+        }
+    }
+
+    /// The place that goes with the number.
+    pub fn place(self) -> u64 {
+        match self {
+            OrderRefusal::SheetLength => 0,
+            OrderRefusal::CoefficientCount => 1,
+            OrderRefusal::CoinCount => 2,
+            OrderRefusal::Sheet { word } => word,
+            OrderRefusal::Range { position } | OrderRefusal::OutCoin { position } => position,
+            OrderRefusal::OutputBlocks { needed } | OrderRefusal::OutputWords { needed } => needed,
+        }
+    }
+
+    /// The answer of the archive, which is proved to be one of these. What an 11 counts is for the operation to say.
+    fn told(number: u32, place: u64, output: fn(u64) -> OrderRefusal) -> OrderRefusal {
+        match (number, place) {
+            (10, 0) => OrderRefusal::SheetLength,
+            (10, 1) => OrderRefusal::CoefficientCount,
+            (10, 2) => OrderRefusal::CoinCount,
+            (3, word) => OrderRefusal::Sheet { word },
+            (5, position) => OrderRefusal::Range { position },
+            (7, position) => OrderRefusal::OutCoin { position },
+            (11, needed) => output(needed),
+            _ => unreachable!("an order was answered {number} {place}"),
+        }
+    }
+}
+
+impl Display for OrderRefusal {
+    fn fmt(&self, f: &mut Formatter) -> fmt::Result {
+        match *self {
+            OrderRefusal::SheetLength => write!(f, "the sheet has not 12 words"),
+            OrderRefusal::Sheet { word } => broken_sheet(f, word),
+            OrderRefusal::CoefficientCount => {
+                write!(f, "the coefficients are not as many as the sheet's d0")
+            }
+            OrderRefusal::CoinCount => {
+                write!(f, "the coins are not as many as the sheet makes due")
+            }
+            OrderRefusal::Range { position } => write!(
+                f,
+                "word {position} of the coefficients followed by the coins is out of range"
+            ),
+            OrderRefusal::OutCoin { position } => {
+                write!(
+                    f,
+                    "coin {position} is an out coin inside its round's domain"
+                )
+            }
+            OrderRefusal::OutputBlocks { needed } => {
+                write!(f, "the output is too short for the blocks needed: {needed}")
+            }
+            OrderRefusal::OutputWords { needed } => {
+                write!(f, "the output is too short for the words needed: {needed}")
+            }
+        }
+    }
+}
+
+impl std::error::Error for OrderRefusal {}
+
+/// Writes the honest prover's file to the front of the output and answers its number of blocks; the bytes after them are as before.
+///
+/// There are d0 coefficients, lowest first. The coins are in the order in which the stream has them: fold coin 0; for each round i from 1 to
+/// M its out coins, combination coin, fold coin i and shift indices; at last the final indices. [`MOST_BLOCKS`](crate::MOST_BLOCKS) blocks
+/// are enough for every order, and an empty output asks for the size.
+///
+/// ```
+/// use tevrolig::{prove, OrderRefusal};
+///
+/// let sheet = [0, 16, 8, 2, 1, 1, 1, 1, 0, 0, 0, 0];
+/// let coefficients = [1, 2, 3, 4, 5, 0, 0, 0];
+/// // Fold 2, out 0, combination 3, fold 4, shift 0, final 1.
+/// let coins = [2, 0, 3, 4, 0, 1];
+/// let needed = prove(&sheet, &coefficients, &coins, &mut []);
+/// assert_eq!(needed, Err(OrderRefusal::OutputBlocks { needed: 1 }));
+///
+/// let mut output = [7; 1000];
+/// let blocks = prove(&sheet, &coefficients, &coins, &mut output)?;
+/// assert_eq!(blocks, 1);
+/// assert_eq!(&output[..512], include_bytes!("../../examples/worked-transcript"));
+/// assert_eq!(output[512..], [7; 488]);
+///
+/// // 3 is a point of domain 1.
+/// let refused = prove(&sheet, &coefficients, &[2, 3, 3, 4, 0, 1], &mut output);
+/// assert_eq!(refused, Err(OrderRefusal::OutCoin { position: 1 }));
+/// # Ok::<(), OrderRefusal>(())
+/// ```
+pub fn prove(
+    sheet: &[u32],
+    coefficients: &[u32],
+    coins: &[u32],
+    output: &mut [u8],
+) -> Result<usize, OrderRefusal> {
+    let mut value = 0;
+    // SAFETY: as the archive's module says.
+    let number = unsafe {
+        archive::tevrolig_prove(
+            sheet.as_ptr(),
+            sheet.len(),
+            coefficients.as_ptr(),
+            coefficients.len(),
+            coins.as_ptr(),
+            coins.len(),
+            output.as_mut_ptr(),
+            output.len(),
+            &mut value,
+        )
+    };
+    let blocks = |needed| OrderRefusal::OutputBlocks { needed };
+    answered(number, value, blocks)
+}
+
+/// Writes table 0 to the front of the output, the polynomial's values at the points of domain 0, and answers n0, their number; the words after
+/// them are as before.
+///
+/// ```
+/// let sheet = [0, 16, 8, 2, 1, 1, 1, 1, 0, 0, 0, 0];
+/// let mut table = [0; 16];
+/// assert_eq!(tevrolig::encode(&sheet, &[1, 2, 3, 4, 5, 0, 0, 0], &mut table), Ok(16));
+/// assert_eq!(table, [3, 11, 6, 11, 5, 6, 1, 3, 13, 8, 7, 12, 5, 10, 2, 15]);
+/// ```
+pub fn encode(
+    sheet: &[u32],
+    coefficients: &[u32],
+    output: &mut [u32],
+) -> Result<usize, OrderRefusal> {
+    let mut value = 0;
+    // SAFETY: as the archive's module says.
+    let number = unsafe {
+        archive::tevrolig_encode(
+            sheet.as_ptr(),
+            sheet.len(),
+            coefficients.as_ptr(),
+            coefficients.len(),
+            output.as_mut_ptr(),
+            output.len(),
+            &mut value,
+        )
+    };
+    let words = |needed| OrderRefusal::OutputWords { needed };
+    answered(number, value, words)
+}
+
+/// Done with a number of blocks or words, or refused.
+fn answered(
+    number: u32,
+    value: u64,
+    output: fn(u64) -> OrderRefusal,
+) -> Result<usize, OrderRefusal> {
+    match number {
+        0 => Ok(value as usize),
+        _ => Err(OrderRefusal::told(number, value, output)),
+    }
+}

@@ -1,0 +1,136 @@
+//! The field operations of the archive against plain arithmetic and the model.
+
+use tevrolig::Field;
+use tevrolig_model::field;
+use tevrolig_model::generate::Rng;
+
+const PRIMES: [u32; 3] = [17, 65537, 2013265921];
+
+// As the header has them, for the numbers that make no `Field`.
+extern "C" {
+    fn tevrolig_sum(field: u32, a: u32, b: u32, element: &mut u32) -> u32;
+    fn tevrolig_difference(field: u32, a: u32, b: u32, element: &mut u32) -> u32;
+    fn tevrolig_product(field: u32, a: u32, b: u32, element: &mut u32) -> u32;
+    fn tevrolig_power(field: u32, a: u32, exponent: u32, element: &mut u32) -> u32;
+    fn tevrolig_inverse(field: u32, a: u32, element: &mut u32) -> u32;
+}
+
+/// Words at the ends of the elements and of all words, and others.
+fn words(rng: &mut Rng, p: u32, others: usize) -> Vec<u32> {
+    let mut words = vec![0, 1, 2, p - 2, p - 1, p, p + 1, 2 * p - 1, 2 * p];
+    words.extend([1 << 31, u32::MAX - 1, u32::MAX]);
+    words.extend((0..others).map(|_| rng.word()));
+    words.extend((0..others).map(|_| rng.below(u64::from(p)) as u32));
+    words
+}
+
+/// A test of one pair of words in one field: every operation is the one of whole numbers modulo p, and the model's.
+fn operations(number: u32, a: u32, b: u32) {
+    let field = Field::new(number).unwrap();
+    let whole = i128::from(PRIMES[number as usize]);
+    let modulo = |value: i128| value.rem_euclid(whole) as u32;
+    let (x, y) = (i128::from(a), i128::from(b));
+    let what = format!("field {number}, {a}, {b}");
+    assert_eq!(field.sum(a, b), modulo(x + y), "{what}");
+    assert_eq!(field.difference(a, b), modulo(x - y), "{what}");
+    assert_eq!(field.product(a, b), modulo(x * y), "{what}");
+    assert_eq!(Some(field.sum(a, b)), field::sum(number, a, b), "{what}");
+    assert_eq!(
+        Some(field.difference(a, b)),
+        field::difference(number, a, b),
+        "{what}"
+    );
+    assert_eq!(
+        Some(field.product(a, b)),
+        field::product(number, a, b),
+        "{what}"
+    );
+    assert_eq!(
+        Some(field.power(a, b)),
+        field::power(number, a, b),
+        "{what}"
+    );
+    assert_eq!(Some(field.inverse(a)), field::inverse(number, a), "{what}");
+    let one = u32::from(modulo(x) != 0);
+    assert_eq!(field.product(a, field.inverse(a)), one, "{what}");
+}
+
+#[test]
+fn the_fields_are_these() {
+    for (number, p) in (0..).zip(PRIMES) {
+        let field = Field::new(number).unwrap();
+        assert_eq!((field.number(), field.prime()), (number, p));
+    }
+}
+
+#[test]
+fn edge_words() {
+    let mut rng = Rng::new(1);
+    for (number, p) in (0..).zip(PRIMES) {
+        let words = words(&mut rng, p, 60);
+        for &a in &words {
+            for &b in &words {
+                operations(number, a, b);
+            }
+        }
+    }
+}
+
+#[test]
+fn every_small_pair() {
+    for number in 0..3 {
+        for a in 0..60 {
+            for b in 0..60 {
+                operations(number, a, b);
+            }
+        }
+    }
+}
+
+#[test]
+fn random_pairs() {
+    let mut rng = Rng::new(2);
+    for _ in 0..300_000 {
+        operations(rng.below(3) as u32, rng.word(), rng.word());
+    }
+}
+
+#[test]
+fn powers_of_whole_numbers() {
+    for (number, p) in (0..).zip(PRIMES) {
+        let field = Field::new(number).unwrap();
+        for a in words(&mut Rng::new(3), p, 8) {
+            let mut by_hand = 1;
+            for exponent in 0..70 {
+                assert_eq!(field.power(a, exponent), by_hand, "field {number}, {a}");
+                by_hand = (u64::from(by_hand) * u64::from(a) % u64::from(p)) as u32;
+            }
+        }
+        // An exponent is not reduced by p: where it is p itself, the power is the element.
+        assert_eq!((field.power(3, p), field.power(3, p - 1)), (3, 1));
+        assert_eq!((field.power(0, 0), field.power(p, 0)), (1, 1));
+        assert_eq!((field.inverse(0), field.inverse(p)), (0, 0));
+    }
+}
+
+#[test]
+fn other_numbers_name_no_field() {
+    for number in (3..1000).chain([17, 65537, 1 << 31, u32::MAX - 1, u32::MAX]) {
+        assert_eq!(Field::new(number), None);
+        for (a, b) in [(0, 0), (1, 1), (5, 7), (u32::MAX, u32::MAX)] {
+            let mut elements = [7; 5];
+            let [sum, difference, product, power, inverse] = &mut elements;
+            // The five operations write one word each.
+            let named = unsafe {
+                [
+                    tevrolig_sum(number, a, b, sum),
+                    tevrolig_difference(number, a, b, difference),
+                    tevrolig_product(number, a, b, product),
+                    tevrolig_power(number, a, b, power),
+                    tevrolig_inverse(number, a, inverse),
+                ]
+            };
+            assert_eq!((named, elements), ([0; 5], [0; 5]), "{number}, {a}, {b}");
+        }
+    }
+}

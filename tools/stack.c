@@ -1,0 +1,123 @@
+/* Measures how much stack calls take, of tevrolig_verify on each file named and of tevrolig_prove and tevrolig_encode on the largest orders, and fails
+ * where one is not below the header's figure. A call runs on a stack of its own, painted before, and the deepest byte that lost its paint is looked for. */
+#include <stdio.h>
+#include <stdlib.h>
+#include <string.h>
+#include <ucontext.h>
+
+#include "tevrolig.h"
+
+enum { MOST_BYTES = 65536, MOST_COINS = 1024, STACK = 1 << 22, PAINT = 0xA5 };
+
+/* The longest file of all, and the one with the largest k. */
+static const uint32_t SHEETS[2][TEVROLIG_SHEET_WORDS] = {
+    {2, 4096, 2048, 2, 5, 2, 64, 64, 64, 64, 61, 64},
+    {2, 4096, 2048, 16, 1, 2, 64, 64, 0, 0, 0, 0},
+};
+
+static uint8_t file[MOST_BYTES];
+static size_t length;
+static const uint32_t *sheet;
+static uint32_t coefficients[TEVROLIG_MOST_TABLE], coins[MOST_COINS], table[TEVROLIG_MOST_TABLE];
+static size_t coin_count;
+
+static _Alignas(64) uint8_t stack[STACK];
+static ucontext_t here, there;
+static uint32_t answer;
+
+static void verify(void)
+{
+    uint64_t place, reads;
+    answer = tevrolig_verify(file, length, &place, &reads);
+}
+
+static void prove(void)
+{
+    uint64_t blocks;
+    answer = tevrolig_prove(sheet, TEVROLIG_SHEET_WORDS, coefficients, sheet[2], coins, coin_count, file, sizeof file, &blocks);
+}
+
+static void encode(void)
+{
+    uint64_t words;
+    answer = tevrolig_encode(sheet, TEVROLIG_SHEET_WORDS, coefficients, sheet[2], table, TEVROLIG_MOST_TABLE, &words);
+}
+
+/* Bytes of the stack that a call changes. What the start of a context takes is among them. */
+static size_t depth(void (*call)(void))
+{
+    memset(stack, PAINT, sizeof stack);
+    getcontext(&there);
+    there.uc_stack.ss_sp = stack;
+    there.uc_stack.ss_size = sizeof stack;
+    there.uc_link = &here;
+    makecontext(&there, call, 0);
+    swapcontext(&here, &there);
+    size_t untouched = 0;
+    while (untouched < sizeof stack && stack[untouched] == PAINT)
+        untouched++;
+    return sizeof stack - untouched;
+}
+
+/* The coins 0, 1, 2 and so on. */
+static void count_up(uint32_t count)
+{
+    for (uint32_t j = 0; j < count; j++)
+        coins[coin_count++] = j;
+}
+
+/* Allowed coins: as points 0 and 1 lie in no domain past the first, and the indices of a round are different. */
+static void draw_coins(void)
+{
+    uint32_t rounds = sheet[4], outs = sheet[5];
+    coin_count = 0;
+    coins[coin_count++] = 7;
+    for (uint32_t i = 0; i < rounds; i++) {
+        count_up(outs);
+        coins[coin_count++] = 5;
+        coins[coin_count++] = 11;
+        count_up(sheet[6 + i]);
+    }
+    count_up(sheet[6 + rounds]);
+}
+
+static size_t larger(size_t a, size_t b)
+{
+    return a > b ? a : b;
+}
+
+/* The depth of a call that must be done. */
+static size_t done(const char *name, void (*call)(void))
+{
+    size_t taken = depth(call);
+    if (answer != TEVROLIG_DONE) {
+        fprintf(stderr, "%s refuses: %u\n", name, (unsigned)answer);
+        exit(2);
+    }
+    return taken;
+}
+
+int main(int argc, char **argv)
+{
+    size_t verifying = 0, proving = 0, encoding = 0;
+    for (int i = 1; i < argc; i++) {
+        FILE *input = fopen(argv[i], "rb");
+        if (input == NULL) {
+            perror(argv[i]);
+            return 2;
+        }
+        length = fread(file, 1, sizeof file, input);
+        fclose(input);
+        verifying = larger(verifying, depth(verify));
+    }
+    for (size_t i = 0; i < TEVROLIG_MOST_TABLE; i++)
+        coefficients[i] = (uint32_t)(i * i);
+    for (size_t i = 0; i < 2; i++) {
+        sheet = SHEETS[i];
+        draw_coins();
+        proving = larger(proving, done("prove", prove));
+        encoding = larger(encoding, done("encode", encode));
+    }
+    printf("stack: verify %zu, prove %zu, encode %zu bytes at most\n", verifying, proving, encoding);
+    return verifying < TEVROLIG_VERIFY_STACK && proving < TEVROLIG_PROVE_STACK && encoding < TEVROLIG_ENCODE_STACK ? 0 : 1;
+}
