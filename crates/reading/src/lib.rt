@@ -2,7 +2,7 @@
 use outcome::Found;
 use outcome::Outcome;
 ghost use mathlib.Core.Path.{_≡_};
-ghost use Prim.Native.Nat.{ℕ, _*_, _/_, _≤_};
+ghost use Prim.Native.Nat.{ℕ, _*_, _/_, _≤_, min};
 ghost use lib.ListN.{length, take};
 ghost use mathlib.Core.List.{List};
 ghost use Rattle.definition.specs.Sheet.{sheetOf};
@@ -32,7 +32,7 @@ fn body(w: &[u32]) -> Outcome
 
 // Refusals 3 to 6, of a file in so many blocks whose words are loaded. Only the first 12 words are looked at before the sheet passes.
 fn after_checks(words: &[u32], blocks: usize) -> Outcome
-    requires { ⌜ (length (now words) ≡ 8763) × (1 ≤ blocks) ⌝ }
+    requires { ⌜ (127 * min blocks 69 ≤ length (now words)) × (1 ≤ blocks) ⌝ }
     ensures { λ r. ⌜ ((w : List ℕ) → Loads (now (words .entry)) blocks w → outcomeOf r ≡ streamTests blocks w) ⌝ }
 {
     let head = &words[..12];
@@ -49,7 +49,7 @@ fn after_checks(words: &[u32], blocks: usize) -> Outcome
 
 // Reads a file of any length and content. Where it is accepted, the words of its stream stand at the front of the places lent.
 pub fn read(file: &[u8], words: &mut [u32]) -> Outcome
-    requires { ⌜ length (now words) ≡ 8763 ⌝ }
+    requires { ⌜ 127 * min (length (now file) / 512) 69 ≤ length (now words) ⌝ }
     ensures { λ r. ⌜ Read (now (file .entry)) r (now (words .exit)) ⌝ }
 {
     if file.len() == 0 {

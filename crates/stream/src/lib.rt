@@ -59,9 +59,9 @@ fn place(b: usize) -> usize
     if b < 68 { 127 * b } else { 8636 }
 }
 
-// Reads a file in one pass: checks each block up to the first that is wrong, and stores the words.
+// Reads a file in one pass: checks each block up to the first that is wrong, and stores the words. There are places for the file's blocks, up to 69.
 pub fn load(file: &[u8], words: &mut [u32]) -> Found
-    requires { ⌜ length (now words) ≡ 8763 ⌝ }
+    requires { ⌜ 127 * min (length (now file) / 512) 69 ≤ length (now words) ⌝ }
     ensures { λ r. ⌜ Loaded (now (file .entry)) r (now (words .exit)) ⌝ }
 {
     let blocks = file.len() / 512;

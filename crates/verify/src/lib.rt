@@ -2,6 +2,7 @@
 use outcome::Outcome;
 use outcome::Verdict;
 ghost use mathlib.Core.Path.{_≡_};
+ghost use Prim.Native.Nat.{_*_, _/_, _≤_, min};
 ghost use lib.ListN.{length};
 ghost use Rattle.definition.specs.Verify.{verify};
 ghost use Rattle.outcome.specs.Meaning.{verdictOf};
@@ -13,12 +14,19 @@ fn room() -> [u32; 8763]
     [0u32; 8763]
 }
 
-// The verdict on a file. It is only read.
-pub fn verify(file: &[u8]) -> Verdict
+// Places for the words of 8 blocks.
+fn small_room() -> [u32; 1016]
+    ensures { λ r. ⌜ length r ≡ 1016 ⌝ }
+{
+    [0u32; 1016]
+}
+
+// The verdict on a file, by way of the places lent.
+fn judge(file: &[u8], words: &mut [u32]) -> Verdict
+    requires { ⌜ 127 * min (length (now file) / 512) 69 ≤ length (now words) ⌝ }
     ensures { λ r. ⌜ verdictOf r ≡ verify (now (file .entry)) ⌝ }
 {
-    let mut words = room();
-    let read = reading::read(file, &mut words);
+    let read = reading::read(file, words);
     if let Outcome::Refused(number, place) = read {
         return Verdict {
             outcome: Outcome::Refused(number, place),
@@ -26,4 +34,16 @@ pub fn verify(file: &[u8]) -> Verdict
         };
     }
     deciding::deciding(&words[..127 * (file.len() / 512)])
+}
+
+// The verdict on a file. It is only read. A short one is spared the clearing of many places.
+pub fn verify(file: &[u8]) -> Verdict
+    ensures { λ r. ⌜ verdictOf r ≡ verify (now (file .entry)) ⌝ }
+{
+    if file.len() <= 4096 {
+        let mut words = small_room();
+        return judge(file, &mut words);
+    }
+    let mut words = room();
+    judge(file, &mut words)
 }

@@ -46,7 +46,7 @@ module _ (file : List ℕ) (b : ℕ) where
       wrong-later (fileBlocks file) b n (sym e ∙ not-false r t) ∙ s
 
   -- block b is stored behind those before it, or, from number 68 on, behind the first 68
-  hold-more : (l : List ℕ) {o : List ℕ} {at : ℕ} → b < length file / 512 → length l ≡ 8763 → at ≡ 127 * min b 68
+  hold-more : (l : List ℕ) {o : List ℕ} {at : ℕ} → b < length file / 512 → 127 * min (length file / 512) 69 ≤ length l → at ≡ 127 * min b 68
       → o ≡ overwrite l at (blockWords file b) → Holding file b l → Holding file (b + 1) o
   unfolding Holding
   hold-more l {o} {at} h n e q w = ⊎-elim (λ z. above (omega arith)) (λ z. below (omega arith)) (eq-zero-or-pos (68 - b))
@@ -121,7 +121,7 @@ loop-again c =
         p .kept .1 .1 .0 ∙ l .inv .1 .0,
         (
           search-on (a .file .now) (l .b) h (p .ensures .0) (c .if1 .left) (l .inv .1 .1 .0),
-          hold-more (a .file .now) (l .b) (l .words) h (l .inv .1 .0 ∙ s .pre) (c .before .before .before .before .before .place .ensures) (p .ensures .1) (l .inv .1 .1 .1),
+          hold-more (a .file .now) (l .b) (l .words) h (omega (arith, l .inv .1 .0, s .pre)) (c .before .before .before .before .before .place .ensures) (p .ensures .1) (l .inv .1 .1 .1),
         ),
       ),
     )
