@@ -1,73 +1,212 @@
-//! Verify in the archive beside the same algorithm in Rust, in one run: ratios first, then how the time grows.
+//! Verify, prove and encode in the archive beside the same algorithms in Rust, in one run: ratios first.
+//!
+//! Two baselines take turns with the archive: plain Rust, and Rust tuned by hand as the proved code is (one remainder for a product and
+//! a sum, two points in one walk). Each figure is the least time of a call over several rounds. With an argument the rows for the plots
+//! are written to that folder, as `verify.rows`, `prove.rows` and `encode.rows`.
 
+use std::fmt::Write as _;
 use std::hint::black_box;
+use std::path::PathBuf;
 use std::time::Instant;
-use tevrolig_model::baseline::verify as baseline;
+use tevrolig_model::baseline;
 use tevrolig_model::generate::{self, Rng};
+use tevrolig_model::stream;
 
-fn honest(sheet: &[u32; 12]) -> Vec<u8> {
-    let mut rng = Rng::new(7);
-    let coefficients = generate::coefficients(&mut rng, sheet);
-    let coins = generate::coins(&mut rng, sheet, false);
-    generate::honest_file(sheet, &coefficients, &coins)
-}
-
-/// The least time of one call in microseconds, over several rounds of calls that take turns.
-fn times(file: &[u8]) -> (f64, f64) {
-    let calls = (2_000_000 / file.len()).max(5);
-    let (mut proved, mut plain) = (f64::MAX, f64::MAX);
+/// The least time of one call in microseconds, for each of three functions that take turns.
+fn least(calls: usize, mut work: [&mut dyn FnMut(); 3]) -> [f64; 3] {
+    let mut best = [f64::MAX; 3];
     for _ in 0..15 {
-        let start = Instant::now();
-        for _ in 0..calls {
-            black_box(tevrolig::verify(black_box(file)));
+        for (function, least) in work.iter_mut().zip(&mut best) {
+            let start = Instant::now();
+            for _ in 0..calls {
+                function();
+            }
+            *least = least.min(start.elapsed().as_secs_f64() * 1e6 / calls as f64);
         }
-        proved = proved.min(start.elapsed().as_secs_f64() * 1e6 / calls as f64);
-        let start = Instant::now();
-        for _ in 0..calls {
-            black_box(baseline::verify::<false>(black_box(file)));
-        }
-        plain = plain.min(start.elapsed().as_secs_f64() * 1e6 / calls as f64);
     }
-    (proved, plain)
+    best
 }
 
-fn row(sheet: &[u32; 12]) {
-    let file = honest(sheet);
-    let verdict = tevrolig::verify(&file);
-    assert_eq!(verdict.outcome, tevrolig::Outcome::Accepted);
-    assert_eq!(
-        baseline::verify::<false>(&file),
-        tevrolig_model::verify(&file)
-    );
-    let (proved, plain) = times(&file);
-    let words: Vec<String> = sheet.iter().map(|word| word.to_string()).collect();
+/// What a sheet's honest run needs.
+struct Order {
+    sheet: [u32; 12],
+    coefficients: Vec<u32>,
+    coins: Vec<u32>,
+    file: Vec<u8>,
+}
+
+impl Order {
+    fn new(sheet: &[u32; 12]) -> Self {
+        let mut rng = Rng::new(7);
+        let coefficients = generate::coefficients(&mut rng, sheet);
+        let coins = generate::coins(&mut rng, sheet, false);
+        Order {
+            sheet: *sheet,
+            file: generate::honest_file(sheet, &coefficients, &coins),
+            coefficients,
+            coins,
+        }
+    }
+
+    fn calls(&self) -> usize {
+        (2_000_000 / self.file.len()).max(5)
+    }
+
+    fn verify(&self) -> [f64; 3] {
+        let file = self.file.as_slice();
+        assert_eq!(tevrolig::verify(file).outcome, tevrolig::Outcome::Accepted);
+        assert_eq!(
+            baseline::verify::verify::<false>(file),
+            tevrolig_model::verify(file)
+        );
+        least(
+            self.calls(),
+            [
+                &mut || {
+                    black_box(tevrolig::verify(black_box(file)));
+                },
+                &mut || {
+                    black_box(baseline::verify::verify::<false>(black_box(file)));
+                },
+                &mut || {
+                    black_box(baseline::verify::verify::<true>(black_box(file)));
+                },
+            ],
+        )
+    }
+
+    fn prove(&self) -> [f64; 3] {
+        let (sheet, f, coins) = (&self.sheet, &self.coefficients, &self.coins);
+        let mut outputs = [vec![0; 34816], vec![0; 34816], vec![0; 34816]];
+        let [proved, plain, tuned] = &mut outputs;
+        let best = least(
+            self.calls() / 2 + 1,
+            [
+                &mut || {
+                    let answer = tevrolig::prove(black_box(sheet), f, coins, proved);
+                    black_box(answer.expect("an honest order"));
+                },
+                &mut || {
+                    black_box(baseline::prove::prove::<false>(
+                        black_box(sheet),
+                        f,
+                        coins,
+                        plain,
+                    ));
+                },
+                &mut || {
+                    black_box(baseline::prove::prove::<true>(
+                        black_box(sheet),
+                        f,
+                        coins,
+                        tuned,
+                    ));
+                },
+            ],
+        );
+        for output in &outputs {
+            assert_eq!(output[..self.file.len()], self.file);
+        }
+        best
+    }
+
+    fn encode(&self) -> [f64; 3] {
+        let (sheet, f) = (&self.sheet, &self.coefficients);
+        let mut outputs = [vec![0; 4096], vec![0; 4096], vec![0; 4096]];
+        let [proved, plain, tuned] = &mut outputs;
+        let best = least(
+            self.calls() / 2 + 1,
+            [
+                &mut || {
+                    let answer = tevrolig::encode(black_box(sheet), f, proved);
+                    black_box(answer.expect("an honest order"));
+                },
+                &mut || {
+                    black_box(baseline::prove::encode::<false>(black_box(sheet), f, plain));
+                },
+                &mut || {
+                    black_box(baseline::prove::encode::<true>(black_box(sheet), f, tuned));
+                },
+            ],
+        );
+        assert!(outputs[0] == outputs[1] && outputs[0] == outputs[2]);
+        best
+    }
+}
+
+fn show(what: &str, order: &Order, [proved, plain, tuned]: [f64; 3]) {
+    let words: Vec<String> = order.sheet.iter().map(u32::to_string).collect();
     println!(
-        "{:5.2}  {:9.1}  {:9.1}  {:6}  {:5}  {}",
+        "{:5.2} {:5.2}  {:9.1} {:9.1} {:9.1}  {:6}  {:7}{}",
         proved / plain,
+        proved / tuned,
         proved,
         plain,
-        file.len(),
-        verdict.reads,
+        tuned,
+        order.file.len(),
+        what,
         words.join(" ")
     );
 }
 
 fn main() {
-    println!("ratio  proved us    Rust us   bytes  reads  sheet");
-    println!("-- the largest");
-    row(&[2, 4096, 2048, 2, 5, 2, 64, 64, 64, 64, 61, 64]);
-    row(&[2, 4096, 2048, 16, 1, 2, 64, 64, 0, 0, 0, 0]);
-    row(&[2, 4096, 512, 4, 2, 2, 36, 27, 22, 0, 0, 0]);
-    println!("-- small and middle");
-    row(&[0, 16, 8, 2, 1, 1, 1, 1, 0, 0, 0, 0]);
-    row(&[1, 256, 128, 4, 2, 2, 9, 5, 7, 0, 0, 0]);
-    row(&[2, 1024, 256, 4, 2, 2, 20, 9, 12, 0, 0, 0]);
-    println!("-- by n0, one coin a round");
-    for log in [4, 6, 8, 10, 12] {
-        row(&[2, 1 << log, 8, 2, 1, 1, 1, 1, 0, 0, 0, 0]);
+    let folder = std::env::args().nth(1).map(PathBuf::from);
+    println!("ratio to Rust      microseconds a call");
+    println!("plain tuned     proved     plain     tuned   bytes  sheet");
+    let named = [
+        [2, 4096, 2048, 2, 5, 2, 64, 64, 64, 64, 61, 64],
+        [2, 4096, 2048, 16, 1, 2, 64, 64, 0, 0, 0, 0],
+        [2, 4096, 512, 4, 2, 2, 36, 27, 22, 0, 0, 0],
+        [2, 1024, 256, 4, 2, 2, 20, 9, 12, 0, 0, 0],
+        [1, 256, 128, 4, 2, 2, 9, 5, 7, 0, 0, 0],
+        [0, 16, 8, 2, 1, 1, 1, 1, 0, 0, 0, 0],
+    ];
+    for sheet in &named {
+        let order = Order::new(sheet);
+        show("verify ", &order, order.verify());
+        show("prove  ", &order, order.prove());
+        show("encode ", &order, order.encode());
     }
-    println!("-- by t times k");
-    for (k, t) in [(2, 8), (2, 32), (4, 32), (8, 32), (16, 32), (16, 60)] {
-        row(&[2, 4096, 2048, k, 1, 2, t, t, 0, 0, 0, 0]);
+
+    // What the pass over the file and its ranges takes: a file whose first out coin lies in its domain is refused right after it.
+    let mut order = Order::new(&named[0]);
+    let whole = order.verify()[0];
+    stream::write_word(&mut order.file, 12 + 4096 + 1 + 2048, 1282623253);
+    stream::write_checks(&mut order.file);
+    let refused = tevrolig::verify(&order.file);
+    assert_eq!(refused.line(), "refused 7 6157 0");
+    let pass = least(
+        order.calls(),
+        [
+            &mut || {
+                black_box(tevrolig::verify(black_box(&order.file)));
+            },
+            &mut || (),
+            &mut || (),
+        ],
+    )[0];
+    println!(
+        "the pass over the largest file, its ranges and its points: {pass:.1} of {whole:.1} microseconds, {:.0} %",
+        100.0 * pass / whole
+    );
+
+    let Some(folder) = folder else { return };
+    let by_size = [16, 64, 256, 1024, 4096].map(|n0| [2, n0, 8, 2, 1, 1, 1, 1, 0, 0, 0, 0]);
+    let by_coins = [(2, 8), (2, 32), (4, 32), (8, 32), (16, 32), (16, 60)]
+        .map(|(k, t)| [2, 4096, 2048, k, 1, 2, t, t, 0, 0, 0, 0]);
+    let mut rows = [String::new(), String::new(), String::new()];
+    let sheets = by_size.iter().map(|sheet| ("n0", sheet[1], sheet));
+    let sheets = sheets.chain(by_coins.iter().map(|s| ("tk", s[3] * s[6], s)));
+    for (kind, value, sheet) in sheets {
+        let order = Order::new(sheet);
+        for (rows, times) in rows
+            .iter_mut()
+            .zip([order.verify(), order.prove(), order.encode()])
+        {
+            writeln!(rows, "{kind} {value} {:.2} {:.2}", times[0], times[1]).expect("a string");
+        }
+    }
+    for (name, rows) in ["verify", "prove", "encode"].iter().zip(rows) {
+        std::fs::write(folder.join(format!("{name}.rows")), rows).expect("the rows are written");
     }
 }

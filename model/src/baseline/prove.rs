@@ -48,6 +48,28 @@ impl<const P: u64, const TUNED: bool> Prime<P, TUNED> {
         f.pop();
     }
 
+    /// The quotient by the product of X - a over the points, in place; tuned, four points a pass.
+    fn quotient(self, f: &mut Vec<u32>, points: &[u32]) {
+        let mut rest = points;
+        while let (true, [a, b, c, d, next @ ..]) = (TUNED, rest) {
+            let mut above = [0; 4];
+            for coefficient in f.iter_mut().rev() {
+                let mut here = *coefficient;
+                *coefficient = above[3];
+                for (above, &point) in above.iter_mut().zip([a, b, c, d]) {
+                    let before = *above;
+                    *above = self.add_product(here, point, before);
+                    here = before;
+                }
+            }
+            f.truncate(f.len() - 4);
+            rest = next;
+        }
+        for &a in rest {
+            self.divide(f, a);
+        }
+    }
+
     /// The product of q and 1 + cX + .. + (cX)^e, by its recurrence.
     fn correct(self, c: u32, e: usize, q: &[u32]) -> Vec<u32> {
         let minus = self.sub(0, self.pow(c, e as u64 + 1));
@@ -158,9 +180,7 @@ fn stream<const P: u64, const TUNED: bool>(
                 seen.push(x);
             }
         }
-        for &x in &seen {
-            prime.divide(&mut g, x);
-        }
+        prime.quotient(&mut g, &seen);
         f = prime.correct(later[0], seen.len(), &g);
         r = later[1];
         rest = next;
