@@ -1,4 +1,5 @@
 pub mod Filled
 pub mod Membership
+pub mod OfSheet
 pub mod Tables
 pub mod Walked

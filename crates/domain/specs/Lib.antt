@@ -1,5 +1,4 @@
 pub mod Powers
 pub mod Roots
 pub mod Points
-pub mod OfSheet
 pub mod OutCoins
