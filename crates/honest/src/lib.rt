@@ -15,7 +15,7 @@ ghost use Rattle.completeness.specs.Numbered.{Allowed, roundsOf};
 ghost use Rattle.domain.specs.Powers.{Powers};
 ghost use Rattle.rounds.specs.PointsIn.{shiftIn};
 ghost use Rattle.honest.specs.Tables.{LevelTable};
-ghost use Rattle.honest.specs.Standing.{DealtFrom, OnLevel, RoundDealt, Standing, correctedFrom, fieldAt, foldFrom, openingFrom, restCount, restFrom, rootAt, roundCount, roundFrom, wordsFrom};
+ghost use Rattle.honest.specs.Standing.{DealtFrom, OnLevel, RoundDealt, Standing, correctedFrom, foldFrom, openingFrom, restCount, restFrom, roundCount, roundFrom, wordsFrom};
 ghost use Rattle.honest.specs.Points.{InTable, differentPoints, keepPoint, keepPoints};
 
 // A copy of words.
