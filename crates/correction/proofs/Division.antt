@@ -1,5 +1,5 @@
 -- Horner's schemes in place, one behind the other, and the division by one point after the other.
-use Prim.Native.Nat.{ℕ, zero, suc, _+_, _-_, _≤_, _<_}
+use Prim.Native.Nat.{ℕ, zero, suc, _-_, _≤_, _<_}
 use mathlib.Core.Path.{_≡_, refl, sym, ap, _∙_}
 use mathlib.Core.List.{List, [], _∷_, _++_, tail, append-assoc, append-nil}
 use native.Mathlib.Numerals.{add-one}

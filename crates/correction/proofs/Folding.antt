@@ -9,12 +9,13 @@ use lib.Seq.{drop-drop, drop-length}
 use Rattle.definition.specs.Lists.{chunks}
 use Rattle.definition.specs.Field.{Field}
 use Rattle.definition.specs.Polynomial.{evaluate, foldPoly}
-use Rattle.correction.proofs.Lists.{sub-one, one-more, drop-store}
+use Rattle.polynomial.specs.Backwards.{drop-store}
+use Rattle.correction.proofs.Lists.{one-more}
 
 -- chunk j - 1 ends where chunk j begins, and lies inside
 pub chunk-before : (j k : ℕ) → 0 < j → (j - 1) * k + k ≡ j * k
 chunk-before zero k h = absurd (not-suc-le-zero h)
-chunk-before (suc j) k h = rw (sub-one j) (sym (suc-mul j k))
+chunk-before (suc j) k h = let same : suc j - 1 ≡ j = omega arith in rw same (sym (suc-mul j k))
 
 pub chunk-inside : (j k n m : ℕ) → 0 < j → j ≤ n → m ≡ k * n → (j - 1) * k + k ≤ m
 chunk-inside j k n m h l e = omega (arith, chunk-before j k h, mul-comm j k, mul-le-mul-left k l)

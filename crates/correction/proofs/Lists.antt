@@ -1,31 +1,15 @@
 -- A list walked from its back to its front, with or without a store at each place.
-use Prim.Native.Nat.{ℕ, zero, suc, _+_, _-_, _≤_, _<_}
+use Prim.Native.Nat.{ℕ, suc, _+_, _-_, _≤_, _<_}
 use mathlib.Core.Path.{_≡_, _∙_}
 use mathlib.Core.List.{List, _∷_}
-use native.Mathlib.Nat.{not-suc-le-zero}
 use native.Mathlib.Numerals.{add-one}
 use native.Mathlib.Omega.{arith}
-use lib.ListN.{length, take, drop, getD, set, length-set}
-use lib.Seq.{drop-cons, drop-set-lt, getD-set-same, getD-set-other}
-
-pub sub-one : (i : ℕ) → suc i - 1 ≡ i
-sub-one i = omega arith
+use lib.ListN.{length, take, drop, getD, set}
+use lib.Seq.{drop-cons, getD-set-other}
+use Rattle.polynomial.specs.Backwards.{drop-back, drop-store}
 
 pub one-more : (n i : ℕ) → 0 < i → i ≤ n → n - (i - 1) ≡ suc (n - i)
 one-more n i h k = omega arith
-
--- one element more at the front of what is dropped to
-pub drop-back : (l : List ℕ) (i : ℕ) → 0 < i → i ≤ length l → drop (i - 1) l ≡ getD l (i - 1) 0 ∷ drop i l
-drop-back l zero h e = absurd (not-suc-le-zero h)
-drop-back l (suc i) h e = rw (sub-one i) (drop-cons l i 0 e)
-
--- the same with a store there
-pub drop-store : (l : List ℕ) (i v : ℕ) → 0 < i → i ≤ length l → drop (i - 1) (set l (i - 1) v) ≡ v ∷ drop i l
-drop-store l i v h e =
-    let b : i ≤ length (set l (i - 1) v) = rw length-set e in
-    let s : i - 1 < length l = omega arith in
-    let t : i - 1 < i = omega arith in
-    drop-back (set l (i - 1) v) i h b ∙ rw (getD-set-same l (i - 1) v 0 s, drop-set-lt i l (i - 1) v t)
 
 -- the first n elements, from number i - 1 on
 pub part-back : (l : List ℕ) (n i : ℕ) → 0 < i → i ≤ n → n ≤ length l →

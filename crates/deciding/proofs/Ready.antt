@@ -1,7 +1,7 @@
 -- What the functions hand to each other, over plain numbers and lists: what a call requires, and what it gives, in the words of the stream.
 use Prim.Native.Nat.{ℕ, _+_, _*_, _/_, _^_, _≤_, _<_}
 use native.Mathlib.Omega.{arith}
-use mathlib.Core.Path.{_≡_, sym, ap, _∙_, subst}
+use mathlib.Core.Path.{_≡_, refl, sym, ap, _∙_, subst}
 use mathlib.Core.List.{List, [], zipWith}
 use mathlib.Core.Option.{Option, none, some}
 use lib.ListN.{length, getD, take, drop, drop-of-length-le}
@@ -23,6 +23,7 @@ use Rattle.polynomial.specs.Newton.{newton}
 use Rattle.samples.specs.declared.Gathered.{Gathered}
 use Rattle.samples.specs.declared.Gathered.the-variants.{Clash, From}
 use Rattle.samples.specs.Samples.{Room, kept}
+use Rattle.samples.specs.Answers.{kept-clash, kept-from}
 use Rattle.rounds.specs.declared.Function.{Function}
 use Rattle.rounds.specs.Round.{Below, Fits}
 use Rattle.rounds.specs.RoundLaws.{Answered, Compared, Serves}
@@ -96,14 +97,6 @@ room-most n t (From k) e h r = (omega arith, omega arith)
 pub room-in : (g : Gathered) (j : ℕ) → g ≡ From j → Room 66 66 g → j ≤ 66
 room-in g j e r = let q = subst (Room 66 66) e r in q .1
 
-kept-from : (g : Gathered) (j : ℕ) (xs ys : List ℕ) → g ≡ From j → kept g xs ys ≡ some (pair (drop j xs) (drop j ys))
-unfolding kept
-kept-from g j xs ys e = ap (λ (x : Gathered). kept x xs ys) e
-
-kept-clash : (g : Gathered) (xs ys : List ℕ) → g ≡ Clash → kept g xs ys ≡ none
-unfolding kept
-kept-clash g xs ys e = ap (λ (x : Gathered). kept x xs ys) e
-
 module _ (w pw xs cs : List ℕ) (st : Stand) (how : Function) {f : Found} where
   pub differing-at : {i : ℕ} → f ≡ At i → Differing w pw xs cs st how (placeOf f) → Differing w pw xs cs st how (some i)
   unfolding placeOf
@@ -125,7 +118,7 @@ module _ (w pw xs cs : List ℕ) (st : Stand) (how : Function) (ok : Standing w 
       Decided w pw xs cs st how (record { outcome = refused 8 (next .level); reads = next .reads })
   clash-ready px py e a =
       subst (λ (x : Stand). Decided w pw xs cs st how (record { outcome = refused 8 (x .level); reads = x .reads })) (sym en)
-      (clash-step w pw xs cs st how ok more (subst (Sifted w pw xs cs st how) (kept-clash g px py e) a))
+      (clash-step w pw xs cs st how ok more (subst (Sifted w pw xs cs st how) (sym (kept-clash px py e refl)) a))
 
   module _ (j : ℕ) (how′ : Function) (eh : how′ ≡ nextFunction w st (how .scale) j) (px py pc : List ℕ) (ej : g ≡ From j)
       (a : Sifted w pw xs cs st how (kept g px py)) (inside : j ≤ length px) (ly : length py ≡ length px) (lc : length pc ≡ length px)
@@ -134,17 +127,15 @@ module _ (w pw xs cs : List ℕ) (st : Stand) (how : Function) (ok : Standing w 
     after = standing-next w st how ok more (length px) (length pc) j inside (omega arith)
 
     found : Sifted w pw xs cs st how (some (pair (drop j px) (drop j py)))
-    found = subst (Sifted w pw xs cs st how) (kept-from g j px py ej) a
+    found = subst (Sifted w pw xs cs st how) (sym (kept-from px py ej refl)) a
 
-    pub next-standing : Standing w (length pw) (length px) (length pc) next how′
-    next-standing =
-        subst (λ (x : Stand). Standing w (length pw) (length px) (length pc) x how′) (sym en)
-        (subst (Standing w (length pw) (length px) (length pc) (nextStand w st)) (sym eh) after)
-
-    pub next-served : Served w pw xs cs st how → Served w pw px pc next how′
-    next-served s =
-        subst (λ (x : Stand). Served w pw px pc x how′) (sym en)
-        (subst (Served w pw px pc (nextStand w st)) (sym eh) (served-next w pw xs cs st how ok more px py pc j after ly found newtons s))
+    pub next-ready : Served w pw xs cs st how → Standing w (length pw) (length px) (length pc) next how′ × Served w pw px pc next how′
+    next-ready s = (
+      subst (λ (x : Stand). Standing w (length pw) (length px) (length pc) x how′) (sym en)
+          (subst (Standing w (length pw) (length px) (length pc) (nextStand w st)) (sym eh) after),
+      subst (λ (x : Stand). Served w pw px pc x how′) (sym en)
+          (subst (Served w pw px pc (nextStand w st)) (sym eh) (served-next w pw xs cs st how ok more px py pc j after ly found newtons s)),
+    )
 
     pub next-decided : {v : Verdict} → Decided w pw px pc next how′ v → Decided w pw xs cs st how v
     next-decided {v} d =
@@ -159,16 +150,14 @@ module _ (w pw xs : List ℕ) (passed : sheetTest w ≡ accepted) (ranged : rang
   empty : drop 66 xs ≡ []
   empty = drop-of-length-le xs {i = 66} (omega arith)
 
-  pub first-standing : Standing w (length pw) (length xs) (length xs) st how
-  first-standing =
-      subst (λ (x : Stand). Standing w (length pw) (length xs) (length xs) x how) (sym es)
-      (subst (Standing w (length pw) (length xs) (length xs) (firstStand w)) (sym eh)
-      (standing-first w passed due ranged (length pw) (length xs) (length xs) 66 size (omega arith) (omega arith)))
-
-  pub first-served : Served w pw xs xs st how
-  first-served =
-      subst (λ (x : Stand). Served w pw xs xs x how) (sym es)
-      (subst (Served w pw xs xs (firstStand w)) (sym eh) (served-first w passed due pw xs xs 66 points empty))
+  pub first-ready : Standing w (length pw) (length xs) (length xs) st how × Served w pw xs xs st how
+  first-ready = (
+    subst (λ (x : Stand). Standing w (length pw) (length xs) (length xs) x how) (sym es)
+        (subst (Standing w (length pw) (length xs) (length xs) (firstStand w)) (sym eh)
+        (standing-first w passed due ranged (length pw) (length xs) (length xs) 66 size (omega arith) (omega arith))),
+    subst (λ (x : Stand). Served w pw xs xs x how) (sym es)
+        (subst (Served w pw xs xs (firstStand w)) (sym eh) (served-first w passed due pw xs xs 66 points empty)),
+  )
 
   pub first-decided : {v : Verdict} → Decided w pw xs xs st how v →
       v ≡ decide (primeField (sheetOf w .prime)) (rootOfUnity (sheetOf w)) (firstLevel (sheetOf w)) (readTranscript (sheetOf w) (drop 12 w))
@@ -178,11 +167,8 @@ module _ (w pw xs : List ℕ) (passed : sheetTest w ≡ accepted) (ranged : rang
 
 module _ (w pw : List ℕ) (passed : sheetTest w ≡ accepted) (ranged : rangeTest (sheetOf w) w ≡ accepted) (due : wordsDue (sheetOf w) ≤ length w)
     (size : length pw ≡ getD w 1 0) (st : Stand) (es : st ≡ firstStand w) where
-  pub placed-start : Placed w st
-  placed-start = subst (Placed w) (sym es) (placed-first w passed due ranged)
-
-  pub scaled-start : Scaled (length pw) st 1
-  scaled-start = subst (λ (x : Stand). Scaled (length pw) x 1) (sym es) (scaled-first (length pw) w size)
+  pub outs-ready : Placed w st × Scaled (length pw) st 1
+  outs-ready = (subst (Placed w) (sym es) (placed-first w passed due ranged), subst (λ (x : Stand). Scaled (length pw) x 1) (sym es) (scaled-first (length pw) w size))
 
   pub outs-start : {v : Option ℕ} → v ≡ outsFrom w st → v ≡ firstTrue 12 (zipWith (outInDomain (sheetOf w)) (layout (sheetOf w)) (drop 12 w))
   outs-start h = h ∙ ap (outsFrom w) es ∙ outs-first w passed due ranged

@@ -3,25 +3,23 @@ use Prim.Native.Nat.{ℕ, suc, _+_, _-_, _^_, _≤_}
 use native.Mathlib.Nat.{sub-zero}
 use native.Mathlib.Omega.{arith}
 use mathlib.Core.Path.{_≡_, refl, sym, ap, _∙_, subst}
-use mathlib.Core.Bool.{_&&_}
 use mathlib.Core.List.{List, [], _∷_, zipWith}
-use lib.Dec.{leb}
 use lib.ListN.{length, getD, take, drop, replicate, length-append, length-drop, length-replicate}
 use lib.Seq.{drop-cons, drop-drop, getD-drop}
-use borrow.Author.Tests.{leb-true}
-use Rattle.completeness.specs.SheetRules.{between-true, exponents, rules-hold, small-repetitions}
-use Rattle.completeness.specs.Tests.{and-true, at-passes}
+use Rattle.completeness.specs.SheetRules.{exponents}
+use Rattle.completeness.specs.Tests.{at-passes}
 use Rattle.definition.specs.Deciding.{decide, decideRest, readsOf, tableFunction}
 use Rattle.definition.specs.Field.{fieldOf, primeField, primeOf}
 use Rattle.definition.specs.Layout.{coin, layout, message, readRest, readTranscript, restLayout, wordsDue}
 use Rattle.definition.specs.Lists.{firstTrue}
 use Rattle.definition.specs.Reading.{outOfRange, rangeTest, sheetTest}
-use Rattle.definition.specs.Sheet.{Level, between, firstLevel, foldRule, laterLevels, outCoinsRule, powerOfTwo, roundsRule, rootOfUnity, sheetOf, sheetRules, shiftCount, sizeRule}
+use Rattle.definition.specs.Sheet.{Level, firstLevel, laterLevels, rootOfUnity, sheetOf, shiftCount}
 use Rattle.definition.specs.Verdict.{Verdict, accepted}
 use Rattle.domain.specs.Powers.{Powers}
 use Rattle.rounds.specs.NextRound.{serves-first}
 use Rattle.rounds.specs.Round.{Fits}
 use Rattle.rounds.specs.RoundLaws.{Serves}
+use Rattle.sheet.specs.Bounds.{ranges}
 use Rattle.deciding.specs.Begins.{Begins, begins-after, begins-tail, begins-tested}
 use Rattle.deciding.specs.Inside.{divided}
 use Rattle.deciding.specs.Stand.{firstFunction, firstStand, levelOf, levelsOf, restOf, tableOf}
@@ -29,24 +27,18 @@ use Rattle.deciding.specs.Standing.{Decided, Placed, Served, Shaped, Sta
 
 module _ (w : List ℕ) (passed : sheetTest w ≡ accepted) (due : wordsDue (sheetOf w) ≤ length w) where
   pub shaped : Shaped w
-  unfolding wordsDue sheetRules sizeRule foldRule roundsRule outCoinsRule
+  unfolding wordsDue
   shaped =
-      let h = rules-hold w passed in
-      let n = getD w 1 0 in
-      let k = getD w 3 0 in
-      let n₁ = between-true 4 4096 n (and-true (powerOfTwo n) _ (and-true (powerOfTwo n && between 4 4096 n) _ (h .1 .0) .0) .1) in
-      let k₁ = between-true 2 16 k (and-true (powerOfTwo k) _ (and-true (powerOfTwo k && between 2 16 k) _ (h .1 .1 .1 .0) .0) .1) in
-      let m₁ = and-true (leb (getD w 4 0) 5) (leb (k ^ suc (getD w 4 0)) (getD w 2 0)) (h .1 .1 .1 .1 .0) in
-      let s₁ = between-true 1 2 (getD w 5 0) (h .1 .1 .1 .1 .1 .0) in
+      let r = ranges w passed in
       record {
         long = omega arith;
-        size = n₁ .1;
-        fold = k₁ .0;
-        folds = k₁ .1;
-        rounds = leb-true (getD w 4 0) 5 (m₁ .0);
-        out = s₁ .0;
-        outs = s₁ .1;
-        repetitions = small-repetitions w passed;
+        size = r .size;
+        fold = r .fold;
+        folds = r .folds;
+        rounds = r .rounds;
+        out = r .someOuts;
+        outs = r .outCoins;
+        repetitions = r .repetitions;
       }
 
   -- the sheet's levels are those of the first place

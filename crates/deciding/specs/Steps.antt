@@ -1,10 +1,10 @@
 -- One step of the definition's deciding from a place: a clash, a round and what follows it, and the final comparison.
-use Prim.Native.Nat.{ℕ, suc, _+_, _*_, _/_, _≤_, _<_}
+use Prim.Native.Nat.{ℕ, _+_, _*_, _/_, _≤_, _<_}
 use native.Mathlib.Numerals.{add-one}
 use native.Mathlib.Omega.{arith}
 use mathlib.Core.Path.{_≡_, refl, sym, ap, _∙_, subst}
-use mathlib.Core.Bool.{Bool, true, false, not}
-use mathlib.Core.List.{List, [], _∷_, _++_}
+use mathlib.Core.Bool.{true, false, not}
+use mathlib.Core.List.{List, _++_}
 use mathlib.Core.Option.{none, some}
 use lib.ListN.{length, getD, take, drop, length-drop, length-map}
 use lib.Seq.{length-take-le}
@@ -17,6 +17,7 @@ use Rattle.definition.specs.Polynomial.{Sample, clash, distinct, evaluate, pair
 use Rattle.definition.specs.Sheet.{Level, shiftCount}
 use Rattle.definition.specs.Transcript.{Rest, Round, round}
 use Rattle.definition.specs.Verdict.{Verdict, accepted, refuseAt, refused}
+use Rattle.domain.specs.OutCoins.{first-below}
 use Rattle.polynomial.specs.Newton.{newton}
 use Rattle.samples.specs.SampleLaws.{sifted-none, sifted-some}
 use Rattle.rounds.specs.declared.Function as how
@@ -53,12 +54,6 @@ next-places F ω g ρ = refl
 -- a part of the words has the length asked for
 pub part-length : (w : List ℕ) (at n : ℕ) → at + n ≤ length w → length (take n (drop at w)) ≡ n
 part-length w at n h = length-take-le n (drop at w) (rw length-drop (omega arith))
-
-first-below : (from : ℕ) (bs : List Bool) (i : ℕ) → firstTrue from bs ≡ some i → i < from + length bs
-unfolding firstTrue
-first-below from [] i e = let z : _≡_ {A = ℕ} 0 1 = cc in absurd (omega arith)
-first-below from (true ∷ bs) i e = let z : from ≡ i = cc in omega arith
-first-below from (false ∷ bs) i e = let h = first-below (suc from) bs i e in omega arith
 
 -- ---- a round from a place
 

@@ -362,8 +362,7 @@ pub fn deciding(w: &[u32]) -> Verdict
     requires { ⌜ wordsDue (sheetOf (now w)) ≤ length (now w) ⌝ }
     ensures { λ v. ⌜ verdictOf v ≡ decidingOf (now (w .entry)) ⌝ }
 {
-    let size = w[1] as usize;
     let mut pw = domain::points_room();
-    domain::points(w[0], size, &mut pw[..size]);
+    let size = domain::of_sheet(w, &mut pw);
     decide_by(w, &pw[..size])
 }

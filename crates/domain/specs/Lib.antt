@@ -1,5 +1,6 @@
 pub mod Powers
 pub mod Roots
 pub mod Points
-pub mod OfSheet
 pub mod OutCoins
+pub mod Filled
+pub mod Parts

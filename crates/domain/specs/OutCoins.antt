@@ -1,5 +1,5 @@
 -- Words and coins that lie in a domain: the first of a run of words, and the first out coin among words by their kinds, run by run.
-use Prim.Native.Nat.{ℕ, zero, suc, _+_, _/_, _^_, _≤_}
+use Prim.Native.Nat.{ℕ, zero, suc, _+_, _/_, _^_, _≤_, _<_}
 use native.Mathlib.Omega.{arith}
 use mathlib.Core.Path.{_≡_, refl, ap, _∙_}
 use mathlib.Core.Bool.{Bool, true, false, cond}
@@ -42,6 +42,13 @@ unfolding zipWith firstTrue
 all-quiet t [] w at h = refl
 all-quiet t (k ∷ ks) [] at h = refl
 all-quiet t (k ∷ ks) (x ∷ w) at h = rw (h .0 x) (all-quiet t ks w (suc at) (h .1))
+
+-- the first of some tests that is true has its number among theirs
+pub first-below : (from : ℕ) (bs : List Bool) (i : ℕ) → firstTrue from bs ≡ some i → i < from + length bs
+unfolding firstTrue
+first-below from [] i e = let z : _≡_ {A = ℕ} 0 1 = cc in absurd (omega arith)
+first-below from (true ∷ bs) i e = let z : from ≡ i = cc in omega arith
+first-below from (false ∷ bs) i e = omega (arith, first-below (suc from) bs i e)
 
 -- the first place found, or else the next
 abbrev pub orElse : Option ℕ → Option ℕ → Option ℕ

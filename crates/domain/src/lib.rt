@@ -2,8 +2,11 @@
 use outcome::Found;
 ghost use mathlib.Core.Path.{_≡_};
 ghost use Prim.Native.Nat.{ℕ, _+_, _*_, _%_, _≤_, _<_};
-ghost use lib.ListN.{length, getD};
+ghost use lib.ListN.{length, getD, take};
 ghost use Rattle.definition.specs.Field.{Field, generatorOf, fieldOf, power};
+ghost use Rattle.definition.specs.Reading.{sheetTest};
+ghost use Rattle.definition.specs.Sheet.{rootOfUnity, sheetOf};
+ghost use Rattle.definition.specs.Verdict.{accepted};
 ghost use Rattle.outcome.specs.Meaning.{placeOf};
 ghost use Rattle.powers.specs.Root.{root};
 ghost use Rattle.domain.specs.OutCoins.{FirstInside};
@@ -73,6 +76,19 @@ pub fn points(field: u32, size: usize, out: &mut [u32])
         let table = powers::stored();
         from_stored(&table, 4096 / size, out);
     }
+}
+
+// The points of domain 0 of a sheet w that passes, in the first of the places lent. The answer is their number.
+pub fn of_sheet(w: &[u32], pw: &mut [u32]) -> usize
+    requires { ⌜ (12 ≤ length (now w)) × (sheetTest (now w) ≡ accepted) ⌝ }
+    requires { ⌜ length (now pw) ≡ 4096 ⌝ }
+    ensures { λ r. ⌜ (r ≡ getD (now (w .entry)) 1 0) × (r ≤ 4096) ⌝ }
+    ensures { λ r.
+        ⌜ (Powers (getD (now (w .entry)) 0 0) (rootOfUnity (sheetOf (now (w .entry)))) (take r (now (pw .exit)))) × (length (take r (now (pw .exit))) ≡ getD (now (w .entry)) 1 0) ⌝ }
+{
+    let size = w[1] as usize;
+    points(w[0], size, &mut pw[..size]);
+    size
 }
 
 // Does x lie in domain i, whose points stand at every scale-th place of the table? scale is 2^i.

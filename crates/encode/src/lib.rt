@@ -18,9 +18,8 @@ fn first_table(w: &[u32], f: &[u32], out: &mut [u32])
     requires { ⌜ (length (now f) ≡ getD (now w) 2 0) × (length (now out) ≡ getD (now w) 1 0) ⌝ }
     ensures { λ _. ⌜ now (out .exit) ≡ tableOf (primeField (sheetOf (now (w .entry)) .prime)) (rootOfUnity (sheetOf (now (w .entry)))) (firstLevel (sheetOf (now (w .entry)))) (now (f .entry)) ⌝ }
 {
-    let size = w[1] as usize;
     let mut pw = domain::points_room();
-    domain::points(w[0], size, &mut pw[..size]);
+    let size = domain::of_sheet(w, &mut pw);
     tables::on_domain(w[0], f, &pw[..size], 1, out);
 }
 

@@ -1,4 +1,4 @@
 pub mod Turns
-pub mod Parts
+pub mod Stored
 pub mod Rounds
 pub mod Onward

@@ -10,7 +10,7 @@ use lib.ListN.{length, drop, getD, set, drop-of-length-le}
 use lib.Seq.{drop-cons}
 use borrow.Author.Tests.{eq-eqb, ne-eqb}
 use Rattle.definition.specs.Lists.{member}
-use Rattle.polynomial.proofs.Backwards.{drop-back, drop-store}
+use Rattle.polynomial.specs.Backwards.{drop-back, drop-store}
 use Rattle.honest.specs.Points.{InTable, keepPoint, keepPoints}
 
 -- ---- filling a list by a function of another list's words

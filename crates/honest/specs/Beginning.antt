@@ -16,9 +16,7 @@ use Rattle.completeness.specs.LayoutFacts.{Dealt}
 use Rattle.completeness.specs.LevelsByNumber.{level-first, levels-later, undivided}
 use Rattle.completeness.specs.Numbered.{Allowed, levelOf, outsOf, roundsOf}
 use Rattle.completeness.specs.SheetLevels.{enough-words}
-use Rattle.completeness.specs.SheetRules.{exponents}
-use Rattle.domain.specs.Powers.{Fitting, Powers}
-use Rattle.powers.specs.Root.{root, root-of-sheet}
+use Rattle.domain.specs.Powers.{Powers}
 use Rattle.sheet.specs.Bounds.{ranges}
 use Rattle.sheet.specs.Sizes.{coins-due-sum}
 use Rattle.honest.specs.Standing.{DealtFrom, Standing, fieldAt, levelsAfter, restCount, restFrom, rootAt, wordsFrom}
@@ -70,13 +68,3 @@ module _ {w f coins : List ℕ} (ok : Allowed w f coins) where
   stream-is = sym (λ x. w
       ++ (tableOf (fieldAt w) (rootAt w) (level-first w x) f ++ (getD coins 0 0 ∷ restWords (honestRest (fieldAt w) (rootAt w) (level-first w x) f (getD coins 0 0)
       (readRounds (outsOf w) (level-first w x) (later x) (drop 1 coins)) (readFinals (outsOf w) (level-first w x) (later x) (drop 1 coins))))))
-
-  -- the field has a domain of the sheet's size
-  pub first-fitting : Fitting (getD w 0 0) (getD w 1 0)
-  first-fitting =
-      let x = exponents w (ok .sheet) in
-      record { log = x .a; two = x .size; most = x .small; divides = x .divides }
-
-  -- and the table of its points is by the sheet's ω
-  pub first-powers : (l : List ℕ) → Powers (getD w 0 0) (root (getD w 0 0) (getD w 1 0)) l → Powers (getD w 0 0) (rootAt w) l
-  first-powers l p = subst (λ (ω : ℕ). Powers (getD w 0 0) ω l) (sym (root-of-sheet w)) p

@@ -1,39 +1,22 @@
 -- What a sheet that passes gives at the level where the prover stands: the sizes of its words, of the polynomial, of the table and of the next level.
-use Prim.Native.Nat.{ℕ, suc, _+_, _-_, _*_, _/_, _^_, _≤_, _<_}
+use Prim.Native.Nat.{ℕ, suc, _+_, _*_, _/_, _^_, _≤_, _<_}
 use native.Mathlib.Nat.{div-le-self, div-mul-le-self, mul-comm, mul-div-cancel, mul-le-mul-left, pow-suc}
 use native.Mathlib.Numerals.{add-one}
 use native.Mathlib.Omega.{arith}
-use mathlib.Core.Bool.{_&&_}
 use mathlib.Core.List.{List}
 use mathlib.Core.Path.{_≡_, sym, ap, _∙_}
 use lib.ListN.{length, getD}
 use lib.Pow.{pow-mono, pow-pos}
-use Rattle.definition.specs.Reading.{sheetTest}
-use Rattle.definition.specs.Sheet.{between, degreeRule, foldRule, powerOfTwo, sheetRules, shiftCount}
-use Rattle.definition.specs.Verdict.{accepted}
+use Rattle.definition.specs.Sheet.{shiftCount}
 use Rattle.algebra.specs.ListFacts.{All}
 use Rattle.completeness.specs.ByPlace.{at-place}
 use Rattle.completeness.specs.LevelsByNumber.{folded}
 use Rattle.completeness.specs.Numbered.{levelOf, outsOf, roundsOf}
 use Rattle.completeness.specs.SheetLevels
-use Rattle.completeness.specs.SheetRules.{between-true, exponents, rules-hold}
-use Rattle.completeness.specs.Tests.{and-true}
+use Rattle.completeness.specs.SheetRules.{exponents}
 use Rattle.sheet.specs.Bounds.{ranges}
 use Rattle.honest.specs.Points.{InTable}
 use Rattle.honest.specs.Standing.{OnLevel, Standing, repetitionsOf}
-
--- k is at most 16 and d0 at most 2048
-few-folds : (w : List ℕ) → sheetTest w ≡ accepted → getD w 3 0 ≤ 16
-unfolding sheetRules foldRule
-few-folds w e =
-    let k = getD w 3 0 in
-    between-true 2 16 k (and-true (powerOfTwo k) _ (and-true (powerOfTwo k && between 2 16 k) _ (rules-hold w e .1 .1 .1 .0) .0) .1) .1
-
-few-coefficients : (w : List ℕ) → sheetTest w ≡ accepted → getD w 2 0 ≤ 2048
-unfolding sheetRules degreeRule
-few-coefficients w e =
-    let d = getD w 2 0 in
-    omega (arith, ranges w e .size, between-true 2 (getD w 1 0 / 2) d (and-true (powerOfTwo d) _ (rules-hold w e .1 .1 .0) .1) .1)
 
 -- the bounds of the sheet's words, of the polynomial, of its fold and of the scale
 pub record Sizes (w : List ℕ) (i scale count points : ℕ) : Type 0 where
@@ -57,10 +40,10 @@ sizes w pw i scale count st =
     let x = exponents w (st .passed) in
     let z = SheetLevels.sized w (st .long) (st .passed) i (st .level) in
     let n : length pw ≡ 2 ^ suc (x .a) = st .points ∙ x .size in
-    let d : count ≤ 2048 = omega (arith, st .degree, div-le-self (getD w 2 0) (k ^ i), few-coefficients w (st .passed)) in
+    let d : count ≤ 2048 = omega (arith, st .degree, div-le-self (getD w 2 0) (k ^ i), r .degree, r .size) in
     record {
       fold = r .fold;
-      folds = few-folds w (st .passed);
+      folds = r .folds;
       rounds = r .rounds;
       outs = r .outCoins;
       repetitions = r .repetitions i (omega (arith, st .level, r .rounds));

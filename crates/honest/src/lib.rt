@@ -15,7 +15,7 @@ ghost use Rattle.completeness.specs.Numbered.{Allowed, roundsOf};
 ghost use Rattle.domain.specs.Powers.{Powers};
 ghost use Rattle.rounds.specs.PointsIn.{shiftIn};
 ghost use Rattle.honest.specs.Tables.{LevelTable};
-ghost use Rattle.honest.specs.Standing.{DealtFrom, OnLevel, RoundDealt, Standing, correctedFrom, fieldAt, foldFrom, openingFrom, restCount, restFrom, rootAt, roundCount, roundFrom, wordsFrom};
+ghost use Rattle.honest.specs.Standing.{DealtFrom, OnLevel, RoundDealt, Standing, correctedFrom, foldFrom, openingFrom, restCount, restFrom, roundCount, roundFrom, wordsFrom};
 ghost use Rattle.honest.specs.Points.{InTable, differentPoints, keepPoint, keepPoints};
 
 // A copy of words.
@@ -360,21 +360,13 @@ pub fn stream_by(w: &[u32], pw: &[u32], f: &[u32], coins: &[u32], out: &mut [u32
     transcript(w, pw, f, coins, &mut out[12..]);
 }
 
-// Places for the points of domain 0, at most 4,096.
-fn domain_room() -> [u32; 4096]
-    ensures { λ r. ⌜ length r ≡ 4096 ⌝ }
-{
-    [0u32; 4096]
-}
-
 // The words of the honest stream.
 pub fn stream(w: &[u32], f: &[u32], coins: &[u32], out: &mut [u32])
     requires { ⌜ Allowed (now w) (now f) (now coins) ⌝ }
     requires { ⌜ length (now out) ≡ wordsDue (sheetOf (now w)) ⌝ }
     ensures { λ _. ⌜ now (out .exit) ≡ honestStream (now (w .entry)) (now (f .entry)) (now (coins .entry)) ⌝ }
 {
-    let size = w[1] as usize;
-    let mut pw = domain_room();
-    domain::points(w[0], size, &mut pw[..size]);
+    let mut pw = domain::points_room();
+    let size = domain::of_sheet(w, &mut pw);
     stream_by(w, &pw[..size], f, coins, out);
 }

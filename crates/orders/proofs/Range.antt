@@ -1,5 +1,5 @@
 -- Refusal 5 of an order: the coefficients by their numbers, then the coins by theirs after all coefficients.
-use Prim.Native.Nat.{ℕ, suc, _+_, _≤_, _<_}
+use Prim.Native.Nat.{ℕ, suc, _+_, _≤_}
 use native.Mathlib.Nat.{add-suc}
 use native.Mathlib.Omega.{arith}
 use mathlib.Core.Path.{_≡_, refl, sym, ap, _∙_}
@@ -15,7 +15,7 @@ use Rattle.definition.specs.Prove.{inputRangeTest}
 use Rattle.definition.specs.Reading.{outOfRange, sheetTest}
 use Rattle.definition.specs.Sheet.{Sheet, sheetOf}
 use Rattle.definition.specs.Verdict.{accepted, refuseAt}
-use Rattle.domain.specs.OutCoins.{orElse}
+use Rattle.domain.specs.OutCoins.{first-below, orElse}
 use Rattle.sheet.specs.Bounds.{coins-most, ranges}
 
 -- the tests of the n coefficients, then those of the coins
@@ -47,12 +47,6 @@ unfolding firstTrue
 first-after n from [] = refl
 first-after n from (true ∷ bs) = refl
 first-after n from (false ∷ bs) = ap (λ (m : ℕ). firstTrue m bs) (sym (add-suc n from)) ∙ first-after n (suc from) bs
-
-first-below : (from place : ℕ) (bs : List Bool) → some place ≡ firstTrue from bs → place < from + length bs
-unfolding firstTrue
-first-below from place [] e = let z : _≡_ {A = ℕ} 0 1 = cc in absurd (omega arith)
-first-below from place (true ∷ bs) e = let z : place ≡ from = cc in omega arith
-first-below from place (false ∷ bs) e = omega (arith, first-below (suc from) place bs e)
 
 zip-short : {A : Type 0} (t : A → ℕ → Bool) (ks : List A) (xs : List ℕ) → length (zipWith t ks xs) ≤ length xs
 unfolding zipWith
@@ -111,4 +105,4 @@ module _ (w f : List ℕ) (right : length f ≡ getD w 2 0) where
       let test = outOfRange (sheetOf w) in
       let ks = coinKinds (layout (sheetOf w)) in
       let r = ranges w passed in
-      omega (arith, right, r .degree, r .size, full, coins-most w long passed, first-below 0 place (zipWith test ks coins) e, zip-short test ks coins)
+      omega (arith, right, r .degree, r .size, full, coins-most w long passed, first-below 0 (zipWith test ks coins) place (sym e), zip-short test ks coins)

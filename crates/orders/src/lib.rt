@@ -65,9 +65,8 @@ fn coin_in_domain(w: &[u32], coins: &[u32]) -> Found
     requires { ⌜ length (now coins) ≡ length (coinKinds (layout (sheetOf (now w)))) ⌝ }
     ensures { λ r. ⌜ refuseAt 7 (placeOf r) ≡ coinDomainTest (sheetOf (now (w .entry))) (now (coins .entry)) ⌝ }
 {
-    let size = w[1] as usize;
     let mut pw = domain::points_room();
-    domain::points(w[0], size, &mut pw[..size]);
+    let size = domain::of_sheet(w, &mut pw);
     coin_inside(w, &pw[..size], coins)
 }
 

@@ -6,12 +6,10 @@ use native.Mathlib.Omega.{arith}
 use lib.ListN.{length, drop, getD, set, length-drop, length-set}
 use lib.Seq.{drop-length, drop-set-lt, getD-set-same}
 use Rattle.definition.specs.Field.{Field}
-use Rattle.definition.specs.Polynomial.{pair, evaluate, geometric, interpolate, correctedValue}
-use Rattle.algebra.specs.Laws.{FieldLaws}
+use Rattle.definition.specs.Polynomial.{evaluate, geometric}
 use Rattle.algebra.specs.Evaluation.{evaluate-cons}
 use Rattle.polynomial.specs.Newton.{vanishAt, newtonAt, nextCoefficient, coefficientInFront, newton, newtonCorrected}
-use Rattle.polynomial.specs.NewtonLaws.{newton-ok, corrected-ok}
-use Rattle.polynomial.proofs.Backwards.{drop-back, drop-store}
+use Rattle.polynomial.specs.Backwards.{drop-back, drop-store}
 
 module _ (F : Field ℕ) where
   infixl 65 _⊕_ _⊖_
@@ -128,12 +126,3 @@ module _ (F : Field ℕ) where
       r ≡ (y ⊖ a) ⊗ u ⊗ evaluate F (geometric F c (length xs - from)) x → r ≡ newtonCorrected F (drop from xs) cs c x y
   unfolding newtonCorrected
   corrected xs cs from c x y ea ev eu er = cc (length-drop from xs)
-
-module _ (F : Field ℕ) (L : FieldLaws F) where
-  pub through : (xs ys : List ℕ) (x : ℕ) {cs : List ℕ} {v : ℕ} → length ys ≡ length xs → cs ≡ newton F xs ys → v ≡ newtonAt F xs cs x →
-      v ≡ evaluate F (interpolate F (pair xs ys)) x
-  through xs ys x e ec ev = cc (newton-ok F L xs ys x e)
-
-  pub corrected-all : (xs : List ℕ) (c x y : ℕ) {cs : List ℕ} {r : ℕ} → r ≡ newtonCorrected F xs cs c x y →
-      (ys : List ℕ) → length ys ≡ length xs → cs ≡ newton F xs ys → r ≡ correctedValue F (pair xs ys) c x y
-  corrected-all xs c x y er ys e ec = cc (corrected-ok F L xs ys c x y e)

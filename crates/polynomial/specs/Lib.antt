@@ -1,3 +1,4 @@
+pub mod Backwards
 pub mod Newton
 pub mod Pairs
 pub mod NewtonLaws

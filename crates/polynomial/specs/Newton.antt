@@ -1,10 +1,8 @@
 -- Interpolation in Newton's form: a polynomial written over the vanishing polynomials of the points behind each point, with one coefficient for each.
-use Prim.Native.Nat.{ℕ}
-use mathlib.Core.Path.{_≡_}
 use mathlib.Core.List.{List, [], _∷_}
 use lib.ListN.{length}
-use Rattle.definition.specs.Field.{Field, fieldOf}
-use Rattle.definition.specs.Polynomial.{pair, evaluate, geometric, correctedValue}
+use Rattle.definition.specs.Field.{Field}
+use Rattle.definition.specs.Polynomial.{evaluate, geometric}
 
 module _ {A : Type 0} (F : Field A) where
   infixl 65 _⊕_ _⊖_
@@ -39,8 +37,3 @@ module _ {A : Type 0} (F : Field A) where
   -- the definition's corrected value at x, where the table sent has y, by Newton's form
   unfoldable pub newtonCorrected : List A → List A → A → A → A → A
   newtonCorrected xs cs c x y = (y ⊖ newtonAt xs cs x) ⊗ inverse (vanishAt xs x) ⊗ evaluate F (geometric F c (length xs)) x
-
--- r is the corrected value at x, where the table has y, of any samples at the points xs whose Newton coefficients are cs
-abbrev pub Corrected : ℕ → List ℕ → List ℕ → ℕ → ℕ → ℕ → ℕ → Type 0
-Corrected field xs cs c x y r =
-    (ys : List ℕ) → length ys ≡ length xs → cs ≡ newton (fieldOf field) xs ys → r ≡ correctedValue (fieldOf field) (pair xs ys) c x y

@@ -1,10 +1,10 @@
 -- Samples given as two lists, of points and of values.
 use Prim.Native.Nat.{suc}
 use mathlib.Core.Path.{_≡_, ap, refl}
-use mathlib.Core.List.{List, [], _∷_, map, zipWith}
+use mathlib.Core.List.{List, [], _∷_, zipWith}
 use native.Mathlib.Omega.{arith}
 use lib.ListN.{length}
-use Rattle.definition.specs.Polynomial.{Sample, points, pair}
+use Rattle.definition.specs.Polynomial.{points, pair}
 
 module _ {A : Type 0} where
   pub pair-cons : (x y : A) (xs ys : List A) → pair (x ∷ xs) (y ∷ ys) ≡ record { point = x; value = y } ∷ pair xs ys
@@ -22,9 +22,3 @@ module _ {A : Type 0} where
   points-pair [] ys e = refl
   points-pair (x ∷ xs) [] e = absurd (omega arith)
   points-pair (x ∷ xs) (y ∷ ys) e = ap (λ (s : List A). x ∷ s) (points-pair xs ys (omega arith))
-
-  -- samples at things that a list names
-  pub pair-map : {B : Type 0} (f g : B → A) (ms : List B) → map (λ m. record { point = f m; value = g m }) ms ≡ pair (map f ms) (map g ms)
-  unfolding pair zipWith
-  pair-map f g [] = refl
-  pair-map f g (m ∷ ms) = ap (λ (s : List (Sample A)). record { point = f m; value = g m } ∷ s) (pair-map f g ms)

@@ -6,8 +6,8 @@ ghost use mathlib.Core.Path.{_≡_};
 ghost use Prim.Native.Nat.{_-_, _≤_, _<_};
 ghost use lib.ListN.{length, drop};
 ghost use Rattle.definition.specs.Field.{Field, fieldOf};
-ghost use Rattle.definition.specs.Polynomial.{evaluate, geometric, interpolate, pair};
-ghost use Rattle.polynomial.specs.Newton.{Corrected, vanishAt, newtonAt, nextCoefficient, coefficientInFront, newton, newtonCorrected};
+ghost use Rattle.definition.specs.Polynomial.{evaluate, geometric};
+ghost use Rattle.polynomial.specs.Newton.{vanishAt, newtonAt, nextCoefficient, coefficientInFront, newton, newtonCorrected};
 
 // The value at x of the polynomial with these coefficients, by Horner's rule.
 pub fn value_at(field: u32, coefficients: &[u32], x: u32) -> u32
@@ -207,24 +207,6 @@ fn corrected_by(field: u32, value: u32, inverse: u32, c: u32, e: usize, x: u32, 
     field::mul(field, q, geometric_at(field, c, e, x))
 }
 
-// The corrected value at x, where the table sent has y, of the points and Newton coefficients from number `from` on.
-pub fn corrected_at(field: u32, xs: &[u32], cs: &[u32], from: usize, c: u32, x: u32, y: u32) -> u32
-    requires { ⌜ (from ≤ length (now xs)) × (length (now xs) ≤ length (now cs)) ⌝ }
-    ensures { λ r. ⌜ r ≡ newtonCorrected (fieldOf field) (drop from (now (xs .entry))) (drop from (now (cs .entry))) c x y ⌝ }
-    ensures { λ r. ⌜ Corrected field (drop from (now (xs .entry))) (drop from (now (cs .entry))) c x y r ⌝ }
-{
-    let b = newton_at(field, xs, cs, from, x);
-    corrected_by(
-        field,
-        b.value,
-        field::inv(field, b.vanish),
-        c,
-        xs.len() - from,
-        x,
-        y,
-    )
-}
-
 // The corrected values at two points x1 and x2, where the table sent has y1 and y2: one walk and one inversion for both.
 pub fn corrected_two(
     field: u32,
@@ -248,14 +230,4 @@ pub fn corrected_two(
         first: corrected_by(field, b.first.value, inverses.first, c, e, x1, y1),
         second: corrected_by(field, b.second.value, inverses.second, c, e, x2, y2),
     }
-}
-
-// The value at x of the polynomial through points and values; cs is scratch, as long as the points.
-pub fn interpolated_at(field: u32, xs: &[u32], ys: &[u32], cs: &mut [u32], x: u32) -> u32
-    requires { ⌜ (length (now ys) ≡ length (now xs)) × (length (now cs) ≡ length (now xs)) ⌝ }
-    ensures { λ r. ⌜ r ≡ evaluate (fieldOf field) (interpolate (fieldOf field) (pair (now (xs .entry)) (now (ys .entry)))) x ⌝ }
-{
-    coefficients(field, xs, ys, 0, cs);
-    let b = newton_at(field, xs, cs, 0, x);
-    b.value
 }

@@ -1,14 +1,13 @@
 -- What the tests' outcome says about the definition's result.
-use Prim.Native.Nat.{ℕ, _+_, _*_, _/_, _≤_}
-use native.Mathlib.Omega.{arith}
+use Prim.Native.Nat.{ℕ, _*_, _≤_}
 use mathlib.Core.Path.{_≡_, refl, sym, ap, _∙_}
 use mathlib.Core.List.{List, _++_}
-use lib.ListN.{length, take, drop}
+use lib.ListN.{length, drop}
 use lib.Dec.{ltb}
 use borrow.Author.Tests.{ltb-false}
 use Rattle.definition.specs.Block.{blockCount, fileOf}
 use Rattle.definition.specs.Layout.{wordsDue}
-use Rattle.definition.specs.Prove.{Answer, Result, done, finish, outputTest, prove, proveTests, refusal, sheetLengthTest}
+use Rattle.definition.specs.Prove.{Result, done, finish, outputTest, prove, proveTests, refusal, sheetLengthTest}
 use Rattle.definition.specs.Prover.{honestStream}
 use Rattle.definition.specs.Reading.{sheetTest}
 use Rattle.definition.specs.Sheet.{sheetOf, sheetLength}

@@ -24,10 +24,6 @@ zip-limits h [] xs = refl
 zip-limits h (k ∷ ks) [] = refl
 zip-limits h (k ∷ ks) (x ∷ xs) = ap {B = List _} (λ r. leb (limit (h .prime) k) x ∷ r) (zip-limits h ks xs)
 
-pub long : (w : List ℕ) → wordsDue (sheetOf w) ≤ length w → 12 ≤ length w
-unfolding wordsDue
-long w due = omega arith
-
 module _ (w : List ℕ) (twelve : 12 ≤ length w) (passed : sheetTest w ≡ accepted) where
   pub fine : Fine w
   fine =

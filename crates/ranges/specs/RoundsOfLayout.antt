@@ -10,9 +10,14 @@ use borrow.Author.Tests.{lt-ltb, le-ltb}
 use Rattle.algebra.specs.ListFacts.{map-append}
 use Rattle.completeness.specs.LayoutFacts.{coins-append, coins-final, coins-messages, round-coins}
 use Rattle.definition.specs.Field.{primeOf}
-use Rattle.definition.specs.Layout.{Kind, coin, coinKinds, index, layout, limit, message, out, restLayout, roundLayout}
+use Rattle.definition.specs.Layout.{Kind, coin, coinKinds, index, layout, limit, message, out, restLayout, roundLayout, wordsDue}
 use Rattle.definition.specs.Sheet.{Level, finalCount, firstLevel, laterLevels, levelsFrom, sheetOf, shiftCount}
 use Rattle.ranges.specs.Rounds.{allLimits, divided, elementCount, indexCount, indexLimit, limitsFrom, roundLimits}
+
+-- a stream that has all words due has those of its sheet
+pub long-enough : (w : List ℕ) → wordsDue (sheetOf w) ≤ length w → 12 ≤ length w
+unfolding wordsDue
+long-enough w due = omega arith
 
 -- the kinds that the walk goes through: all, or the coins alone
 unfoldable pub chosen : Bool → List Kind → List Kind

@@ -1,13 +1,13 @@
 -- Reading stage by stage: what each answer of a test says of the definition's outcome.
-use Prim.Native.Nat.{ℕ, zero, suc, _*_, _/_, _%_, _≤_}
+use Prim.Native.Nat.{ℕ, _*_, _/_, _%_, _≤_}
 use native.Mathlib.Omega.{arith}
 use borrow.Author.Tests.{eq-eqb, ne-eqb}
-use mathlib.Core.Path.{_≡_, refl, sym, ap, _∙_, subst}
-use mathlib.Core.Bool.{true, false, not, _||_}
+use mathlib.Core.Path.{_≡_, sym, ap, _∙_}
+use mathlib.Core.Bool.{not}
 use mathlib.Core.List.{List, map, zipWith}
 use mathlib.Core.Option.{Option, none, some}
 use lib.Dec.{eqb}
-use lib.ListN.{length, take, drop, length-take}
+use lib.ListN.{length, take, drop}
 use lib.Seq.{take-all, take-take, length-take-le}
 use Rattle.definition.specs.Lists.{firstTrue}
 use Rattle.definition.specs.Sheet.{sheetOf, sheetRules}
@@ -20,7 +20,7 @@ use Rattle.outcome.specs.declared.Found.the-variants.{Nothing}
 use Rattle.outcome.specs.declared.Outcome.{Outcome as Answered}
 use Rattle.outcome.specs.declared.Outcome.the-variants.{Refused}
 use Rattle.outcome.specs.Meaning.{outcomeOf}
-use Rattle.sheet.specs.Rules.{refusal-of, none-broken}
+use Rattle.sheet.specs.Rules.{refusal-of}
 use Rattle.sheet.specs.Front.{test-front, sheet-front}
 use Rattle.stream.specs.FileWords.{stream-length}
 use Rattle.stream.specs.Loaded.{Loaded, loaded-all}
@@ -145,11 +145,6 @@ module _ (file : List ℕ) (h : length file ≡ 0 → ⊥) (k : length file % 51
 -- what is loaded is the stream's words
 pub loads-stream : (file : List ℕ) {found : Found} {words : List ℕ} → Loaded file found words → found ≡ Nothing → Loads words (length file / 512) (streamOf file)
 loads-stream file loaded right = record { size = stream-length file; front = loaded .front right }
-
--- a stream that has all words due has those of its sheet
-pub long-enough : (w : List ℕ) → wordsDue (sheetOf w) ≤ length w → 12 ≤ length w
-unfolding wordsDue
-long-enough w h = omega arith
 
 -- ---- what reading leaves
 

@@ -3,13 +3,12 @@ use outcome::Found;
 use outcome::Outcome;
 ghost use mathlib.Core.Path.{_≡_};
 ghost use Prim.Native.Nat.{ℕ, _*_, _/_, _≤_, min};
-ghost use lib.ListN.{length, take};
+ghost use lib.ListN.{length};
 ghost use mathlib.Core.List.{List};
 ghost use Rattle.definition.specs.Sheet.{sheetOf};
 ghost use Rattle.definition.specs.Layout.{wordsDue};
-ghost use Rattle.definition.specs.Block.{streamOf};
 ghost use Rattle.definition.specs.Verdict.{accepted, _then_};
-ghost use Rattle.definition.specs.Reading.{sheetTest, rangeTest, fillTest, streamTests, reading};
+ghost use Rattle.definition.specs.Reading.{sheetTest, rangeTest, fillTest, streamTests};
 ghost use Rattle.outcome.specs.Meaning.{outcomeOf};
 ghost use Rattle.reading.specs.Stages.{Loads, Read};
 

@@ -13,7 +13,7 @@ use borrow.Author.Tests.{eq-eqb, ne-eqb}
 use Rattle.definition.specs.Lists.{firstTrue}
 use Rattle.definition.specs.Field.{fieldOf}
 use Rattle.definition.specs.Polynomial.{Sample, pair, evaluate}
-use Rattle.polynomial.proofs.Backwards.{drop-back}
+use Rattle.polynomial.specs.Backwards.{drop-back}
 use Rattle.samples.specs.Samples.{put, sifted, Room}
 use Rattle.samples.specs.declared.Gathered.{Gathered}
 use Rattle.samples.specs.declared.Gathered.the-variants.{Clash, From}

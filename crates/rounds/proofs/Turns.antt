@@ -1,14 +1,13 @@
 -- The fold by halves in place: one turn's walk over the pairs, and the turns. Assumes nothing.
 use Prim.Native.Nat.{ℕ, zero, suc, _+_, _*_, _/_, _^_, _≤_, _<_}
-use mathlib.Core.Path.{_≡_, _∙_, refl, ap}
+use mathlib.Core.Path.{_≡_, _∙_, ap}
 use mathlib.Core.List.{List}
 use native.Mathlib.Nat.{pow-suc, pow-zero}
 use native.Mathlib.Omega.{arith}
-use borrow.Author.Count.{below-none, below-more}
-use lib.ListN.{length, getD, set, length-set}
+use lib.ListN.{length, getD, set}
 use lib.Pow.{pow-pos}
-use lib.Seq.{getD-set-same, getD-set-other}
 use Rattle.definition.specs.Field.{Field, fieldOf}
+use Rattle.domain.specs.Filled.{Filled, filled-next}
 use Rattle.rounds.specs.declared.Function.{Function}
 use Rattle.rounds.specs.Halving.{joined, halving, exponentOf}
 use Rattle.rounds.specs.HalvingLaw.{halving-same}
@@ -22,35 +21,16 @@ pub joined-by : (F : Field ℕ) (half r y v w : ℕ) {sum difference factor both
 unfolding joined
 joined-by F half r y v w es ed ef eb eo = cc
 
--- ---- one turn: the first i places of old have become those of g, the others are as before
+-- ---- one turn: the place i becomes the pair i and h + i, joined
 
-pub record Turned (g : ℕ → ℕ) (old : List ℕ) (i : ℕ) (new : List ℕ) : Type 0 where
-  pub size : length new ≡ length old
-  pub done : (m : ℕ) → m < i → getD new m 0 ≡ g m
-  pub left : (m : ℕ) → i ≤ m → getD new m 0 ≡ getD old m 0
-
-module _ (g : ℕ → ℕ) (old : List ℕ) where
-  pub turned-none : Turned g old 0 old
-  turned-none = record { size = refl; done = below-none (λ m. getD old m 0 ≡ g m); left = λ m l. refl }
-
-  pub turned-next : (i : ℕ) (new : List ℕ) {v : ℕ} → i < length old → Turned g old i new → v ≡ g i → Turned g old (i + 1) (set new i v)
-  turned-next i new {v} below t e = record {
-    size = length-set new i v ∙ t .size;
-    done = below-more (λ m. getD (set new i v) m 0 ≡ g m) i
-        (λ m l. getD-set-other new i m v 0 (λ q. omega arith) ∙ t .done m l)
-        (getD-set-same new i v 0 (omega (arith, t .size)) ∙ e);
-    left = λ m l. getD-set-other new i m v 0 (λ q. omega arith) ∙ t .left m (omega arith);
-  }
-
--- the place i becomes the pair i and h + i, joined
 module _ (F : Field ℕ) (half r : ℕ) (back : ℕ → ℕ) (h : ℕ) (old : List ℕ) where
   abbrev pub pairs : ℕ → ℕ
   pairs i = joined F half r (back i) (getD old i 0) (getD old (h + i) 0)
 
-  pub turned-pair : (i : ℕ) (new : List ℕ) {y v : ℕ} → i < h → h ≤ length old → Turned pairs old i new → y ≡ back i →
-      v ≡ joined F half r y (getD new i 0) (getD new (h + i) 0) → Turned pairs old (i + 1) (set new i v)
+  pub turned-pair : (i : ℕ) (new : List ℕ) {y v : ℕ} → i < h → h ≤ length old → Filled pairs old new i → y ≡ back i →
+      v ≡ joined F half r y (getD new i 0) (getD new (h + i) 0) → Filled pairs old (set new i v) (i + 1)
   turned-pair i new below room t ey ev =
-      turned-next pairs old i new (omega arith) t (ev ∙ (λ x. joined F half r (ey x) (t .left i (omega arith) x) (t .left (h + i) (omega arith) x)))
+      filled-next pairs old new i t (omega arith) (ev ∙ (λ x. joined F half r (ey x) (t .left i (omega arith) x) (t .left (h + i) (omega arith) x)))
 
 -- ---- the turns: what is left to fold has the value of the whole
 

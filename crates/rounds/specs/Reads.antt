@@ -1,7 +1,7 @@
 -- The reads of a round and of the final comparison are products: k for each coin.
-use Prim.Native.Nat.{ℕ, suc, _+_, _*_, _≤_, _<_}
+use Prim.Native.Nat.{ℕ, suc, _+_, _*_, _≤_}
 use mathlib.Core.Path.{_≡_, _∙_, sym, ap, refl}
-use mathlib.Core.Bool.{Bool, true, false, not}
+use mathlib.Core.Bool.{not}
 use mathlib.Core.List.{List, [], _∷_, _++_, flatMap}
 use mathlib.Core.Option.{none, some}
 use native.Mathlib.Nat.{suc-mul, zero-mul}
@@ -14,6 +14,7 @@ use Rattle.definition.specs.Sheet.{Level}
 use Rattle.definition.specs.Field.{Field}
 use Rattle.definition.specs.Polynomial.{evaluate}
 use Rattle.definition.specs.Domain.{rootNumbers, shiftPoint, foldAt}
+use Rattle.domain.specs.OutCoins.{first-below}
 use Rattle.definition.specs.Deciding.{Place, ownPlace, placesOf, readsOf, treated, differences}
 
 -- a list of n for each element
@@ -38,15 +39,6 @@ reads-add used more = length-append used more
 pub reads-all : (l b : Level) (js : List ℕ) → readsOf (placesOf l (ownPlace b) (treated js none)) ≡ length js * l .fold
 unfolding treated
 reads-all l b js = reads-are l b js
-
-first-below : (from : ℕ) (bs : List Bool) (i : ℕ) → firstTrue from bs ≡ some i → i < from + length bs
-unfolding firstTrue
-first-below from [] i e = let z : none ≡ some i = e in absurd (never i z)
-  where
-    never : (i : ℕ) → none ≡ some i → ⊥
-    never i z = let w : _≡_ {A = ℕ} 0 1 = cc in omega arith
-first-below from (true ∷ bs) i e = let z : from ≡ i = cc in omega arith
-first-below from (false ∷ bs) i e = let h = first-below (suc from) bs i e in omega arith
 
 pub reads-until : (l b : Level) (js : List ℕ) (F : Field ℕ) (ω : ℕ) (f : ℕ → ℕ) (r : ℕ) (coefficients : List ℕ) (i : ℕ) →
     firstTrue 0 (differences F ω l f r coefficients js) ≡ some i → readsOf (placesOf l (ownPlace b) (treated js (some i))) ≡ suc i * l .fold

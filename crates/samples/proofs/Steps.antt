@@ -1,6 +1,6 @@
 -- One step of the search for a point, of putting a sample, and of the walk that puts samples in front of others. Assumes nothing.
 use Prim.Native.Nat.{ℕ, zero, suc, _+_, _-_, _≤_, _<_}
-use mathlib.Core.Path.{_≡_, _∙_, sym, ap, refl, subst}
+use mathlib.Core.Path.{_≡_, _∙_, sym, ap, refl}
 use mathlib.Core.List.{List, [], _∷_, _++_, append-assoc, zipWith}
 use mathlib.Core.Option.{Option, none, some}
 use native.Mathlib.Nat.{le-refl}
@@ -11,12 +11,11 @@ use lib.Seq.{drop-cons}
 use borrow.Author.Tests.{eq-eqb, ne-eqb}
 use Rattle.definition.specs.Polynomial.{Sample, pair}
 use Rattle.polynomial.specs.Pairs.{pair-cons}
-use Rattle.polynomial.proofs.Backwards.{drop-back, drop-store}
+use Rattle.polynomial.specs.Backwards.{drop-back, drop-store}
 use Rattle.samples.specs.declared.Looked.{Looked}
 use Rattle.samples.specs.declared.Looked.the-variants.{Value, Nothing}
-use Rattle.samples.specs.declared.Gathered.{Gathered}
 use Rattle.samples.specs.declared.Gathered.the-variants.{Clash, From}
-use Rattle.samples.specs.Samples.{lookup, put, putBy, kept, sifted, Room}
+use Rattle.samples.specs.Samples.{lookup, put, putBy, kept, sifted}
 use Rattle.samples.specs.SampleLaws.{put-ok, clash-append}
 
 -- ---- the search
@@ -57,27 +56,6 @@ module _ (xs ys : List ℕ) (k x y : ℕ) {o : Looked} (looked : o ≡ lookup x 
   put-new e h l m =
       let n : k ≤ length ys = omega arith in
       rw (sym looked ∙ e, drop-store xs k x h l, drop-store ys k y h n) (ap some (pair-cons x y (drop k xs) (drop k ys)))
-
--- ---- what an answer says, by its case
-
-pub kept-from : {r : Gathered} {k : ℕ} (xs ys : List ℕ) {o : Option (List (Sample ℕ))} → r ≡ From k → kept r xs ys ≡ o → some (pair (drop k xs) (drop k ys)) ≡ o
-unfolding kept
-kept-from xs ys e h = ap (λ (s : Gathered). kept s xs ys) (sym e) ∙ h
-
-pub kept-clash : {r : Gathered} (xs ys : List ℕ) {o : Option (List (Sample ℕ))} → r ≡ Clash → kept r xs ys ≡ o → none ≡ o
-unfolding kept
-kept-clash xs ys e h = ap (λ (s : Gathered). kept s xs ys) (sym e) ∙ h
-
-pub kept-none : (xs ys : List ℕ) {o : Option (List (Sample ℕ))} → none ≡ o → kept Clash xs ys ≡ o
-unfolding kept
-kept-none xs ys h = h
-
-pub kept-some : (k : ℕ) (xs ys : List ℕ) {o : Option (List (Sample ℕ))} → some (pair (drop k xs) (drop k ys)) ≡ o → kept (From k) xs ys ≡ o
-unfolding kept
-kept-some k xs ys h = h
-
-pub room : (n t : ℕ) {r : Gathered} {k : ℕ} → r ≡ From k → Room n t r → (n ≤ k + t) × (k ≤ n)
-room n t e h = subst (λ (s : Gathered). Room n t s) e h
 
 -- ---- the walk over samples, with samples ps behind them
 

@@ -19,9 +19,11 @@ use Rattle.sheet.specs.Sizes.{coins-due-sum, coinsAfter, roundWords, wor
 -- The ranges of the words of a sheet that passes.
 pub record Ranges (w : List ℕ) : Type 0 where
   pub size : getD w 1 0 ≤ 4096
-  pub degree : getD w 2 0 ≤ getD w 1 0
+  pub degree : getD w 2 0 ≤ getD w 1 0 / 2
   pub fold : 2 ≤ getD w 3 0
+  pub folds : getD w 3 0 ≤ 16
   pub rounds : getD w 4 0 ≤ 5
+  pub someOuts : 1 ≤ getD w 5 0
   pub outCoins : getD w 5 0 ≤ 2
   pub repetitions : (i : ℕ) → i < 6 → getD w (6 + i) 0 ≤ 64
 
@@ -34,13 +36,16 @@ ranges w e =
     let k = getD w 3 0 in
     let n₁ = between-true 4 4096 n (and-true (powerOfTwo n) _ (and-true (powerOfTwo n && between 4 4096 n) _ (h .1 .0) .0) .1) in
     let d₁ = between-true 2 (n / 2) d (and-true (powerOfTwo d) _ (h .1 .1 .0) .1) in
+    let s₁ = between-true 1 2 (getD w 5 0) (h .1 .1 .1 .1 .1 .0) in
     let k₁ = between-true 2 16 k (and-true (powerOfTwo k) _ (and-true (powerOfTwo k && between 2 16 k) _ (h .1 .1 .1 .0) .0) .1) in
     record {
       size = n₁ .1;
-      degree = omega (arith, d₁ .1);
+      degree = d₁ .1;
       fold = k₁ .0;
+      folds = k₁ .1;
       rounds = leb-true (getD w 4 0) 5 (and-true _ _ (h .1 .1 .1 .1 .0) .0);
-      outCoins = between-true 1 2 (getD w 5 0) (h .1 .1 .1 .1 .1 .0) .1;
+      someOuts = s₁ .0;
+      outCoins = s₁ .1;
       repetitions = small-repetitions w e;
     }
 
@@ -74,7 +79,7 @@ module _ (w : List ℕ) (long : 12 ≤ length w) (passed : sheetTest w ≡ accep
       omega (
         arith,
         words-due-sum w long (r .rounds),
-        words-bound (getD w 5 0) (getD w 3 0) w (r .outCoins) (r .fold) (r .repetitions) (getD w 4 0) 0 6 (getD w 1 0) (getD w 2 0) (omega arith) (omega (arith, r .rounds)) (r .degree),
+        words-bound (getD w 5 0) (getD w 3 0) w (r .outCoins) (r .fold) (r .repetitions) (getD w 4 0) 0 6 (getD w 1 0) (getD w 2 0) (omega arith) (omega (arith, r .rounds)) (omega (arith, r .degree)),
         r .size,
         r .rounds,
       )

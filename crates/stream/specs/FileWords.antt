@@ -1,12 +1,9 @@
 -- The words of a file and of the stream that it holds, by their numbers.
 use Prim.Native.Nat.{ℕ, suc, _+_, _-_, _*_, _/_, _%_, _≤_, _<_}
-use native.Mathlib.Nat.{eq-zero-or-pos}
 use native.Mathlib.Omega.{arith}
 use mathlib.Core.Path.{_≡_, ap, _∙_}
-use mathlib.Core.Logic.{⊎-elim}
 use mathlib.Core.List.{List, [], _∷_, _++_, map}
-use lib.Dec.{lit<}
-use lib.ListN.{length, getD, take, drop, length-map, length-drop, List·getD-eq-default, List·getD-map}
+use lib.ListN.{length, getD, take, drop, length-map, length-drop, List·getD-map}
 use lib.Seq.{drop-cons, getD-drop, getD-take, length-take-le}
 use Rattle.definition.specs.Lists.{chunks}
 use Rattle.definition.specs.Block.{fileBlocks, streamOf, wordOf}
@@ -102,15 +99,3 @@ module _ (bytes : List ℕ) where
       fronts-at (fileBlocks bytes) n blocks-full (omega (arith, blocks-count))
       ∙ block-word (n / 127) (n % 127) (omega arith) (omega arith)
       ∙ ap (wordAt bytes) e
-
-  -- words of bytes have 32 bits
-  pub stream-small : ((i : ℕ) → getD bytes i 0 < 256) → (n : ℕ) → getD (streamOf bytes) n 0 < 4294967296
-  stream-small small n = ⊎-elim (λ z. past (omega arith)) (λ z. within (omega arith)) (eq-zero-or-pos (127 * (length bytes / 512) - n))
-    where
-      past : 127 * (length bytes / 512) ≤ n → getD (streamOf bytes) n 0 < 4294967296
-      past h = let l : length (streamOf bytes) ≤ n = omega (arith, stream-length) in rw (List·getD-eq-default (streamOf bytes) 0 l) (lit< tt)
-
-      within : n < 127 * (length bytes / 512) → getD (streamOf bytes) n 0 < 4294967296
-      within h =
-          let at = 4 * (n + n / 127) in
-          rw (stream-at n h) (rw (← word-sum bytes at (omega arith)) (omega (arith, small at, small (at + 1), small (at + 2), small (at + 3))))

@@ -1,10 +1,10 @@
 -- What loading a file answers and leaves.
-use Prim.Native.Nat.{ℕ, _*_, _/_, _≤_, _<_}
+use Prim.Native.Nat.{ℕ, _*_, _/_, _≤_}
 use native.Mathlib.Omega.{arith}
-use mathlib.Core.Path.{_≡_, _∙_, sym, ap}
+use mathlib.Core.Path.{_≡_, _∙_}
 use mathlib.Core.List.{List}
-use lib.ListN.{length, getD, take}
-use lib.Seq.{getD-take, take-all}
+use lib.ListN.{length, take}
+use lib.Seq.{take-all}
 use Rattle.outcome.specs.declared.Found.{Found}
 use Rattle.outcome.specs.declared.Found.the-variants.{Nothing}
 use Rattle.outcome.specs.Meaning.{placeOf}
@@ -23,8 +23,3 @@ module _ (file : List ℕ) {found : Found} {words : List ℕ} (loaded : Loaded f
   loaded-all h =
       loaded .front right (length file / 512) (omega arith) h
       ∙ take-all (127 * (length file / 512)) (streamOf file) (omega (arith, stream-length file))
-
-  -- and each of its words
-  pub loaded-at : (m n : ℕ) → m ≤ length file / 512 → m ≤ 68 → n < 127 * m → getD words n 0 ≡ getD (streamOf file) n 0
-  loaded-at m n a b h =
-      sym (getD-take (127 * m) words n 0 h) ∙ ap (λ (l : List ℕ). getD l n 0) (loaded .front right m a b) ∙ getD-take (127 * m) (streamOf file) n 0 h

@@ -145,9 +145,6 @@ module _ (w : List ℕ) where
   unfolding sealedFront fileOf
   front-all = ap (sealFrom 0) (take-all (blockCount (length w)) (blocksOf w) (omega (arith, blocks-number w)))
 
-  pub file-length : length (fileOf w) ≡ 512 * blockCount (length w)
-  file-length = ap length (sym front-all) ∙ front-length (blockCount (length w)) (omega arith)
-
   -- the first k blocks written, and one more
   pub file-next : (l : List ℕ) (k : ℕ) {o p : List ℕ} → k < blockCount (length w) → o ≡ overwrite l 0 (sealedFront w k)
       → p ≡ overwrite o (512 * k) (sealedBlock k (blockOf w k)) → p ≡ overwrite l 0 (sealedFront w (k + 1))

@@ -1,14 +1,14 @@
 -- One level of the recursion: what its two calls ask, and what it answers. Assumes nothing.
 use mathlib.Core.Path.{_≡_, sym, ap, subst}
 use mathlib.Core.List.{List}
-use Prim.Native.Nat.{ℕ, _+_, _-_, _*_, _/_, _≤_, _<_}
+use Prim.Native.Nat.{ℕ, _+_, _*_, _/_, _≤_, _<_}
 use native.Mathlib.Omega.{arith}
-use borrow.Rule.Slice.PartMut.{putMid}
 use lib.ListN.{length, take}
 use Rattle.definition.specs.Field.{fieldOf}
+use Rattle.domain.specs.Parts.{filled, others}
 use Rattle.tables.specs.Halving.{strided, Halves, Spaced, Table, Joined}
 use Rattle.tables.proofs.Joining.{joined-table}
-use Rattle.tables.proofs.Lists.{begun, second, first-length, second-length, both}
+use Rattle.tables.proofs.Lists.{first-length, second-length, both}
 use Rattle.tables.proofs.Sizes.{half}
 
 -- what a call for one half asks: fewer coefficients than t, which this level has, and the function's own terms
@@ -26,14 +26,14 @@ half-asks t from stride count at2 step n m src words et hf hs hh hp hw hc em =
 pub whole-table : (field : ℕ) (src : List ℕ) (from stride count : ℕ) (pw : List ℕ) (at step h : ℕ) (l l₁ l₂ out : List ℕ) → h ≡ length l / 2
     → Halves count (length l) → Spaced at step (length l) (length pw) → 1 < count
     → length l₁ ≡ length (take h l) → Table field (strided src from (2 * stride) (count / 2)) pw (2 * at + 1) (2 * step) (length (take h l)) l₁
-    → length l₂ ≡ length (second l l₁ h)
-    → Table field (strided src (from + stride) (2 * stride) (count / 2)) pw (2 * at + 1) (2 * step) (length (second l l₁ h)) l₂
-    → Joined (fieldOf field) pw at step h h (putMid h (length (begun l l₁ h) - h) (begun l l₁ h) l₂) out
+    → length l₂ ≡ length (others l l₁ h)
+    → Table field (strided src (from + stride) (2 * stride) (count / 2)) pw (2 * at + 1) (2 * step) (length (others l l₁ h)) l₂
+    → Joined (fieldOf field) pw at step h h (filled l l₁ l₂ h) out
     → Table field (strided src from stride count) pw at step (length l) out
 whole-table field src from stride count pw at step h l l₁ l₂ out eh hh hp hc n₁ t₁ n₂ t₂ joined =
     let q = half count (length l) hh hc in
     let n : length l ≡ h + h = omega (arith, q .size-is) in
-    let b = both l l₁ l₂ h n n₁ n₂ in
+    let b = both l l₁ h n n₁ l₂ n₂ in
     let halves : ℕ → List ℕ → ℕ → Type 0 = λ k out m. Table field (strided src k (2 * stride) (count / 2)) pw (2 * at + 1) (2 * step) m out in
     let table = joined-table field src from stride (count / 2) pw at step h (subst (λ (x : ℕ). Spaced at step x (length pw)) n hp) l₁ l₂ out (b .one)
     (subst (halves from l₁) (first-length l h n) t₁)

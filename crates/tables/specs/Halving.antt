@@ -2,9 +2,10 @@
 use mathlib.Core.Path.{_≡_}
 use mathlib.Core.List.{List, [], _∷_}
 use Prim.Native.Nat.{ℕ, zero, suc, _+_, _*_, _^_, _≤_, _<_}
-use lib.ListN.{getD, length, set}
+use lib.ListN.{getD, set}
 use Rattle.definition.specs.Field.{Field, fieldOf}
 use Rattle.definition.specs.Polynomial.{evaluate}
+use Rattle.domain.specs.Filled.{Paired}
 use Rattle.domain.specs.Powers.{Powers}
 
 -- the count words of s at from, from + stride, from + 2·stride, ..
@@ -43,9 +44,6 @@ module _ (F : Field ℕ) where
   turned h j x y l = set (set l j (getD l j 0 ⊕ x ⊗ getD l (h + j) 0)) (h + j) (getD l j 0 ⊕ y ⊗ getD l (h + j) 0)
 
   -- out is l with the first m of its h pairs turned so, each value by its own point: with all h, the tables of the even and of the odd half are joined
-  pub record Joined (pw : List ℕ) (at step h m : ℕ) (l out : List ℕ) : Type 0 where
-    pub size : length out ≡ length l
-    pub low : (j : ℕ) → j < m → getD out j 0 ≡ getD l j 0 ⊕ pointAt pw at step j ⊗ getD l (h + j) 0
-    pub high : (j : ℕ) → j < m → getD out (h + j) 0 ≡ getD l j 0 ⊕ pointAt pw at step (h + j) ⊗ getD l (h + j) 0
-    pub low-left : (j : ℕ) → m ≤ j → j < h → getD out j 0 ≡ getD l j 0
-    pub high-left : (j : ℕ) → m ≤ j → j < h → getD out (h + j) 0 ≡ getD l (h + j) 0
+  abbrev pub Joined : List ℕ → ℕ → ℕ → ℕ → ℕ → List ℕ → List ℕ → Type 0
+  Joined pw at step h m l out =
+      Paired (λ j. getD l j 0 ⊕ pointAt pw at step j ⊗ getD l (h + j) 0) (λ j. getD l j 0 ⊕ pointAt pw at step (h + j) ⊗ getD l (h + j) 0) h l out m

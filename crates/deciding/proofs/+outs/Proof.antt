@@ -69,8 +69,11 @@ outs-first-inside-requires : (t : ℕ) → outs-lts.Need-first-inside-requires (
 outs-first-inside-requires t c κs =
     let s = c .before .before .before .before .before .before .before .before in
     let a = s .args in
-    let i = round-inside (a .w .now) (a .stand) (s .pre .1 .0 .0) (not-last (a .stand .level) (getD (a .w .now) 4 0) (s .pre .1 .0 .0 .level) (c .before .before .before .if1 .left)) in
-    (scale-some (a .scale) (a .stand .level) (s .pre .1 .0 .1 .power), omega (arith, i .there))
+    let w = a .w .now in
+    let st = a .stand in
+    let ok = s .pre .1 .0 .0 in
+    let i = round-inside w st ok (not-last (st .level) (getD w 4 0) (ok .level) (c .before .before .before .if1 .left)) in
+    (scale-some (a .scale) (st .level) (s .pre .1 .0 .1 .power), omega (arith, i .there))
 
 outs-enum-known-f : (t : ℕ) → outs-lts.Need-enum-known-f (calls t) (outs-at t) outs.Post
 outs-enum-known-f t c = search needs
@@ -80,7 +83,11 @@ unfolding placeOf
 outs-returns-2 t c =
     let s = c .before .before .before .before .before .before .before .before .before .before .before .before in
     let a = s .args in
-    found-here (a .w .now) (a .pw .now) (a .stand) (a .scale) (s .pre .1 .0 .0) (s .pre .1 .0 .1) (s .pre .1 .1) (not-last (a .stand .level) (getD (a .w .now) 4 0) (s .pre .1 .0 .0 .level) (c .before .before .before .before .before .before .before .if1 .left)) (c .before .before .before .first-inside .result) (c .before .before .before .first-inside .ensures) (c .before .f .given .1)
+    let w = a .w .now in
+    let st = a .stand in
+    let ok = s .pre .1 .0 .0 in
+    let r = c .before .before .before .first-inside in
+    found-here w (a .pw .now) st (a .scale) ok (s .pre .1 .0 .1) (s .pre .1 .1) (not-last (st .level) (getD w 4 0) (ok .level) (c .before .before .before .before .before .before .before .if1 .left)) (r .result) (r .ensures) (c .before .f .given .1)
 
 outs-enum-told : (t : ℕ) → outs-lts.Need-enum-told (calls t) (outs-at t) outs.Post
 outs-enum-told t c = search needs
@@ -89,7 +96,10 @@ outs-next-stand-requires : (t : ℕ) → outs-lts.Need-next-stand-requires (call
 outs-next-stand-requires t c κs =
     let s = c .before .before .before .before .before .before .before .before .before .before .before in
     let a = s .args in
-    round-inside (a .w .now) (a .stand) (s .pre .1 .0 .0) (not-last (a .stand .level) (getD (a .w .now) 4 0) (s .pre .1 .0 .0 .level) (c .before .before .before .before .before .before .if1 .left))
+    let w = a .w .now in
+    let st = a .stand in
+    let ok = s .pre .1 .0 .0 in
+    round-inside w st ok (not-last (st .level) (getD w 4 0) (ok .level) (c .before .before .before .before .before .before .if1 .left))
 
 outs-mul-outs : (t : ℕ) → outs-lts.Need-mul-outs (calls t) (outs-at t) outs.Post
 outs-mul-outs t c =
@@ -101,11 +111,14 @@ outs-outs-requires : (t : ℕ) → outs-lts.Need-outs-requires (calls t) (outs-a
 outs-outs-requires t c κs =
     let s = c .before .before .before .before .before .before .before .before .before .before .before .before in
     let a = s .args in
+    let w = a .w .now in
+    let st = a .stand in
+    let ok = s .pre .1 .0 .0 in
     let n = c .next-stand in
-    let more = not-last (a .stand .level) (getD (a .w .now) 4 0) (s .pre .1 .0 .0 .level) (c .before .before .before .before .before .before .before .if1 .left) in (
-      omega (arith, s .pre .0, level-next (a .w .now) (a .stand) (n .result) (n .ensures), more, s .pre .1 .0 .0 .sheet .rounds),
+    let more = not-last (st .level) (getD w 4 0) (ok .level) (c .before .before .before .before .before .before .before .if1 .left) in (
+      omega (arith, s .pre .0, level-next w st (n .result) (n .ensures), more, ok .sheet .rounds),
       (
-        (placed-after (a .w .now) (a .stand) (n .result) (s .pre .1 .0 .0) more (n .ensures), scaled-after (length (a .pw .now)) (a .w .now) (a .stand) (n .result) (a .scale) (s .pre .1 .0 .1) (n .ensures)),
+        (placed-after w st (n .result) ok more (n .ensures), scaled-after (length (a .pw .now)) w st (n .result) (a .scale) (s .pre .1 .0 .1) (n .ensures)),
         s .pre .1 .1,
       ),
     )
@@ -114,7 +127,13 @@ outs-returns-3 : (t : ℕ) → outs-lts.Need-returns-3 (calls t) (outs-at t) out
 outs-returns-3 t c =
     let s = c .before .before .before .before .before .before .before .before .before .before .before .before .before in
     let a = s .args in
-    found-later (a .w .now) (a .pw .now) (a .stand) (a .scale) (s .pre .1 .0 .0) (s .pre .1 .0 .1) (s .pre .1 .1) (not-last (a .stand .level) (getD (a .w .now) 4 0) (s .pre .1 .0 .0 .level) (c .before .before .before .before .before .before .before .before .if1 .left)) (c .before .before .before .before .first-inside .result) (c .before .before .before .before .first-inside .ensures) (c .before .next-stand .result) (c .before .before .enum-told .given .1) (c .before .next-stand .ensures) (c .outs .ensures)
+    let w = a .w .now in
+    let st = a .stand in
+    let ok = s .pre .1 .0 .0 in
+    let r = c .before .before .before .before .first-inside in
+    let n = c .before .next-stand in
+    found-later w (a .pw .now) st (a .scale) ok (s .pre .1 .0 .1) (s .pre .1 .1) (not-last (st .level) (getD w 4 0) (ok .level) (c .before .before .before .before .before .before .before .before .if1 .left)) (r .result) (r .ensures) (n .result) (c .before .before .enum-told .given .1) (n .ensures)
+    (c .outs .ensures)
 
 pub +outs-spec : {M : Type 1} → statement M
 +outs-spec = close μ-outs λ t. outs-lts.spec (calls t)

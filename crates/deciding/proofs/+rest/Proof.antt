@@ -6,7 +6,7 @@ use lib.ListN.{length, getD}
 use borrow.Author.Needs.{needs}
 use Rattle.outcome.specs.Meaning.{outcomeOf, verdictOf}
 use Rattle.deciding.specs.Inside.{round-inside, scale-small}
-use Rattle.deciding.proofs.Ready.{clash-ready, level-next, next-decided, next-served, next-standing, not-last, room-in}
+use Rattle.deciding.proofs.Ready.{clash-ready, level-next, next-decided, next-ready, not-last, room-in}
 use borrow.Fn.Kinds.{In}
 use borrow.Fn.PlainCycle.{Measures, is, falls, and}
 use Rattle.deciding.proofs.rest.Reads as rest
@@ -64,7 +64,10 @@ rest-next-stand-requires : (t : ℕ) → rest-lts.Need-next-stand-requires (call
 rest-next-stand-requires t c κs =
     let s = c .before .before .before .before .before .before .before in
     let a = s .args in
-    round-inside (a .w .now) (a .stand) (s .pre .1 .0 .place) (not-last (a .stand .level) (getD (a .w .now) 4 0) (s .pre .1 .0 .place .level) (c .if1 .left))
+    let w = a .w .now in
+    let st = a .stand in
+    let ok = s .pre .1 .0 in
+    round-inside w st (ok .place) (not-last (st .level) (getD w 4 0) (ok .place .level) (c .if1 .left))
 
 rest-room-requires : (t : ℕ) → rest-lts.Need-room-requires (calls t) (rest-at t) rest.Post
 rest-room-requires t c κs = search needs
@@ -82,7 +85,10 @@ rest-round-at-requires : (t : ℕ) → rest-lts.Need-round-at-requires (calls t)
 rest-round-at-requires t c κs =
     let s = c .before .before .before .before .before .before .before .before .before .before .before .before in
     let a = s .args in
-    (s .pre .1 .0, (not-last (a .stand .level) (getD (a .w .now) 4 0) (s .pre .1 .0 .place .level) (c .before .before .before .before .before .if1 .left), (c .before .before .before .room .ensures, c .before .before .room2 .ensures)))
+    let w = a .w .now in
+    let st = a .stand in
+    let ok = s .pre .1 .0 in
+    (ok, (not-last (st .level) (getD w 4 0) (ok .place .level) (c .before .before .before .before .before .if1 .left), (c .before .before .before .room .ensures, c .before .before .room2 .ensures)))
 
 rest-enum-known-g : (t : ℕ) → rest-lts.Need-enum-known-g (calls t) (rest-at t) rest.Post
 rest-enum-known-g t c = search needs
@@ -93,10 +99,16 @@ rest-enum-told t c = search needs
 rest-returns-2 : (t : ℕ) → rest-lts.Need-returns-2 (calls t) (rest-at t) rest.Post
 unfolding verdictOf outcomeOf
 rest-returns-2 t c =
-    let s = c .before .before .before .before .before .before .before .before .before .before .before .before .before .before .before .before .before in
+    let r = c .before .before .before .before in
+    let s = r .before .before .before .before .before .before .before .before .before .before .before .before .before in
     let a = s .args in
-    let q = c .before .before .before .before .round-at in
-    clash-ready (a .w .now) (a .pw .now) (a .xs .now) (a .cs .now) (a .stand) (a .how) (s .pre .1 .0) (not-last (a .stand .level) (getD (a .w .now) 4 0) (s .pre .1 .0 .place .level) (c .before .before .before .before .before .before .before .before .before .before .if1 .left)) (c .before .before .before .before .before .before .before .before .before .next-stand .result) (c .before .before .before .before .before .before .before .before .before .next-stand .ensures) (q .result)
+    let w = a .w .now in
+    let st = a .stand in
+    let ok = s .pre .1 .0 in
+    let more = not-last (st .level) (getD w 4 0) (ok .place .level) (r .before .before .before .before .before .before .if1 .left) in
+    let n = r .before .before .before .before .before .next-stand in
+    let q = r .round-at in
+    clash-ready w (a .pw .now) (a .xs .now) (a .cs .now) st (a .how) ok more (n .result) (n .ensures) (q .result)
     (q .last .1 .1 .1 .1 .1 .1 .0) (q .last .1 .1 .1 .1 .1 .1 .1 .0) (c .enum-told .given .1) (q .ensures .0)
 
 rest-room-requires-3 : (t : ℕ) → rest-lts.Need-room-requires-3 (calls t) (rest-at t) rest.Post
@@ -109,72 +121,87 @@ rest-shared-slice-read-coefficients t c =
     omega (arith, s .pre .1 .0 .place .sheet .long)
 
 rest-slice-aggregate-coefficients : (t : ℕ) → rest-lts.Need-slice-aggregate-coefficients (calls t) (rest-at t) rest.Post
-rest-slice-aggregate-coefficients t c = sym (c .before .before .before .before .before .before .before .before .round-at .kept .1 .1 .1 .1 .1 .1 .0 ∙ c .before .before .before .before .before .before .before .before .before .before .before .before .room .ensures)
+rest-slice-aggregate-coefficients t c = let r = c .before .before .before .before .before .before .before .before in sym (r .round-at .kept .1 .1 .1 .1 .1 .1 .0 ∙ r .before .before .before .before .room .ensures)
 
 rest-slice-aggregate-coefficients-2 : (t : ℕ) → rest-lts.Need-slice-aggregate-coefficients-2 (calls t) (rest-at t) rest.Post
-rest-slice-aggregate-coefficients-2 t c = sym (c .before .before .before .before .before .before .before .before .before .round-at .kept .1 .1 .1 .1 .1 .1 .1 .0 ∙ c .before .before .before .before .before .before .before .before .before .before .before .before .room2 .ensures)
+rest-slice-aggregate-coefficients-2 t c = let r = c .before .before .before .before .before .before .before .before .before in sym (r .round-at .kept .1 .1 .1 .1 .1 .1 .1 .0 ∙ r .before .before .before .room2 .ensures)
 
 rest-slice-aggregate-coefficients-3 : (t : ℕ) → rest-lts.Need-slice-aggregate-coefficients-3 (calls t) (rest-at t) rest.Post
 rest-slice-aggregate-coefficients-3 t c = sym (c .before .before .before .before .room3 .ensures)
 
 rest-coefficients-requires : (t : ℕ) → rest-lts.Need-coefficients-requires (calls t) (rest-at t) rest.Post
 rest-coefficients-requires t c κs =
-    let q = c .before .before .before .before .before .before .before .before .before .before .round-at in
-    let lx = q .kept .1 .1 .1 .1 .1 .1 .0 ∙ c .before .before .before .before .before .before .before .before .before .before .before .before .before .before .room .ensures in
-    let ly = q .kept .1 .1 .1 .1 .1 .1 .1 .0 ∙ c .before .before .before .before .before .before .before .before .before .before .before .before .before .room2 .ensures in
+    let r = c .before .before .before .before .before .before .before .before .before .before in
+    let q = r .round-at in
+    let lx = q .kept .1 .1 .1 .1 .1 .1 .0 ∙ r .before .before .before .before .room .ensures in
+    let ly = q .kept .1 .1 .1 .1 .1 .1 .1 .0 ∙ r .before .before .before .room2 .ensures in
     let g = c .before .before .before .before .before .before .g .given in
     (omega (arith, lx, room-in (q .result) (g .0 .0) (g .1) (q .ensures .1)), (ly ∙ sym lx, c .before .before .before .before .room3 .ensures ∙ sym lx))
 
 rest-next-function-requires : (t : ℕ) → rest-lts.Need-next-function-requires (calls t) (rest-at t) rest.Post
 rest-next-function-requires t c κs =
-    let s = c .before .before .before .before .before .before .before .before .before .before .before .before .before .before .before .before .before .before .before .before .before .before .before .before .before in
+    let r = c .before .before .before .before .before .before .before .before .before .before .before .before in
+    let s = r .before .before .before .before .before .before .before .before .before .before .before .before .before in
     let a = s .args in
-    (round-inside (a .w .now) (a .stand) (s .pre .1 .0 .place) (not-last (a .stand .level) (getD (a .w .now) 4 0) (s .pre .1 .0 .place .level) (c .before .before .before .before .before .before .before .before .before .before .before .before .before .before .before .before .before .before .if1 .left)), omega (arith, scale-small (a .w .now) (a .stand) (s .pre .1 .0 .place) (a .how .scale) (s .pre .1 .0 .scale)))
+    let w = a .w .now in
+    let st = a .stand in
+    let ok = s .pre .1 .0 in
+    let more = not-last (st .level) (getD w 4 0) (ok .place .level) (r .before .before .before .before .before .before .if1 .left) in
+    (round-inside w st (ok .place) more, omega (arith, scale-small w st (ok .place) (a .how .scale) (ok .scale)))
 
 rest-slice-aggregate-rest : (t : ℕ) → rest-lts.Need-slice-aggregate-rest (calls t) (rest-at t) rest.Post
-rest-slice-aggregate-rest t c = sym (c .before .before .before .before .before .before .before .before .before .before .before .before .before .before .round-at .kept .1 .1 .1 .1 .1 .1 .0 ∙ c .before .before .before .before .before .before .before .before .before .before .before .before .before .before .before .before .before .before .room .ensures)
+rest-slice-aggregate-rest t c = let r = c .before .before .before .before .before .before .before .before .before .before .before .before .before .before in sym (r .round-at .kept .1 .1 .1 .1 .1 .1 .0 ∙ r .before .before .before .before .room .ensures)
 
 rest-slice-aggregate-rest-2 : (t : ℕ) → rest-lts.Need-slice-aggregate-rest-2 (calls t) (rest-at t) rest.Post
 rest-slice-aggregate-rest-2 t c = sym (c .before .before .before .before .coefficients .kept .1 .1 .1 .1 .0 ∙ c .before .before .before .before .before .before .before .before .before .room3 .ensures)
 
 rest-rest-requires : (t : ℕ) → rest-lts.Need-rest-requires (calls t) (rest-at t) rest.Post
 rest-rest-requires t c κs =
-    let s = c .before .before .before .before .before .before .before .before .before .before .before .before .before .before .before .before .before .before .before .before .before .before .before .before .before .before .before .before in
+    let r = c .before .before .before .before .before .before .before .before .before .before .before .before .before .before .before in
+    let s = r .before .before .before .before .before .before .before .before .before .before .before .before .before in
     let a = s .args in
-    let q = c .before .before .before .before .before .before .before .before .before .before .before .before .before .before .before .round-at in
-    let lx = q .kept .1 .1 .1 .1 .1 .1 .0 ∙ c .before .before .before .before .before .before .before .before .before .before .before .before .before .before .before .before .before .before .before .room .ensures in
-    let ly = q .kept .1 .1 .1 .1 .1 .1 .1 .0 ∙ c .before .before .before .before .before .before .before .before .before .before .before .before .before .before .before .before .before .before .room2 .ensures in
+    let w = a .w .now in
+    let st = a .stand in
+    let ok = s .pre .1 .0 in
+    let more = not-last (st .level) (getD w 4 0) (ok .place .level) (r .before .before .before .before .before .before .if1 .left) in
+    let n = r .before .before .before .before .before .next-stand in
+    let q = r .round-at in
+    let px = q .last .1 .1 .1 .1 .1 .1 .0 in
+    let py = q .last .1 .1 .1 .1 .1 .1 .1 .0 in
+    let lx = q .kept .1 .1 .1 .1 .1 .1 .0 ∙ r .before .before .before .before .room .ensures in
+    let ly = q .kept .1 .1 .1 .1 .1 .1 .1 .0 ∙ r .before .before .before .room2 .ensures in
     let k = c .before .before .before .before .coefficients in
     let lc = k .kept .1 .1 .1 .1 .0 ∙ c .before .before .before .before .before .before .before .before .before .room3 .ensures in
     let g = c .before .before .before .before .before .before .before .before .before .before .before .g .given in
-    let inside : g .0 .0 ≤ length (q .last .1 .1 .1 .1 .1 .1 .0) = omega (arith, lx, room-in (q .result) (g .0 .0) (g .1) (q .ensures .1)) in
-    let more = not-last (a .stand .level) (getD (a .w .now) 4 0) (s .pre .1 .0 .place .level) (c .before .before .before .before .before .before .before .before .before .before .before .before .before .before .before .before .before .before .before .before .before .if1 .left) in
-    let up = level-next (a .w .now) (a .stand) (c .before .before .before .before .before .before .before .before .before .before .before .before .before .before .before .before .before .before .before .before .next-stand .result) (c .before .before .before .before .before .before .before .before .before .before .before .before .before .before .before .before .before .before .before .before .next-stand .ensures) in (
-      omega (arith, s .pre .0, up, more, s .pre .1 .0 .place .sheet .rounds),
-      (
-        next-standing (a .w .now) (a .pw .now) (a .xs .now) (a .cs .now) (a .stand) (a .how) (s .pre .1 .0) (not-last (a .stand .level) (getD (a .w .now) 4 0) (s .pre .1 .0 .place .level) (c .before .before .before .before .before .before .before .before .before .before .before .before .before .before .before .before .before .before .before .before .before .if1 .left)) (c .before .before .before .before .before .before .before .before .before .before .before .before .before .before .before .before .before .before .before .before .next-stand .result) (c .before .before .before .before .before .before .before .before .before .before .before .before .before .before .before .before .before .before .before .before .next-stand .ensures) (q .result)
-            (g .0 .0) (c .before .before .next-function .result) (c .before .before .next-function .ensures) (q .last .1 .1 .1 .1 .1 .1 .0) (q .last .1 .1 .1 .1 .1 .1 .1 .0) (k .last .1 .1 .1 .1 .0) (g .1) (q .ensures .0) inside
-            (ly ∙ sym lx) (lc ∙ sym lx) (k .ensures),
-        next-served (a .w .now) (a .pw .now) (a .xs .now) (a .cs .now) (a .stand) (a .how) (s .pre .1 .0) (not-last (a .stand .level) (getD (a .w .now) 4 0) (s .pre .1 .0 .place .level) (c .before .before .before .before .before .before .before .before .before .before .before .before .before .before .before .before .before .before .before .before .before .if1 .left)) (c .before .before .before .before .before .before .before .before .before .before .before .before .before .before .before .before .before .before .before .before .next-stand .result) (c .before .before .before .before .before .before .before .before .before .before .before .before .before .before .before .before .before .before .before .before .next-stand .ensures) (q .result)
-            (g .0 .0) (c .before .before .next-function .result) (c .before .before .next-function .ensures) (q .last .1 .1 .1 .1 .1 .1 .0) (q .last .1 .1 .1 .1 .1 .1 .1 .0) (k .last .1 .1 .1 .1 .0) (g .1) (q .ensures .0) inside
-            (ly ∙ sym lx) (lc ∙ sym lx) (k .ensures) (s .pre .1 .1),
-      ),
+    let h = c .before .before .next-function in
+    let inside : g .0 .0 ≤ length px = omega (arith, lx, room-in (q .result) (g .0 .0) (g .1) (q .ensures .1)) in (
+      omega (arith, s .pre .0, level-next w st (n .result) (n .ensures), more, ok .place .sheet .rounds),
+      next-ready w (a .pw .now) (a .xs .now) (a .cs .now) st (a .how) ok more (n .result) (n .ensures) (q .result) (g .0 .0) (h .result) (h .ensures)
+          px py (k .last .1 .1 .1 .1 .0) (g .1) (q .ensures .0) inside (ly ∙ sym lx) (lc ∙ sym lx) (k .ensures) (s .pre .1 .1),
     )
 
 rest-returns-3 : (t : ℕ) → rest-lts.Need-returns-3 (calls t) (rest-at t) rest.Post
 rest-returns-3 t c =
-    let s = c .before .before .before .before .before .before .before .before .before .before .before .before .before .before .before .before .before .before .before .before .before .before .before .before .before .before .before .before .before in
+    let r = c .before .before .before .before .before .before .before .before .before .before .before .before .before .before .before .before in
+    let s = r .before .before .before .before .before .before .before .before .before .before .before .before .before in
     let a = s .args in
-    let q = c .before .before .before .before .before .before .before .before .before .before .before .before .before .before .before .before .round-at in
-    let lx = q .kept .1 .1 .1 .1 .1 .1 .0 ∙ c .before .before .before .before .before .before .before .before .before .before .before .before .before .before .before .before .before .before .before .before .room .ensures in
-    let ly = q .kept .1 .1 .1 .1 .1 .1 .1 .0 ∙ c .before .before .before .before .before .before .before .before .before .before .before .before .before .before .before .before .before .before .before .room2 .ensures in
+    let w = a .w .now in
+    let st = a .stand in
+    let ok = s .pre .1 .0 in
+    let more = not-last (st .level) (getD w 4 0) (ok .place .level) (r .before .before .before .before .before .before .if1 .left) in
+    let n = r .before .before .before .before .before .next-stand in
+    let q = r .round-at in
+    let px = q .last .1 .1 .1 .1 .1 .1 .0 in
+    let py = q .last .1 .1 .1 .1 .1 .1 .1 .0 in
+    let lx = q .kept .1 .1 .1 .1 .1 .1 .0 ∙ r .before .before .before .before .room .ensures in
+    let ly = q .kept .1 .1 .1 .1 .1 .1 .1 .0 ∙ r .before .before .before .room2 .ensures in
     let k = c .before .before .before .before .before .coefficients in
     let lc = k .kept .1 .1 .1 .1 .0 ∙ c .before .before .before .before .before .before .before .before .before .before .room3 .ensures in
     let g = c .before .before .before .before .before .before .before .before .before .before .before .before .g .given in
-    let inside : g .0 .0 ≤ length (q .last .1 .1 .1 .1 .1 .1 .0) = omega (arith, lx, room-in (q .result) (g .0 .0) (g .1) (q .ensures .1)) in
-    next-decided (a .w .now) (a .pw .now) (a .xs .now) (a .cs .now) (a .stand) (a .how) (s .pre .1 .0) (not-last (a .stand .level) (getD (a .w .now) 4 0) (s .pre .1 .0 .place .level) (c .before .before .before .before .before .before .before .before .before .before .before .before .before .before .before .before .before .before .before .before .before .before .if1 .left)) (c .before .before .before .before .before .before .before .before .before .before .before .before .before .before .before .before .before .before .before .before .before .next-stand .result) (c .before .before .before .before .before .before .before .before .before .before .before .before .before .before .before .before .before .before .before .before .before .next-stand .ensures) (q .result)
-    (g .0 .0) (c .before .before .before .next-function .result) (c .before .before .before .next-function .ensures) (q .last .1 .1 .1 .1 .1 .1 .0) (q .last .1 .1 .1 .1 .1 .1 .1 .0) (k .last .1 .1 .1 .1 .0) (g .1) (q .ensures .0) inside
-    (ly ∙ sym lx) (lc ∙ sym lx) (k .ensures) (c .rest .ensures)
+    let h = c .before .before .before .next-function in
+    let inside : g .0 .0 ≤ length px = omega (arith, lx, room-in (q .result) (g .0 .0) (g .1) (q .ensures .1)) in
+    next-decided w (a .pw .now) (a .xs .now) (a .cs .now) st (a .how) ok more (n .result) (n .ensures) (q .result) (g .0 .0) (h .result) (h .ensures)
+    px py (k .last .1 .1 .1 .1 .0) (g .1) (q .ensures .0) inside (ly ∙ sym lx) (lc ∙ sym lx) (k .ensures) (c .rest .ensures)
 
 pub +rest-spec : {M : Type 1} → statement M
 +rest-spec = close μ-rest λ t. rest-lts.spec (calls t)

@@ -1,6 +1,6 @@
 -- `deciding::decide` meets its contract. Assumes nothing.
 use Rattle.deciding.specs.First.{first-room, shaped}
-use Rattle.deciding.proofs.Ready.{first-decided, first-served, first-standing}
+use Rattle.deciding.proofs.Ready.{first-decided, first-ready}
 use borrow.Author.Needs.{needs}
 use Rattle.deciding.proofs.decide.Statement.{statement}
 use Rattle.deciding.proofs.decide.Tie as tie
@@ -26,20 +26,22 @@ slice-aggregate-rest-2 c = search needs
 rest-requires : tie.Need-rest-requires
 rest-requires c κs =
     let s = c .before .before .before .before .before .before .before in
-    let a = s .args in (
-      first-standing (a .w .now) (a .pw .now) (c .before .before .before .before .room .result) (s .pre .0 .0) (s .pre .0 .1) (s .pre .1 .0) (s .pre .1 .1 .0) (s .pre .1 .1 .1) (c .before .before .before .before .room .ensures)
-          (c .before .before .before .first-stand .result) (c .before .before .before .first-stand .ensures) (c .before .before .first-function .result) (c .before .before .first-function .ensures),
-      first-served (a .w .now) (a .pw .now) (c .before .before .before .before .room .result) (s .pre .0 .0) (s .pre .0 .1) (s .pre .1 .0) (s .pre .1 .1 .0) (s .pre .1 .1 .1) (c .before .before .before .before .room .ensures)
-          (c .before .before .before .first-stand .result) (c .before .before .before .first-stand .ensures) (c .before .before .first-function .result) (c .before .before .first-function .ensures),
-    )
+    let a = s .args in
+    let none = c .before .before .before .before .room in
+    let st = c .before .before .before .first-stand in
+    let how = c .before .before .first-function in
+    first-ready (a .w .now) (a .pw .now) (none .result) (s .pre .0 .0) (s .pre .0 .1) (s .pre .1 .0) (s .pre .1 .1 .0) (s .pre .1 .1 .1) (none .ensures)
+    (st .result) (st .ensures) (how .result) (how .ensures)
 
 returns : tie.Need-returns
 returns c =
     let s = c .before .before .before .before .before .before .before .before in
     let a = s .args in
-    first-decided (a .w .now) (a .pw .now) (c .before .before .before .before .before .room .result) (s .pre .0 .0) (s .pre .0 .1) (s .pre .1 .0) (s .pre .1 .1 .0) (s .pre .1 .1 .1) (c .before .before .before .before .before .room .ensures)
-    (c .before .before .before .before .first-stand .result) (c .before .before .before .before .first-stand .ensures) (c .before .before .before .first-function .result) (c .before .before .before .first-function .ensures)
-    (c .rest .ensures)
+    let none = c .before .before .before .before .before .room in
+    let st = c .before .before .before .before .first-stand in
+    let how = c .before .before .before .first-function in
+    first-decided (a .w .now) (a .pw .now) (none .result) (s .pre .0 .0) (s .pre .0 .1) (s .pre .1 .0) (s .pre .1 .1 .0) (s .pre .1 .1 .1) (none .ensures)
+    (st .result) (st .ensures) (how .result) (how .ensures) (c .rest .ensures)
 
 pub decide-spec : {M : Type 1} → statement M
 decide-spec =

@@ -5,7 +5,7 @@ use native.Mathlib.Omega.{arith}
 use borrow.Author.Needs.{needs}
 use lib.ListN.{length}
 use Rattle.definition.specs.Field.{fieldOf, power}
-use Rattle.domain.proofs.Filled.{Filled, filled-first, filled-next, filled-last}
+use Rattle.domain.specs.Filled.{Filled, filled-first, filled-next}
 use Rattle.domain.proofs.Tables.{first-power, next-power}
 use Rattle.domain.proofs.by_products.Statement.{statement}
 use Rattle.domain.proofs.by_products.Tie as tie
@@ -48,10 +48,7 @@ same-length : tie.Need-same-length Inv-loop μ-loop
 same-length c = omega arith
 
 returns : tie.Need-returns Inv-loop μ-loop
-returns c =
-    let a = c .before .before .before .args in
-    let l = c .before .loop in
-    filled-last (λ k. power (fieldOf (a .field)) (a .w) (1 + k)) (a .out .now) (l .out) (l .e) (l .inv .0) (omega arith)
+returns c = λ k l. c .before .loop .inv .0 .passed k (omega arith)
 
 pub by-products-spec : {M : Type 1} → statement M
 by-products-spec =

@@ -4,7 +4,7 @@ use Prim.Native.Nat.{_+_, _-_, _*_, _%_, _≤_}
 use native.Mathlib.Nat.{mul-le-mul-left}
 use native.Mathlib.Omega.{arith}
 use lib.ListN.{length, getD}
-use Rattle.domain.proofs.Filled.{Filled, filled-first, filled-next, filled-last}
+use Rattle.domain.specs.Filled.{Filled, filled-first, filled-next}
 use Rattle.domain.proofs.from_stored.Statement.{statement}
 use Rattle.domain.proofs.from_stored.Tie as tie
 
@@ -57,10 +57,7 @@ same-length : tie.Need-same-length Inv-loop μ-loop
 same-length c = omega arith
 
 returns : tie.Need-returns Inv-loop μ-loop
-returns c =
-    let a = c .before .before .args in
-    let l = c .before .loop in
-    filled-last (λ k. getD (a .table .now) (a .step * (1 + k) % 4096) 0) (a .out .now) (l .out) (l .e) (l .inv) (omega arith)
+returns c = λ k l. c .before .loop .inv .passed k (omega arith)
 
 pub from-stored-spec : {M : Type 1} → statement M
 from-stored-spec =

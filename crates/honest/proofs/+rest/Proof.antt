@@ -10,7 +10,7 @@ use Rattle.honest.specs.Levels.{rest-none}
 use Rattle.honest.specs.Sizes.{sizes}
 use Rattle.honest.specs.Standing.{DealtFrom, Standing}
 use Rattle.honest.proofs.Onward.{Onward, all-left, not-last, onward, words-join, words-last}
-use Rattle.honest.proofs.Parts.{begun-long, filled-long, front-stays, front-there, joined, others-long}
+use Rattle.domain.specs.Parts.{begun-long, filled-long, front-stays, front-there, joined, others-long}
 use borrow.Fn.Kinds.{In}
 use borrow.Fn.PlainCycle.{Measures, is, falls, and}
 use Rattle.honest.proofs.rest.Reads as rest

@@ -6,7 +6,7 @@ use mathlib.Core.Path.{_∙_, ap, subst, sym}
 use lib.ListN.{getD, length-set}
 use Rattle.honest.specs.Standing.{DealtFrom, restFrom}
 use Rattle.honest.proofs.Onward.{all-left}
-use Rattle.honest.proofs.Parts.{stored-join, stored-long, stored-others}
+use Rattle.honest.proofs.Stored.{stored-join, stored-long, stored-others}
 use borrow.Author.Needs.{needs}
 use Rattle.honest.proofs.after_first.Statement.{statement}
 use Rattle.honest.proofs.after_first.Tie as tie

@@ -3,7 +3,7 @@ use native.Mathlib.Omega.{arith}
 use mathlib.Core.Path.{sym}
 use lib.ListN.{length}
 use lib.Seq.{length-take-le}
-use Rattle.honest.proofs.Parts.{joined}
+use Rattle.domain.specs.Parts.{joined}
 use borrow.Author.Needs.{needs}
 use Rattle.honest.proofs.after_table.Statement.{statement}
 use Rattle.honest.proofs.after_table.Tie as tie

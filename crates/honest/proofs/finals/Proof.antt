@@ -4,7 +4,7 @@ use native.Mathlib.Omega.{arith}
 use mathlib.Core.Path.{_∙_, sym, ap}
 use lib.ListN.{length, getD}
 use lib.Seq.{length-take-le}
-use Rattle.honest.proofs.Parts.{joined}
+use Rattle.domain.specs.Parts.{joined}
 use borrow.Author.Needs.{needs}
 use Rattle.honest.proofs.finals.Statement.{statement}
 use Rattle.honest.proofs.finals.Tie as tie

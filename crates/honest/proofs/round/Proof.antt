@@ -6,7 +6,7 @@ use lib.ListN.{length, getD, take}
 use lib.Seq.{length-take-le}
 use Rattle.completeness.specs.Numbered.{levelOf}
 use Rattle.honest.specs.Sizes.{next-on-level, next-scale, next-size, sizes}
-use Rattle.honest.proofs.Parts.{begun-long, joined, others-long}
+use Rattle.domain.specs.Parts.{begun-long, joined, others-long}
 use Rattle.honest.proofs.Rounds.{later-long, outs-long, round-is}
 use borrow.Author.Needs.{needs}
 use Rattle.honest.proofs.round.Statement.{statement}

@@ -7,7 +7,7 @@ use lib.ListN.{length, getD}
 use lib.Seq.{length-take-le}
 use Rattle.honest.specs.Sizes.{fold-most, sizes}
 use Rattle.honest.specs.Standing.{Standing, correctedFrom, roundFrom}
-use Rattle.honest.proofs.Parts.{begun-long, front-stays, front-there}
+use Rattle.domain.specs.Parts.{begun-long, front-stays, front-there}
 use borrow.Author.Needs.{needs}
 use Rattle.honest.proofs.step.Statement.{statement}
 use Rattle.honest.proofs.step.Tie as tie

@@ -4,7 +4,7 @@ use mathlib.Core.Path.{_∙_, sym}
 use lib.Seq.{length-take-le}
 use Rattle.completeness.specs.Allowed.{allowed-long}
 use Rattle.honest.specs.Beginning.{first-coin, first-dealt, first-standing, stream-is, words-first}
-use Rattle.honest.proofs.Parts.{begun-long, joined, others-long}
+use Rattle.domain.specs.Parts.{begun-long, joined, others-long}
 use borrow.Author.Needs.{needs}
 use Rattle.honest.proofs.stream_by.Statement.{statement}
 use Rattle.honest.proofs.stream_by.Tie as tie

@@ -5,7 +5,7 @@ use lib.ListN.{length, getD}
 use lib.Seq.{length-take-le}
 use Rattle.completeness.specs.LevelsByNumber.{undivided}
 use Rattle.completeness.specs.Numbered.{levelOf}
-use Rattle.honest.proofs.Parts.{joined, others-long}
+use Rattle.domain.specs.Parts.{joined, others-long}
 use borrow.Author.Needs.{needs}
 use Rattle.honest.proofs.transcript.Statement.{statement}
 use Rattle.honest.proofs.transcript.Tie as tie

@@ -1,10 +1,8 @@
-use Prim.Native.Nat.{ℕ}
-use mathlib.Core.Path.{_≡_, sym, ap, _∙_}
-use native.Mathlib.Omega.{arith}
 use borrow.Author.Needs.{needs}
 use Rattle.outcome.specs.Meaning.{outcomeOf}
 use Rattle.outcome.specs.Answers.{at-place, nowhere}
-use Rattle.reading.proofs.StageLaws.{range, fill-from, out-of-range, not-filled, body-passes, long-enough}
+use Rattle.ranges.specs.RoundsOfLayout.{long-enough}
+use Rattle.reading.proofs.StageLaws.{range, fill-from, out-of-range, not-filled, body-passes}
 use Rattle.reading.proofs.body.Statement.{statement}
 use Rattle.reading.proofs.body.Tie as tie
 use Rattle.reading.proofs.body.Reads as reads

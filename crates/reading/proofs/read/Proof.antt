@@ -1,5 +1,3 @@
-use mathlib.Core.Path.{_≡_, sym, ap, _∙_}
-use native.Mathlib.Omega.{arith}
 use borrow.Author.Needs.{needs}
 use Rattle.outcome.specs.Answers.{at-place, nowhere}
 use Rattle.reading.proofs.StageLaws.{empty, no-blocks, wrong-check, checks-pass, loads-stream, read-refused, read-loaded}

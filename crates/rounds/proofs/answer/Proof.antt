@@ -6,7 +6,7 @@ use borrow.Author.Needs.{needs}
 use Rattle.definition.specs.Polynomial.{pair}
 use Rattle.samples.specs.Samples.{sifted}
 use Rattle.samples.specs.SampleLaws.{clash-append}
-use Rattle.samples.proofs.Steps.{kept-from, kept-clash, kept-none, room}
+use Rattle.samples.specs.Answers.{kept-from, kept-clash, kept-none, room}
 use Rattle.rounds.specs.Round.{sampleIn}
 use Rattle.rounds.specs.RoundLaws.{answered}
 use Rattle.rounds.proofs.Shifts.{room-add}

@@ -1,16 +1,17 @@
 -- `rounds::gather` meets its contract: the values at m pairs of opposite roots are there. Assumes nothing.
-use Prim.Native.Nat.{_+_, _-_, _*_, _/_, _≤_}
-use mathlib.Core.Path.{_≡_, refl, sym, _∙_}
+use Prim.Native.Nat.{_+_, _-_, _/_, _≤_}
+use mathlib.Core.Path.{sym}
 use native.Mathlib.Omega.{arith}
 use lib.ListN.{length, length-set}
+use Rattle.domain.specs.Filled.{Paired, paired-first, paired-next}
 use Rattle.rounds.specs.Round.{rootIn, even, point-room, root-number}
-use Rattle.rounds.proofs.Roots.{Paired, paired-none, paired-next, paired-all}
+use Rattle.rounds.proofs.Roots.{paired-all}
 use Rattle.rounds.proofs.gather.Statement.{statement}
 use Rattle.rounds.proofs.gather.Tie as tie
 
 abbrev Inv-loop : tie.InvT-loop
 Inv-loop field pw table xs cs how j values₀ step h m₀ values m =
-    (m ≤ h) × ((length values ≡ length values₀) × Paired (rootIn field pw table xs cs how j) h m values)
+    (m ≤ h) × Paired (rootIn field pw table xs cs how j) (λ i. rootIn field pw table xs cs how j (h + i)) h values₀ values m
 
 abbrev μ-loop : tie.MeasureT-loop
 μ-loop field pw table xs cs how j values₀ step h m₀ values m = h - m
@@ -19,7 +20,8 @@ loop-holds : tie.Need-loop-holds Inv-loop μ-loop
 loop-holds c =
     let a = c .before .before .before .before .before .args in
     let h = length (a .values .now) / 2 in
-    (omega arith, (refl, paired-none (rootIn (a .field) (a .pw .now) (a .table .now) (a .xs .now) (a .cs .now) (a .how) (a .j)) h (a .values .now)))
+    let f = rootIn (a .field) (a .pw .now) (a .table .now) (a .xs .now) (a .cs .now) (a .how) (a .j) in
+    (omega arith, paired-first f (λ m. f (h + m)) h (a .values .now))
 
 mul-value-two : tie.Need-mul-value-two Inv-loop μ-loop
 mul-value-two c =
@@ -69,7 +71,7 @@ mul-values-2 : tie.Need-mul-values-2 Inv-loop μ-loop
 mul-values-2 c = omega arith
 
 slice-write-values-2 : tie.Need-slice-write-values-2 Inv-loop μ-loop
-slice-write-values-2 c = simp length-set (omega (arith, c .before .before .loop .inv .1 .0))
+slice-write-values-2 c = simp length-set (omega (arith, c .before .before .loop .inv .1 .size))
 
 add-m : tie.Need-add-m Inv-loop μ-loop
 add-m c = omega arith
@@ -83,9 +85,8 @@ loop-again c =
     let s = c .before .before .before .before .before .before .before .before in
     let a = s .args in
     let h = length (a .values .now) / 2 in
-    let two : length (l .values) ≡ h + h = l .inv .1 .0 ∙ sym (even (s .pre .1 .0)) in
-    let more = paired-next (rootIn (a .field) (a .pw .now) (a .table .now) (a .xs .now) (a .cs .now) (a .how) (a .j)) h (l .values) (l .m) (omega arith) two (l .inv .1 .1) (c .value-two .ensures .0) (c .value-two .ensures .1) in
-    (omega arith, (simp length-set (l .inv .1 .0), more))
+    let f = rootIn (a .field) (a .pw .now) (a .table .now) (a .xs .now) (a .cs .now) (a .how) (a .j) in
+    (omega arith, paired-next f (λ m. f (h + m)) h (a .values .now) (l .values) (l .m) (l .inv .1) (omega arith) (sym (even (s .pre .1 .0))) (c .value-two .ensures .0) (c .value-two .ensures .1))
 
 same-length : tie.Need-same-length Inv-loop μ-loop
 same-length c = omega arith
@@ -96,7 +97,7 @@ returns c =
     let s = c .before .before .before .before .before .before .before in
     let a = s .args in
     let h = length (a .values .now) / 2 in
-    λ m u. paired-all (rootIn (a .field) (a .pw .now) (a .table .now) (a .xs .now) (a .cs .now) (a .how) (a .j)) h (l .values) (l .m) (omega arith) (l .inv .1 .1) m (omega (arith, u, even (s .pre .1 .0)))
+    λ m u. paired-all (rootIn (a .field) (a .pw .now) (a .table .now) (a .xs .now) (a .cs .now) (a .how) (a .j)) h (l .m) (omega arith) (l .inv .1) m (omega (arith, u, even (s .pre .1 .0)))
 
 pub gather-spec : {M : Type 1} → statement M
 gather-spec =

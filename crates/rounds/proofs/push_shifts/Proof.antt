@@ -7,7 +7,7 @@ use native.Mathlib.Omega.{arith}
 use lib.ListN.{length, drop}
 use Rattle.definition.specs.Polynomial.{pair}
 use Rattle.samples.specs.Samples.{sifted}
-use Rattle.samples.proofs.Steps.{kept-from, kept-clash, kept-none, kept-some, room}
+use Rattle.samples.specs.Answers.{kept-from, kept-clash, kept-none, kept-some, room}
 use Rattle.rounds.specs.Round.{sampleIn}
 use Rattle.rounds.proofs.Shifts.{fits-for, below-at, sample-for, shifts-end, shifts-turn, shifts-clash}
 use Rattle.rounds.proofs.push_shifts.Statement.{statement}

@@ -5,12 +5,13 @@ use native.Mathlib.Omega.{arith}
 use lib.ListN.{length}
 use Rattle.definition.specs.Field.{fieldOf}
 use Rattle.rounds.specs.PointsIn.{backIn}
-use Rattle.rounds.proofs.Turns.{Turned, pairs, turned-none, turned-pair}
+use Rattle.domain.specs.Filled.{Filled, filled-first}
+use Rattle.rounds.proofs.Turns.{pairs, turned-pair}
 use Rattle.rounds.proofs.turn.Statement.{statement}
 use Rattle.rounds.proofs.turn.Tie as tie
 
 abbrev Inv-loop : tie.InvT-loop
-Inv-loop field pw half e d r h values₀ m₀ values m = (m ≤ h) × Turned (pairs (fieldOf field) half r (λ i. backIn pw (e + i * d)) h values₀) values₀ m values
+Inv-loop field pw half e d r h values₀ m₀ values m = (m ≤ h) × Filled (pairs (fieldOf field) half r (λ i. backIn pw (e + i * d)) h values₀) values₀ values m
 
 abbrev μ-loop : tie.MeasureT-loop
 μ-loop field pw half e d r h values₀ m₀ values m = h - m
@@ -18,7 +19,7 @@ abbrev μ-loop : tie.MeasureT-loop
 loop-holds : tie.Need-loop-holds Inv-loop μ-loop
 loop-holds c =
     let a = c .before .before .args in
-    (omega arith, turned-none (pairs (fieldOf (a .field)) (a .half) (a .r) (λ i. backIn (a .pw .now) (a .e + i * a .d)) (a .h) (a .values .now)) (a .values .now))
+    (omega arith, filled-first (pairs (fieldOf (a .field)) (a .half) (a .r) (λ i. backIn (a .pw .now) (a .e + i * a .d)) (a .h) (a .values .now)) (a .values .now))
 
 mul-back : tie.Need-mul-back Inv-loop μ-loop
 mul-back c =
@@ -78,7 +79,7 @@ same-length : tie.Need-same-length Inv-loop μ-loop
 same-length c = omega arith
 
 returns : tie.Need-returns Inv-loop μ-loop
-returns c = λ m u. c .before .loop .inv .1 .done m (omega arith)
+returns c = λ m u. c .before .loop .inv .1 .passed m (omega arith)
 
 pub turn-spec : {M : Type 1} → statement M
 turn-spec =

@@ -7,7 +7,8 @@ use native.Mathlib.Omega.{arith}
 use lib.ListN.{length, drop}
 use Rattle.definition.specs.Polynomial.{Sample, pair}
 use Rattle.samples.specs.Samples.{sifted}
-use Rattle.samples.proofs.Steps.{walk-end, walk-turn, walk-clash, kept-from, kept-clash, kept-none, kept-some, room}
+use Rattle.samples.specs.Answers.{kept-from, kept-clash, kept-none, kept-some, room}
+use Rattle.samples.proofs.Steps.{walk-end, walk-turn, walk-clash}
 use Rattle.samples.proofs.push_all.Statement.{statement}
 use Rattle.samples.proofs.push_all.Tie as tie
 

@@ -147,7 +147,7 @@ table-join-requires t c κs =
     let t₂ = c .before .before .before .table2 in
     let l₂ = t₂ .last .1 .1 .1 .1 .1 .1 .1 .1 .0 in
     let n₂ = t₂ .kept .1 .1 .1 .1 .1 .1 .1 .1 .0 in
-    let b = both (a .out .now) l₁ l₂ (length (a .out .now) / 2) (q .size-is) n₁ n₂ in
+    let b = both (a .out .now) l₁ (length (a .out .now) / 2) (q .size-is) n₁ l₂ n₂ in
     (b .size, subst (λ (m : ℕ). Spaced (a .at) (a .step) m (length (a .pw .now))) (q .size-is) (s .pre .1 .1 .1))
 
 table-same-length : (t : ℕ) → table-lts.Need-same-length (called t) (table-at t) table.Post
@@ -171,7 +171,7 @@ table-same-length-2 t c =
     let t₂ = c .before .before .before .before .before .before .table2 in
     let l₂ = t₂ .last .1 .1 .1 .1 .1 .1 .1 .1 .0 in
     let n₂ = t₂ .kept .1 .1 .1 .1 .1 .1 .1 .1 .0 in
-    let b = both (a .out .now) l₁ l₂ (length (a .out .now) / 2) (q .size-is) n₁ n₂ in
+    let b = both (a .out .now) l₁ (length (a .out .now) / 2) (q .size-is) n₁ l₂ n₂ in
     c .before .before .join .kept .1 .1 .1 .1 .1 .0 ∙ b .size ∙ sym (q .size-is)
 
 table-returns-2 : (t : ℕ) → table-lts.Need-returns-2 (called t) (table-at t) table.Post
