@@ -192,17 +192,17 @@ fn main() {
 
     let Some(folder) = folder else { return };
     let by_size = [16, 64, 256, 1024, 4096].map(|n0| [2, n0, 8, 2, 1, 1, 1, 1, 0, 0, 0, 0]);
-    let by_coins = [(2, 8), (2, 32), (4, 32), (8, 32), (16, 32), (16, 60)]
-        .map(|(k, t)| [2, 4096, 2048, k, 1, 2, t, t, 0, 0, 0, 0]);
+    let by_coins = [2, 4, 8, 16, 32, 60].map(|t| [2, 4096, 2048, 16, 1, 2, t, t, 0, 0, 0, 0]);
     let mut rows = [String::new(), String::new(), String::new()];
     let sheets = by_size.iter().map(|sheet| ("n0", sheet[1], sheet));
     let sheets = sheets.chain(by_coins.iter().map(|s| ("tk", s[3] * s[6], s)));
     for (kind, value, sheet) in sheets {
         let order = Order::new(sheet);
-        for (rows, times) in rows
-            .iter_mut()
-            .zip([order.verify(), order.prove(), order.encode()])
-        {
+        let mut times = vec![order.verify(), order.prove()];
+        if kind == "n0" {
+            times.push(order.encode());
+        }
+        for (rows, times) in rows.iter_mut().zip(times) {
             writeln!(rows, "{kind} {value} {:.2} {:.2}", times[0], times[1]).expect("a string");
         }
     }
