@@ -1,5 +1,6 @@
-/* Measures how much stack calls take, of tevrolig_verify on each file named and of tevrolig_prove and tevrolig_encode on the largest orders, and fails
- * where one is not below the header's figure. A call runs on a stack of its own, painted before, and the deepest byte that lost its paint is looked for. */
+/* Measures how much stack calls take, of tevrolig_verify and tevrolig_word on each file named, of tevrolig_prove and tevrolig_encode on the largest orders
+ * and of the field operations, and fails where one is not below the header's figure. A call runs on a stack of its own, painted before, and the deepest
+ * byte that lost its paint is looked for. */
 #include <stdio.h>
 #include <stdlib.h>
 #include <string.h>
@@ -41,6 +42,20 @@ static void encode(void)
 {
     uint64_t words;
     answer = tevrolig_encode(sheet, TEVROLIG_SHEET_WORDS, coefficients, sheet[2], table, TEVROLIG_MOST_TABLE, &words);
+}
+
+static void word(void)
+{
+    uint32_t found;
+    answer = tevrolig_word(file, length, 126, &found);
+}
+
+/* The field operations, one after the other. */
+static void elements(void)
+{
+    uint32_t element;
+    answer = tevrolig_sum(2, 5, 7, &element) + tevrolig_difference(2, 5, 7, &element) + tevrolig_product(2, 5, 7, &element)
+        + tevrolig_power(2, 5, 7, &element) + tevrolig_inverse(2, 5, &element);
 }
 
 /* Bytes of the stack that a call changes. What the start of a context takes is among them. */
@@ -99,7 +114,7 @@ static size_t done(const char *name, void (*call)(void))
 
 int main(int argc, char **argv)
 {
-    size_t verifying = 0, proving = 0, encoding = 0;
+    size_t verifying = 0, proving = 0, encoding = 0, small = depth(elements);
     for (int i = 1; i < argc; i++) {
         FILE *input = fopen(argv[i], "rb");
         if (input == NULL) {
@@ -109,6 +124,7 @@ int main(int argc, char **argv)
         length = fread(file, 1, sizeof file, input);
         fclose(input);
         verifying = larger(verifying, depth(verify));
+        small = larger(small, depth(word));
     }
     for (size_t i = 0; i < TEVROLIG_MOST_TABLE; i++)
         coefficients[i] = (uint32_t)(i * i);
@@ -118,6 +134,6 @@ int main(int argc, char **argv)
         proving = larger(proving, done("prove", prove));
         encoding = larger(encoding, done("encode", encode));
     }
-    printf("stack: verify %zu, prove %zu, encode %zu bytes at most\n", verifying, proving, encoding);
-    return verifying < TEVROLIG_VERIFY_STACK && proving < TEVROLIG_PROVE_STACK && encoding < TEVROLIG_ENCODE_STACK ? 0 : 1;
+    printf("stack: verify %zu, prove %zu, encode %zu, others %zu bytes at most\n", verifying, proving, encoding, small);
+    return verifying < TEVROLIG_VERIFY_STACK && proving < TEVROLIG_PROVE_STACK && encoding < TEVROLIG_ENCODE_STACK && small < 1024 ? 0 : 1;
 }
