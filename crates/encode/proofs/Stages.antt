@@ -39,6 +39,14 @@ table-zero w f pw out powers size table = table (rootOfUnity (sheetOf w)) (first
 pub placed : (table l output : List ℕ) (n : ℕ) → l ≡ table → length l ≡ n → l ++ drop n output ≡ table ++ drop (length table) output
 placed table l output n e h = (λ i. e i ++ drop (sym h i) output) ∙ ap (λ (m : ℕ). table ++ drop m output) (ap length e)
 
+-- what the passing of all tests says: the sheet's words, as many coefficients as it makes due, room for table 0, and the definition's result
+pub record Passed (w f output : List ℕ) : Type 0 where
+  pub long : length w ≡ 12
+  pub sheet : sheetTest w ≡ definition.accepted
+  pub coefficients : length f ≡ getD w 2 0
+  pub room : getD w 1 0 ≤ length output
+  pub result : encode w f output ≡ record { answer = done (getD w 1 0); output = tableZero w f ++ drop (length (tableZero w f)) output }
+
 module _ (w f output : List ℕ) (r : Outcome) (tested : (out : List ℕ) → length out ≡ length output →
     outcomeOf r ≡ (sheetLengthTest w then sheetTest w then encodeTests (sheetOf w) f out)) where
   result-is : {o : definition.Outcome} → outcomeOf r ≡ o → encode w f output ≡ finish o (getD w 1 0) (tableZero w f) output
@@ -50,32 +58,18 @@ module _ (w f output : List ℕ) (r : Outcome) (tested : (out : List ℕ) → le
   unfolding outcomeOf finish
   refused-is e = result-is (ap outcomeOf e)
 
-  module _ (e : r ≡ Accepted) where
-    pub done-is : encode w f output ≡ record { answer = done (getD w 1 0); output = tableZero w f ++ drop (length (tableZero w f)) output }
-    unfolding outcomeOf finish
-    done-is = result-is (ap outcomeOf e)
-
-    all-passed : (sheetLengthTest w ≡ definition.accepted) × ((sheetTest w ≡ definition.accepted) × (encodeTests (sheetOf w) f output ≡ definition.accepted))
-    unfolding outcomeOf
-    all-passed =
-        let a = then-passes (sheetLengthTest w) _ (sym (tested output refl) ∙ ap outcomeOf e) in
-        let b = then-passes (sheetTest w) _ (a .1) in
-        (a .0, (b .0, b .1))
-
-    pub twelve-words : length w ≡ 12
-    unfolding sheetLengthTest
-    twelve-words = equal-passes 10 0 (length w) sheetLength (all-passed .0)
-
-    pub sheet-passed : sheetTest w ≡ definition.accepted
-    sheet-passed = all-passed .1 .0
-
-    pub coefficients-due : length f ≡ getD w 2 0
-    unfolding encodeTests coefficientsTest sheetOf
-    coefficients-due = equal-passes 10 1 (length f) (getD w 2 0) (then-passes (coefficientsTest (sheetOf w) f) _ (all-passed .1 .1) .0)
-
-    pub enough-room : getD w 1 0 ≤ length output
-    unfolding encodeTests outputTest sheetOf
-    enough-room =
-        let a = then-passes (coefficientsTest (sheetOf w) f) _ (all-passed .1 .1) in
-        let b = then-passes (inputRangeTest (sheetOf w) [] f) _ (a .1) in
-        ltb-false (length output) (getD w 1 0) (if-passes 11 (getD w 1 0) (ltb (length output) (getD w 1 0)) (b .1))
+  -- all tests passed
+  pub passes : r ≡ Accepted → Passed w f output
+  unfolding outcomeOf finish sheetLengthTest encodeTests coefficientsTest outputTest sheetOf
+  passes e =
+      let a = then-passes (sheetLengthTest w) _ (sym (tested output refl) ∙ ap outcomeOf e) in
+      let b = then-passes (sheetTest w) _ (a .1) in
+      let c = then-passes (coefficientsTest (sheetOf w) f) _ (b .1) in
+      let d = then-passes (inputRangeTest (sheetOf w) [] f) _ (c .1) in
+      record {
+        long = equal-passes 10 0 (length w) sheetLength (a .0);
+        sheet = b .0;
+        coefficients = equal-passes 10 1 (length f) (getD w 2 0) (c .0);
+        room = ltb-false (length output) (getD w 1 0) (if-passes 11 (getD w 1 0) (ltb (length output) (getD w 1 0)) (d .1));
+        result = result-is (ap outcomeOf e);
+      }

@@ -27,6 +27,13 @@ written w f coins = fileOf (honestStream w f coins)
 abbrev pub blocks : List ℕ → ℕ
 blocks w = blockCount (wordsDue (sheetOf w))
 
+-- what the passing of all tests says: the sheet's words, an order that is allowed, room for the file, and the definition's result
+pub record Passed (w f coins output : List ℕ) : Type 0 where
+  pub long : length w ≡ 12
+  pub allowed : Allowed w f coins
+  pub room : 512 * blocks w ≤ length output
+  pub result : prove w f coins output ≡ record { answer = done (blocks w); output = written w f coins ++ drop (length (written w f coins)) output }
+
 module _ (w f coins output : List ℕ) (r : Outcome) (tested : (out : List ℕ) → length out ≡ length output →
     outcomeOf r ≡ (sheetLengthTest w then sheetTest w then proveTests (sheetOf w) f coins out)) where
   result-is : {o : definition.Outcome} → outcomeOf r ≡ o → prove w f coins output ≡ finish o (blocks w) (written w f coins) output
@@ -38,21 +45,15 @@ module _ (w f coins output : List ℕ) (r : Outcome) (tested : (out : List ℕ) 
   unfolding outcomeOf finish
   refused-is e = result-is (ap outcomeOf e)
 
-  module _ (e : r ≡ Accepted) where
-    pub done-is : prove w f coins output ≡ record { answer = done (blocks w); output = written w f coins ++ drop (length (written w f coins)) output }
-    unfolding outcomeOf finish
-    done-is = result-is (ap outcomeOf e)
-
-    all-passed : Allowed w f coins × Room w output × (blocks w ≡ blocks w)
-    all-passed = done-allowed w f coins output (blocks w) (ap (λ (x : Result). x .answer) done-is)
-
-    pub allowed : Allowed w f coins
-    allowed = all-passed .0
-
-    pub twelve-words : length w ≡ 12
-    unfolding sheetLengthTest
-    twelve-words = equal-passes 10 0 (length w) sheetLength (allowed .words)
-
-    pub enough-room : 512 * blocks w ≤ length output
-    unfolding outputTest
-    enough-room = ltb-false (length output) (512 * blocks w) (if-passes 11 (blocks w) (ltb (length output) (512 * blocks w)) (all-passed .1))
+  -- all tests passed
+  pub passes : r ≡ Accepted → Passed w f coins output
+  unfolding outcomeOf finish sheetLengthTest outputTest
+  passes e =
+      let d = result-is (ap outcomeOf e) in
+      let a = done-allowed w f coins output (blocks w) (ap (λ (x : Result). x .answer) d) in
+      record {
+        long = equal-passes 10 0 (length w) sheetLength (a .0 .words);
+        allowed = a .0;
+        room = ltb-false (length output) (512 * blocks w) (if-passes 11 (blocks w) (ltb (length output) (512 * blocks w)) (a .1));
+        result = d;
+      }

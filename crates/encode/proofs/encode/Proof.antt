@@ -1,3 +1,4 @@
+-- `encode::encode` meets its contract. Assumes nothing.
 use mathlib.Core.Path.{sym, ap, _∙_}
 use native.Mathlib.Omega.{arith}
 use lib.ListN.{getD}
@@ -5,7 +6,7 @@ use lib.Seq.{length-take-le}
 use borrow.Author.Needs.{needs}
 use Rattle.definition.specs.Prove.{Result}
 use Rattle.outcome.specs.Meaning.{answerOf}
-use Rattle.encode.proofs.Stages.{coefficients-due, done-is, enough-room, placed, refused-is, sheet-passed, tableZero, twelve-words}
+use Rattle.encode.proofs.Stages.{passes, placed, refused-is, tableZero}
 use Rattle.encode.proofs.encode.Statement.{statement}
 use Rattle.encode.proofs.encode.Tie as tie
 
@@ -31,9 +32,8 @@ shared-slice-read-size : tie.Need-shared-slice-read-size
 shared-slice-read-size c =
     let r = c .before .before .before in
     let a = r .before .before .before .before .args in
-    let t = r .encode-tests in
-    let e = c .before .enum-told .given .1 in
-    omega (arith, twelve-words (a .sheet .now) (a .coefficients .now) (a .output .now) (t .result) (t .ensures) e)
+    let ok = passes (a .sheet .now) (a .coefficients .now) (a .output .now) (r .encode-tests .result) (r .encode-tests .ensures) (c .before .enum-told .given .1) in
+    omega (arith, ok .long)
 
 cast-size : tie.Need-cast-size
 cast-size c = omega (arith, c .shared-slice-known3 .given 1)
@@ -42,27 +42,22 @@ slice-relend-prefix-first-table : tie.Need-slice-relend-prefix-first-table
 slice-relend-prefix-first-table c =
     let r = c .before .before .before in
     let a = r .before .before .before .before .args in
-    let t = r .encode-tests in
-    let e = c .before .enum-told .given .1 in
-    enough-room (a .sheet .now) (a .coefficients .now) (a .output .now) (t .result) (t .ensures) e
+    let ok = passes (a .sheet .now) (a .coefficients .now) (a .output .now) (r .encode-tests .result) (r .encode-tests .ensures) (c .before .enum-told .given .1) in
+    ok .room
 
 slice-aggregate-first-table : tie.Need-slice-aggregate-first-table
 slice-aggregate-first-table c =
     let r = c .before .before .before .before in
     let a = r .before .before .before .before .args in
-    let t = r .encode-tests in
-    let e = c .before .before .enum-told .given .1 in
-    sym (length-take-le (getD (a .sheet .now) 1 0) (a .output .now) (enough-room (a .sheet .now) (a .coefficients .now) (a .output .now) (t .result) (t .ensures) e))
+    let ok = passes (a .sheet .now) (a .coefficients .now) (a .output .now) (r .encode-tests .result) (r .encode-tests .ensures) (c .before .before .enum-told .given .1) in
+    sym (length-take-le (getD (a .sheet .now) 1 0) (a .output .now) (ok .room))
 
 first-table-requires : tie.Need-first-table-requires
 first-table-requires c κs =
     let r = c .before .before .before .before in
     let a = r .before .before .before .before .args in
-    let t = r .encode-tests in
-    let e = c .before .before .enum-told .given .1 in (
-      (omega (arith, twelve-words (a .sheet .now) (a .coefficients .now) (a .output .now) (t .result) (t .ensures) e), sheet-passed (a .sheet .now) (a .coefficients .now) (a .output .now) (t .result) (t .ensures) e),
-      (coefficients-due (a .sheet .now) (a .coefficients .now) (a .output .now) (t .result) (t .ensures) e, length-take-le (getD (a .sheet .now) 1 0) (a .output .now) (enough-room (a .sheet .now) (a .coefficients .now) (a .output .now) (t .result) (t .ensures) e)),
-    )
+    let ok = passes (a .sheet .now) (a .coefficients .now) (a .output .now) (r .encode-tests .result) (r .encode-tests .ensures) (c .before .before .enum-told .given .1) in
+    ((omega (arith, ok .long), ok .sheet), (ok .coefficients, length-take-le (getD (a .sheet .now) 1 0) (a .output .now) (ok .room)))
 
 same-length : tie.Need-same-length
 same-length c = search needs
@@ -72,14 +67,12 @@ unfolding answerOf
 returns-2 c =
     let r = c .before .before .before .before .before .before .before in
     let a = r .before .before .before .before .args in
-    let t = r .encode-tests in
-    let e = c .before .before .before .before .before .enum-told .given .1 in
-    let p = c .before .before .first-table in
-    let d = done-is (a .sheet .now) (a .coefficients .now) (a .output .now) (t .result) (t .ensures) e in (
-      sym (ap (λ (x : Result). x .answer) d),
-      placed (tableZero (a .sheet .now) (a .coefficients .now)) (p .last .1 .1 .0) (a .output .now) (getD (a .sheet .now) 1 0) (p .ensures)
-          (p .kept .1 .1 .0 ∙ length-take-le (getD (a .sheet .now) 1 0) (a .output .now) (enough-room (a .sheet .now) (a .coefficients .now) (a .output .now) (t .result) (t .ensures) e))
-          ∙ sym (ap (λ (x : Result). x .output) d),
+    let ok = passes (a .sheet .now) (a .coefficients .now) (a .output .now) (r .encode-tests .result) (r .encode-tests .ensures) (c .before .before .before .before .before .enum-told .given .1) in
+    let n = getD (a .sheet .now) 1 0 in
+    let p = c .before .before .first-table in (
+      sym (ap (λ (x : Result). x .answer) (ok .result)),
+      placed (tableZero (a .sheet .now) (a .coefficients .now)) (p .last .1 .1 .0) (a .output .now) n (p .ensures) (p .kept .1 .1 .0 ∙ length-take-le n (a .output .now) (ok .room))
+          ∙ sym (ap (λ (x : Result). x .output) (ok .result)),
     )
 
 pub encode-spec : {M : Type 1} → statement M

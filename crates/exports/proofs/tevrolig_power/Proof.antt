@@ -1,3 +1,4 @@
+-- `exports::tevrolig_power` meets its contract. Assumes nothing.
 use borrow.Author.Needs.{needs}
 use Rattle.exports.proofs.Numbered.{as-defined}
 use Rattle.exports.proofs.tevrolig_power.Statement.{statement}

@@ -1,3 +1,4 @@
+-- `exports::tevrolig_prove` meets its contract. Assumes nothing.
 use borrow.Author.Needs.{needs}
 use Rattle.exports.proofs.Numbered.{order-numbers}
 use Rattle.exports.proofs.tevrolig_prove.Statement.{statement}

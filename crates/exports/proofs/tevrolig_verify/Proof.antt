@@ -1,3 +1,4 @@
+-- `exports::tevrolig_verify` meets its contract. Assumes nothing.
 use borrow.Author.Needs.{needs}
 use Rattle.exports.proofs.Numbered.{accepted-numbers, refused-numbers}
 use Rattle.exports.proofs.tevrolig_verify.Statement.{statement}

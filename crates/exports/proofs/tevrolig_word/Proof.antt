@@ -1,3 +1,4 @@
+-- `exports::tevrolig_word` meets its contract. Assumes nothing.
 use borrow.Author.Needs.{needs}
 use Rattle.exports.proofs.Numbered.{value-numbers, end-numbers}
 use Rattle.exports.proofs.tevrolig_word.Statement.{statement}

@@ -1,3 +1,4 @@
+-- `exports::write_element` meets its contract. Assumes nothing.
 use borrow.Author.Needs.{needs}
 use Rattle.exports.proofs.Numbered.{element-numbers, no-field-numbers}
 use Rattle.exports.proofs.write_element.Statement.{statement}

@@ -1,3 +1,4 @@
+-- `exports::write_value` meets its contract. Assumes nothing.
 use borrow.Author.Needs.{needs}
 use Rattle.exports.proofs.Numbered.{done-numbers, refusal-numbers}
 use Rattle.exports.proofs.write_value.Statement.{statement}

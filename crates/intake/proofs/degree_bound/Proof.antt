@@ -1,3 +1,4 @@
+-- `intake::degree_bound` meets its contract.
 use native.Mathlib.Omega.{arith}
 use borrow.Author.Needs.{needs}
 use Rattle.intake.proofs.degree_bound.Statement.{statement}

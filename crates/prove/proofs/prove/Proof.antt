@@ -1,13 +1,14 @@
+-- `prove::prove` meets its contract. Assumes nothing.
 use Prim.Native.Nat.{ℕ, _*_, _≤_}
 use mathlib.Core.Path.{_≡_, sym, ap, subst, _∙_}
 use native.Mathlib.Omega.{arith}
-use lib.ListN.{length, take}
+use lib.ListN.{length}
 use lib.Seq.{length-take-le}
 use borrow.Author.Needs.{needs}
 use Rattle.definition.specs.Block.{blockCount}
 use Rattle.definition.specs.Prove.{Result, done}
 use Rattle.outcome.specs.Meaning.{answerOf}
-use Rattle.prove.proofs.Stages.{refused-is, done-is, allowed, twelve-words, enough-room}
+use Rattle.prove.proofs.Stages.{passes, refused-is}
 use Rattle.prove.proofs.prove.Statement.{statement}
 use Rattle.prove.proofs.prove.Tie as tie
 
@@ -33,8 +34,8 @@ words-due-requires c κs =
     let r = c .before .before in
     let a = r .before .before .before .before .before .args in
     let t = r .prove-tests in
-    let ok = allowed (a .sheet .now) (a .coefficients .now) (a .coins .now) (a .output .now) (t .result) (t .ensures) (c .enum-told .given .1) in
-    (omega (arith, twelve-words (a .sheet .now) (a .coefficients .now) (a .coins .now) (a .output .now) (t .result) (t .ensures) (c .enum-told .given .1)), ok .sheet)
+    let ok = passes (a .sheet .now) (a .coefficients .now) (a .coins .now) (a .output .now) (t .result) (t .ensures) (c .enum-told .given .1) in
+    (omega (arith, ok .long), ok .allowed .sheet)
 
 room-requires : tie.Need-room-requires
 room-requires c κs = search needs
@@ -43,7 +44,9 @@ array-borrow-prefix-words : tie.Need-array-borrow-prefix-words
 array-borrow-prefix-words c = search needs
 
 slice-aggregate-write : tie.Need-slice-aggregate-write
-slice-aggregate-write c = sym (length-take-le (c .before .before .words-due .result) (c .before .room .result) (omega (arith, c .before .room .ensures, c .before .before .words-due .ensures .1)))
+slice-aggregate-write c =
+    let d = c .before .before .words-due in
+    sym (length-take-le (d .result) (c .before .room .result) (omega (arith, c .before .room .ensures, d .ensures .1)))
 
 write-requires : tie.Need-write-requires
 write-requires c κs =
@@ -51,15 +54,10 @@ write-requires c κs =
     let r = d .before .before .before in
     let a = r .before .before .before .before .before .args in
     let t = r .prove-tests in
-    let e = d .before .enum-told .given .1 in
-    let n : length (take (d .words-due .result) (c .before .before .room .result)) ≡ d .words-due .result = length-take-le (d .words-due .result) (c .before .before .room .result) (omega (arith, c .before .before .room .ensures, d .words-due .ensures .1)) in
-    let due = n ∙ d .words-due .ensures .0 in (
-      allowed (a .sheet .now) (a .coefficients .now) (a .coins .now) (a .output .now) (t .result) (t .ensures) e,
-      (
-        due,
-        subst (λ (m : ℕ). 512 * blockCount m ≤ length (a .output .now)) (sym due) (enough-room (a .sheet .now) (a .coefficients .now) (a .coins .now) (a .output .now) (t .result) (t .ensures) e),
-      ),
-    )
+    let ok = passes (a .sheet .now) (a .coefficients .now) (a .coins .now) (a .output .now) (t .result) (t .ensures) (d .before .enum-told .given .1) in
+    let m = c .before .before .room in
+    let due = length-take-le (d .words-due .result) (m .result) (omega (arith, m .ensures, d .words-due .ensures .1)) ∙ d .words-due .ensures .0 in
+    (ok .allowed, (due, subst (λ (n : ℕ). 512 * blockCount n ≤ length (a .output .now)) (sym due) (ok .room)))
 
 add-t10 : tie.Need-add-t10
 add-t10 c = search needs
@@ -74,9 +72,9 @@ returns-2 c =
     let r = d .before .before .before in
     let a = r .before .before .before .before .before .args in
     let t = r .prove-tests in
-    let e = done-is (a .sheet .now) (a .coefficients .now) (a .coins .now) (a .output .now) (t .result) (t .ensures) (d .before .enum-told .given .1) in (
-      ap (λ (n : ℕ). done (blockCount n)) (d .words-due .ensures .0) ∙ sym (ap (λ (x : Result). x .answer) e),
-      c .before .before .before .write .ensures ∙ sym (ap (λ (x : Result). x .output) e),
+    let ok = passes (a .sheet .now) (a .coefficients .now) (a .coins .now) (a .output .now) (t .result) (t .ensures) (d .before .enum-told .given .1) in (
+      ap (λ (n : ℕ). done (blockCount n)) (d .words-due .ensures .0) ∙ sym (ap (λ (x : Result). x .answer) (ok .result)),
+      c .before .before .before .write .ensures ∙ sym (ap (λ (x : Result). x .output) (ok .result)),
     )
 
 pub prove-spec : {M : Type 1} → statement M

@@ -1,3 +1,4 @@
+-- `reading::after_checks` meets its contract. Assumes nothing.
 use Prim.Native.Nat.{_*_, _≤_}
 use mathlib.Core.Path.{sym}
 use native.Mathlib.Omega.{arith}

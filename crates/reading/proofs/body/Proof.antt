@@ -1,3 +1,4 @@
+-- `reading::body` meets its contract. Assumes nothing.
 use borrow.Author.Needs.{needs}
 use Rattle.outcome.specs.Meaning.{outcomeOf}
 use Rattle.outcome.specs.Answers.{at-place, nowhere}

@@ -1,3 +1,4 @@
+-- `reading::read` meets its contract. Assumes nothing.
 use borrow.Author.Needs.{needs}
 use Rattle.outcome.specs.Answers.{at-place, nowhere}
 use Rattle.reading.proofs.StageLaws.{empty, no-blocks, wrong-check, checks-pass, loads-stream, read-refused, read-loaded}

