@@ -2,7 +2,7 @@
 
 ghost use mathlib.Core.Path.{_≡_};
 ghost use Prim.Native.Nat.{ℕ, _*_, _≤_, _<_};
-ghost use lib.ListN.{length, getD};
+ghost use lib.ListN.{length, getD, take, drop};
 ghost use Rattle.stream.specs.FileWords.{wordAt};
 // What a descriptor gave: so many words, or bytes that are no whole words.
 pub enum Taken {
@@ -39,7 +39,9 @@ pub fn words(fd: i32, words: &mut [u32]) -> Taken {
 }
 
 // The first `count` words, or all.
-pub fn front(words: &[u32], count: usize) -> &[u32] {
+pub fn front(words: &[u32], count: usize) -> &[u32]
+    ensures { λ r. ⌜ now r ≡ take count (now (words .entry)) ⌝ }
+{
     if words.len() < count {
         return words;
     }
@@ -47,15 +49,19 @@ pub fn front(words: &[u32], count: usize) -> &[u32] {
 }
 
 // The words after the first `count`, or none.
-pub fn after(words: &[u32], count: usize) -> &[u32] {
+pub fn after(words: &[u32], count: usize) -> &[u32]
+    ensures { λ r. ⌜ now r ≡ drop count (now (words .entry)) ⌝ }
+{
     if words.len() < count {
         return &words[words.len()..];
     }
     &words[count..]
 }
 
-// The sheet's d0, which says how many coefficients an order has.
-pub fn degree_bound(words: &[u32]) -> usize {
+// The sheet's d0, which says how many coefficients an order has; 0 where the word is missing.
+pub fn degree_bound(words: &[u32]) -> usize
+    ensures { λ r. ⌜ r ≡ getD (now (words .entry)) 2 0 ⌝ }
+{
     if words.len() < 3 {
         return 0;
     }

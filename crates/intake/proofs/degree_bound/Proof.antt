@@ -1,11 +1,13 @@
 -- `intake::degree_bound` meets its contract.
+use mathlib.Core.Path.{sym}
 use native.Mathlib.Omega.{arith}
+use lib.ListN.{List·getD-eq-default}
 use borrow.Author.Needs.{needs}
 use Rattle.intake.proofs.degree_bound.Statement.{statement}
 use Rattle.intake.proofs.degree_bound.Tie as tie
 
 returns : tie.Need-returns
-returns c = search needs
+returns c = sym (List·getD-eq-default (c .before .args .words .now) 0 (omega arith))
 
 shared-slice-read-result : tie.Need-shared-slice-read-result
 shared-slice-read-result c = search needs
