@@ -350,7 +350,7 @@ fn transcript(w: &[u32], pw: &[u32], f: &[u32], coins: &[u32], out: &mut [u32])
 }
 
 // The words of the honest stream, by the table of the points of domain 0: the sheet, table 0, fold coin 0, the rounds, the final coefficients and indices.
-pub fn stream_by(w: &[u32], pw: &[u32], f: &[u32], coins: &[u32], out: &mut [u32])
+fn stream_by(w: &[u32], pw: &[u32], f: &[u32], coins: &[u32], out: &mut [u32])
     requires { ⌜ Allowed (now w) (now f) (now coins) ⌝ }
     requires { ⌜ (Powers (getD (now w) 0 0) (rootOfUnity (sheetOf (now w))) (now pw)) × (length (now pw) ≡ getD (now w) 1 0) ⌝ }
     requires { ⌜ length (now out) ≡ wordsDue (sheetOf (now w)) ⌝ }
