@@ -37,7 +37,7 @@ extern "C" {
 #define TEVROLIG_BLOCK_WORDS 127
 
 /* No file with more blocks is accepted, and no order needs more. */
-#define TEVROLIG_MOST_BLOCKS 68
+#define TEVROLIG_MOST_BLOCKS 67
 
 /* The largest n0: no table has more words, and so no encoding. */
 #define TEVROLIG_MOST_TABLE 4096
@@ -51,7 +51,7 @@ extern "C" {
  *   3      k            a power of two from 2 to 16, at most d0
  *   4      M            0 to 5, with k^(M+1) at most d0
  *   5      s            1 or 2
- *   6..11  t_0 to t_5   t_i is 1 to 64 for i up to M, with t_i + s < d0/k^(i+1) for i below M; past t_M zero
+ *   6..11  t_0 to t_5   t_i is 1 to 48 for i up to M, with t_i + s < d0/k^(i+1) for i below M; past t_M zero
  */
 #define TEVROLIG_SHEET_WORDS 12
 

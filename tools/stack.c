@@ -12,8 +12,8 @@ enum { MOST_BYTES = 65536, MOST_COINS = 1024, STACK = 1 << 22, PAINT = 0xA5 };
 
 /* The longest file of all, and the one with the largest k. */
 static const uint32_t SHEETS[2][TEVROLIG_SHEET_WORDS] = {
-    {2, 4096, 2048, 2, 5, 2, 64, 64, 64, 64, 61, 64},
-    {2, 4096, 2048, 16, 1, 2, 64, 64, 0, 0, 0, 0},
+    {2, 4096, 2048, 2, 5, 2, 48, 48, 48, 48, 48, 48},
+    {2, 4096, 2048, 16, 1, 2, 48, 48, 0, 0, 0, 0},
 };
 
 static uint8_t file[MOST_BYTES];

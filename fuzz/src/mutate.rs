@@ -155,7 +155,7 @@ fn some_word(rng: &mut Rng, old: u32) -> u32 {
         old ^ bit,
     ];
     let elements = [0, 1, 16, any % 17, any % 17, any % 65537, any % 2013265921];
-    let others = [17, 64, 4096, 65537, 2013265921, u32::MAX, any];
+    let others = [17, 48, 49, 64, 4096, 65537, 2013265921, u32::MAX, any];
     match rng.below(5) {
         0 | 1 => rng.pick(&near),
         2 | 3 => rng.pick(&elements),

@@ -5,7 +5,7 @@ use crate::field::Field;
 /// Number of sheet words.
 pub const SHEET_WORDS: usize = 12;
 /// Most shift or final coins of one round.
-pub const MOST_COINS: u32 = 64;
+pub const MOST_COINS: u32 = 48;
 
 /// A sheet without fault.
 #[derive(Debug, Clone, PartialEq, Eq)]

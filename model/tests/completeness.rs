@@ -56,9 +56,9 @@ fn the_largest_honest_files() {
     let mut rng = Rng::new(102);
     // The longest, the heaviest, and five rounds over field 1.
     let sheets = [
-        [2, 4096, 2048, 2, 5, 2, 64, 64, 64, 64, 61, 64],
-        [2, 4096, 2048, 16, 1, 2, 64, 64, 0, 0, 0, 0],
-        [1, 4096, 2048, 2, 5, 1, 64, 64, 64, 64, 62, 64],
+        [2, 4096, 2048, 2, 5, 2, 48, 48, 48, 48, 48, 48],
+        [2, 4096, 2048, 16, 1, 2, 48, 48, 0, 0, 0, 0],
+        [1, 4096, 2048, 2, 5, 1, 48, 48, 48, 48, 48, 48],
         [2, 4096, 512, 4, 2, 2, 36, 27, 22, 0, 0, 0],
     ];
     for sheet in sheets {
@@ -69,7 +69,7 @@ fn the_largest_honest_files() {
             println!("{:?} for {sheet:?}", start.elapsed());
         }
     }
-    assert_eq!(layout(&sheets[0]).blocks(), 68);
+    assert_eq!(layout(&sheets[0]).blocks(), 67);
 }
 
 #[test]

@@ -168,15 +168,23 @@ fn edges() {
     assert_eq!(edge(&[0, 16, 8, 2, 1, 1, 2, 1]), Ok(()));
     assert_eq!(edge(&[0, 16, 8, 2, 1, 1, 3, 1]), Err(6));
     assert_eq!(edge(&[0, 16, 8, 2, 1, 2, 2, 1]), Err(6));
-    assert_eq!(edge(&[0, 4, 2, 2, 0, 1, 64]), Ok(()));
-    assert_eq!(edge(&[0, 4, 2, 2, 0, 1, 65]), Err(6));
+    // Document 02, CR 1: counts end at 48, for the final coins and, where d_1 leaves room, for shift coins.
+    assert_eq!(edge(&[0, 4, 2, 2, 0, 1, 48]), Ok(()));
+    for t in [49, 64, 65] {
+        assert_eq!(edge(&[0, 4, 2, 2, 0, 1, t]), Err(6));
+    }
+    assert_eq!(edge(&[1, 256, 128, 2, 1, 2, 48, 48]), Ok(()));
+    assert_eq!(edge(&[1, 256, 128, 2, 1, 2, 49, 48]), Err(6));
+    assert_eq!(edge(&[1, 256, 128, 2, 1, 2, 48, 49]), Err(7));
     assert_eq!(judged(&[]), "refused 1 0 0");
 
     // The same through whole files.
     let of_sheet = |changes: &[(usize, u32)]| judged(&changed(&hand_file(), changes));
     assert_eq!(of_sheet(&[(1, 32)]), "refused 3 1 0");
     assert_eq!(of_sheet(&[(6, 3)]), "refused 3 6 0");
-    assert_eq!(of_sheet(&[(7, 65)]), "refused 3 7 0");
+    for t in [49, 64, 65] {
+        assert_eq!(of_sheet(&[(7, t)]), "refused 3 7 0");
+    }
 }
 
 #[test]

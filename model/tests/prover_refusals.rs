@@ -84,7 +84,16 @@ fn prove_lengths_10() {
 #[test]
 fn prove_sheet_3() {
     let (coefficients, coins) = request();
-    for (place, word) in [(0, 3), (1, 5), (3, 64), (6, 30), (8, 65), (11, 1)] {
+    for (place, word) in [
+        (0, 3),
+        (1, 5),
+        (3, 64),
+        (6, 30),
+        (8, 49),
+        (8, 64),
+        (8, 65),
+        (11, 1),
+    ] {
         let sheet = with(&TWO_ROUNDS, place, word);
         let expected = (3, place as u64);
         assert_eq!(proved(&sheet, &coefficients, &coins, 5000), expected);

@@ -96,10 +96,13 @@ fn sheet_3() {
         (&[(5, 3)], 5),
         (&[(6, 0)], 6),
         (&[(6, 30)], 6), // 30 + 2 = d_1
+        (&[(6, 49)], 6),
         (&[(6, 65)], 6),
         (&[(6, u32::MAX)], 6),
         (&[(7, 14)], 7), // 14 + 2 = d_2
         (&[(8, 0)], 8),
+        (&[(8, 49)], 8),
+        (&[(8, 64)], 8),
         (&[(8, 65)], 8),
         (&[(9, 1)], 9),
         (&[(10, u32::MAX)], 10),
@@ -124,7 +127,7 @@ fn sheet_3() {
     // The greatest t that are permitted only make another number of blocks due, or none.
     assert_ne!(number(&changed(&file, &[(6, 29)])), 3);
     assert_ne!(number(&changed(&file, &[(7, 13)])), 3);
-    assert_ne!(number(&changed(&file, &[(8, 64)])), 3);
+    assert_ne!(number(&changed(&file, &[(8, 48)])), 3);
 }
 
 #[test]

@@ -77,7 +77,7 @@ impl Order {
 
     fn prove(&self) -> [f64; 3] {
         let (sheet, f, coins) = (&self.sheet, &self.coefficients, &self.coins);
-        let mut outputs = [vec![0; 34816], vec![0; 34816], vec![0; 34816]];
+        let mut outputs = [vec![0; 34304], vec![0; 34304], vec![0; 34304]];
         let [proved, plain, tuned] = &mut outputs;
         let best = least(
             self.calls() / 2 + 1,
@@ -154,8 +154,8 @@ fn main() {
     println!("ratio to Rust      microseconds a call");
     println!("plain tuned     proved     plain     tuned   bytes  sheet");
     let named = [
-        [2, 4096, 2048, 2, 5, 2, 64, 64, 64, 64, 61, 64],
-        [2, 4096, 2048, 16, 1, 2, 64, 64, 0, 0, 0, 0],
+        [2, 4096, 2048, 2, 5, 2, 48, 48, 48, 48, 48, 48],
+        [2, 4096, 2048, 16, 1, 2, 48, 48, 0, 0, 0, 0],
         [2, 4096, 512, 4, 2, 2, 36, 27, 22, 0, 0, 0],
         [2, 1024, 256, 4, 2, 2, 20, 9, 12, 0, 0, 0],
         [1, 256, 128, 4, 2, 2, 9, 5, 7, 0, 0, 0],
@@ -192,7 +192,7 @@ fn main() {
 
     let Some(folder) = folder else { return };
     let by_size = [16, 64, 256, 1024, 4096].map(|n0| [2, n0, 8, 2, 1, 1, 1, 1, 0, 0, 0, 0]);
-    let by_coins = [2, 4, 8, 16, 32, 60].map(|t| [2, 4096, 2048, 16, 1, 2, t, t, 0, 0, 0, 0]);
+    let by_coins = [2, 4, 8, 16, 32, 48].map(|t| [2, 4096, 2048, 16, 1, 2, t, t, 0, 0, 0, 0]);
     let mut rows = [String::new(), String::new(), String::new()];
     let sheets = by_size.iter().map(|sheet| ("n0", sheet[1], sheet));
     let sheets = sheets.chain(by_coins.iter().map(|s| ("tk", s[3] * s[6], s)));

@@ -39,7 +39,7 @@ pub const BLOCK_WORDS: usize = 127;
 pub const SHEET_WORDS: usize = 12;
 
 /// No file with more blocks is accepted, and no order needs more.
-pub const MOST_BLOCKS: usize = 68;
+pub const MOST_BLOCKS: usize = 67;
 
 /// What document 01 calls the words of the sheet.
 const SHEET_NAMES: [&str; SHEET_WORDS] = [

@@ -37,10 +37,10 @@ fn refusals_of_verify() {
             "word 11 of the sheet (t_5) breaks its rule",
         ),
         (
-            Refusal::Blocks { needed: 68 },
+            Refusal::Blocks { needed: 67 },
             4,
-            68,
-            "the number of blocks is not 68, which the sheet needs",
+            67,
+            "the number of blocks is not 67, which the sheet needs",
         ),
         (
             Refusal::Range { word: 12 },

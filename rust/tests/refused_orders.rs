@@ -123,7 +123,11 @@ impl Faulty {
         let at = rng.place(12);
         let mut words = self.sheet.words;
         let old = words[at];
-        words[at] = rng.pick(&[0, 1, 3, 5, 65, 8192, old + 1, old / 2, old * 2, u32::MAX]);
+        let near = [old + 1, old / 2, old * 2];
+        words[at] = match rng.below(3) {
+            0 => rng.pick(&near),
+            _ => rng.pick(&[0, 1, 3, 5, 49, 65, 8192, u32::MAX]),
+        };
         if Sheet::read(&words) != Err(at) {
             words[at] = u32::MAX;
         }

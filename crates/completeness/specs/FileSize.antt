@@ -35,9 +35,9 @@ pub rest-length : (s : ℕ) (b l : Level) (ls : List Level) → length (restLayo
 unfolding restLayout
 rest-length s b l ls = length-append (roundLayout s b l) (restLayout s l ls) ∙ ap (λ (n : ℕ). n + length (restLayout s l ls)) (round-length s b l)
 
--- the words after a fold coin: the tables halve, and each round has at most 70 other words
-rest-size : (s k m i n d t : ℕ) (ts : List ℕ) → s ≤ 2 → t ≤ 64 → All (λ x. x ≤ 64) ts →
-    length (restLayout s (record { number = i; size = n; degree = d; fold = k; repetitions = t }) (levelsFrom (suc i) (n / 2) (d / k) (replicate m k) ts)) ≤ n + 70 * m + d + 64
+-- the words after a fold coin: the tables halve, and each round has at most 54 other words
+rest-size : (s k m i n d t : ℕ) (ts : List ℕ) → s ≤ 2 → t ≤ 48 → All (λ x. x ≤ 48) ts →
+    length (restLayout s (record { number = i; size = n; degree = d; fold = k; repetitions = t }) (levelsFrom (suc i) (n / 2) (d / k) (replicate m k) ts)) ≤ n + 54 * m + d + 48
 unfolding levelsFrom laterCount
 rest-size s k zero i n d t ts hs ht h = let b : Level = record { number = i; size = n; degree = d; fold = k; repetitions = t } in omega (arith, final-size s b)
 rest-size s k (suc m) i n d t [] hs ht h = let b : Level = record { number = i; size = n; degree = d; fold = k; repetitions = t } in omega (arith, final-size s b)
@@ -46,20 +46,20 @@ rest-size s k (suc m) i n d t (x ∷ ts) hs ht h =
     let l : Level = record { number = suc i; size = n / 2; degree = d / k; fold = k; repetitions = x } in
     omega (arith, rest-length s b l (levelsFrom (suc (suc i)) (n / 2 / 2) (d / k / k) (replicate m k) ts), rest-size s k m (suc i) (n / 2) (d / k) x ts hs (h .0) (h .1), div-le-self d k)
 
-small-front : (n : ℕ) (l : List ℕ) → ((i : ℕ) → i < n → getD l i 0 ≤ 64) → All (λ x. x ≤ 64) (take n l)
+small-front : (n : ℕ) (l : List ℕ) → ((i : ℕ) → i < n → getD l i 0 ≤ 48) → All (λ x. x ≤ 48) (take n l)
 small-front zero l h = tt
 small-front (suc n) [] h = tt
 small-front (suc n) (x ∷ l) h = (h 0 (omega arith), small-front n l (λ i u. h (suc i) (omega arith)))
 
-head-small : (l : List ℕ) → All (λ x. x ≤ 64) l → getD l 0 0 ≤ 64
+head-small : (l : List ℕ) → All (λ x. x ≤ 48) l → getD l 0 0 ≤ 48
 head-small [] h = omega arith
 head-small (x ∷ l) h = h .0
 
-tail-small : (l : List ℕ) → All (λ x. x ≤ 64) l → All (λ x. x ≤ 64) (tail l)
+tail-small : (l : List ℕ) → All (λ x. x ≤ 48) l → All (λ x. x ≤ 48) (tail l)
 tail-small [] h = tt
 tail-small (x ∷ l) h = h .1
 
-sheet-size : (w : List ℕ) → sheetTest w ≡ accepted → length (layout (sheetOf w)) ≤ 10656
+sheet-size : (w : List ℕ) → sheetTest w ≡ accepted → length (layout (sheetOf w)) ≤ 10560
 unfolding layout sheetOf firstLevel laterLevels sheetRules outCoinsRule degreeRule
 sheet-size w e =
     let x = exponents w e in
@@ -67,8 +67,8 @@ sheet-size w e =
     let s = between-true 1 2 (getD w 5 0) (h .1 .1 .1 .1 .1 .0) in
     let d = between-true 2 (getD w 1 0 / 2) (getD w 2 0) (and-true (powerOfTwo (getD w 2 0)) _ (h .1 .1 .0) .1) in
     let ts = take (suc (getD w 4 0)) (drop 6 w) in
-    let small : All (λ y. y ≤ 64) ts = small-front (suc (getD w 4 0)) (drop 6 w)
-    (λ i u. subst (λ (y : ℕ). y ≤ 64) (sym (getD-drop 6 w i 0)) (small-repetitions w e i (omega (arith, x .most)))) in
+    let small : All (λ y. y ≤ 48) ts = small-front (suc (getD w 4 0)) (drop 6 w)
+    (λ i u. subst (λ (y : ℕ). y ≤ 48) (sym (getD-drop 6 w i 0)) (small-repetitions w e i (omega (arith, x .most)))) in
     let r = rest-size (getD w 5 0) (getD w 3 0) (getD w 4 0) 0 (getD w 1 0) (getD w 2 0) (getD ts 0 0) (tail ts) (s .1) (head-small ts small) (tail-small ts small) in
     omega (
       arith,

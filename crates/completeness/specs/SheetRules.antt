@@ -129,23 +129,23 @@ pub few-points : (w : List ℕ) → sheetTest w ≡ accepted → (i : ℕ) → i
     getD w (6 + i) 0 + getD w 5 0 < getD w 2 0 / getD w 3 0 ^ suc i
 unfolding repetitionsRule
 few-points w e i l m =
-    ltb-true _ _ (and-true (between 1 64 (getD w (6 + i) 0)) _ (go (ltb i (getD w 4 0)) _ _ (lt-ltb i (getD w 4 0) l) (repetitions-hold w e i (omega arith))) .1)
+    ltb-true _ _ (and-true (between 1 48 (getD w (6 + i) 0)) _ (go (ltb i (getD w 4 0)) _ _ (lt-ltb i (getD w 4 0) l) (repetitions-hold w e i (omega arith))) .1)
   where
     go : (x y z : Bool) → x ≡ true → cond x y z ≡ true → y ≡ true
     go true y z h k = k
     go false y z h k = absurd (true≢false (sym h))
 
--- each repetition word is at most 64
-pub small-repetitions : (w : List ℕ) → sheetTest w ≡ accepted → (i : ℕ) → i < 6 → getD w (6 + i) 0 ≤ 64
+-- each repetition word is at most 48
+pub small-repetitions : (w : List ℕ) → sheetTest w ≡ accepted → (i : ℕ) → i < 6 → getD w (6 + i) 0 ≤ 48
 unfolding repetitionsRule
 small-repetitions w e i l = go (ltb i (getD w 4 0)) (eqb i (getD w 4 0)) _ (repetitions-hold w e i l)
   where
     t : ℕ
     t = getD w (6 + i) 0
 
-    go : (x y v : Bool) → cond x (between 1 64 t && v) (cond y (between 1 64 t) (eqb t 0)) ≡ true → t ≤ 64
-    go true y v k = between-true 1 64 t (and-true (between 1 64 t) v k .0) .1
-    go false true v k = between-true 1 64 t k .1
+    go : (x y v : Bool) → cond x (between 1 48 t && v) (cond y (between 1 48 t) (eqb t 0)) ≡ true → t ≤ 48
+    go true y v k = between-true 1 48 t (and-true (between 1 48 t) v k .0) .1
+    go false true v k = between-true 1 48 t k .1
     go false false v k = let z : t ≡ 0 = eqb-true t 0 k in omega arith
 
 -- a list of 12 words, word by word

@@ -66,7 +66,7 @@ module _ (w : List ℕ) {points samples coefficients : ℕ} (st : Stand) (how : 
   fits-table table e = subst (λ (n : ℕ). Fits points n how (getD w 3 0)) (sym (ap length e ∙ part-length w (st .table) (st .size) (ok .place .table))) (ok .fits)
 
   pub answer-ready : st .level < getD w 4 0 → (table shifts outs replies : List ℕ) → table ≡ tableOf w st → shifts ≡ shiftsOf w st → outs ≡ outsOf w st → replies ≡ repliesOf w st →
-      Fits points (length table) how (getD w 3 0) × (Below (how .step) shifts × ((length replies ≡ length outs) × (length outs + length shifts ≤ 66)))
+      Fits points (length table) how (getD w 3 0) × (Below (how .step) shifts × ((length replies ≡ length outs) × (length outs + length shifts ≤ 50)))
   unfolding shiftsOf outsOf repliesOf
   answer-ready more table shifts outs replies et es eo er =
       let i = round-inside w st (ok .place) more in
@@ -90,12 +90,12 @@ module _ (w : List ℕ) {points samples coefficients : ℕ} (st : Stand) (how : 
 
 -- ---- answers
 
-pub room-most : (n t : ℕ) (g : Gathered) → n ≡ 66 → t ≤ 66 → Room n t g → Room 66 66 g
+pub room-most : (n t : ℕ) (g : Gathered) → n ≡ 50 → t ≤ 50 → Room n t g → Room 50 50 g
 room-most n t Clash e h r = tt
 room-most n t (From k) e h r = (omega arith, omega arith)
 
-pub room-in : (g : Gathered) (j : ℕ) → g ≡ From j → Room 66 66 g → j ≤ 66
-room-in g j e r = let q = subst (Room 66 66) e r in q .1
+pub room-in : (g : Gathered) (j : ℕ) → g ≡ From j → Room 50 50 g → j ≤ 50
+room-in g j e r = let q = subst (Room 50 50) e r in q .1
 
 module _ (w pw xs cs : List ℕ) (st : Stand) (how : Function) {f : Found} where
   pub differing-at : {i : ℕ} → f ≡ At i → Differing w pw xs cs st how (placeOf f) → Differing w pw xs cs st how (some i)
@@ -145,24 +145,24 @@ module _ (w pw xs cs : List ℕ) (st : Stand) (how : Function) (ok : Standing w 
 -- ---- before round 1
 
 module _ (w pw xs : List ℕ) (passed : sheetTest w ≡ accepted) (ranged : rangeTest (sheetOf w) w ≡ accepted) (due : wordsDue (sheetOf w) ≤ length w)
-    (points : Powers (getD w 0 0) (rootOfUnity (sheetOf w)) pw) (size : length pw ≡ getD w 1 0) (none : length xs ≡ 66)
-    (st : Stand) (es : st ≡ firstStand w) (how : Function) (eh : how ≡ firstFunction w 66) where
-  empty : drop 66 xs ≡ []
-  empty = drop-of-length-le xs {i = 66} (omega arith)
+    (points : Powers (getD w 0 0) (rootOfUnity (sheetOf w)) pw) (size : length pw ≡ getD w 1 0) (none : length xs ≡ 50)
+    (st : Stand) (es : st ≡ firstStand w) (how : Function) (eh : how ≡ firstFunction w 50) where
+  empty : drop 50 xs ≡ []
+  empty = drop-of-length-le xs {i = 50} (omega arith)
 
   pub first-ready : Standing w (length pw) (length xs) (length xs) st how × Served w pw xs xs st how
   first-ready = (
     subst (λ (x : Stand). Standing w (length pw) (length xs) (length xs) x how) (sym es)
         (subst (Standing w (length pw) (length xs) (length xs) (firstStand w)) (sym eh)
-        (standing-first w passed due ranged (length pw) (length xs) (length xs) 66 size (omega arith) (omega arith))),
+        (standing-first w passed due ranged (length pw) (length xs) (length xs) 50 size (omega arith) (omega arith))),
     subst (λ (x : Stand). Served w pw xs xs x how) (sym es)
-        (subst (Served w pw xs xs (firstStand w)) (sym eh) (served-first w passed due pw xs xs 66 points empty)),
+        (subst (Served w pw xs xs (firstStand w)) (sym eh) (served-first w passed due pw xs xs 50 points empty)),
   )
 
   pub first-decided : {v : Verdict} → Decided w pw xs xs st how v →
       v ≡ decide (primeField (sheetOf w .prime)) (rootOfUnity (sheetOf w)) (firstLevel (sheetOf w)) (readTranscript (sheetOf w) (drop 12 w))
   first-decided {v} d =
-      first-step w passed due pw xs xs 66 points empty
+      first-step w passed due pw xs xs 50 points empty
       (subst (λ (x : Function). Decided w pw xs xs (firstStand w) x v) eh (subst (λ (x : Stand). Decided w pw xs xs x how v) es d))
 
 module _ (w pw : List ℕ) (passed : sheetTest w ≡ accepted) (ranged : rangeTest (sheetOf w) w ≡ accepted) (due : wordsDue (sheetOf w) ≤ length w)

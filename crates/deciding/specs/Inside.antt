@@ -43,15 +43,15 @@ shifts-below p s b l w h =
 drop-two : (l : List ℕ) → drop 1 (drop 1 l) ≡ drop 2 l
 drop-two l = drop-drop 1 1 l
 
--- a level's reads are at most 64·16
-pub reads-most : (t k : ℕ) → t ≤ 64 → k ≤ 16 → t * k ≤ 1024
+-- a level's reads are at most 48·16
+pub reads-most : (t k : ℕ) → t ≤ 48 → k ≤ 16 → t * k ≤ 768
 reads-most t k ht hk = omega (arith, mul-le-mul-right k ht)
 
 module _ (w : List ℕ) (st : Stand) (ok : Placed w st) where
-  few-coins : repetitionsOf w st ≤ 64
+  few-coins : repetitionsOf w st ≤ 48
   few-coins = ok .sheet .repetitions (st .level) (omega (arith, ok .level, ok .sheet .rounds))
 
-  few-reads : repetitionsOf w st * getD w 3 0 ≤ 1024
+  few-reads : repetitionsOf w st * getD w 3 0 ≤ 768
   few-reads = reads-most (repetitionsOf w st) (getD w 3 0) few-coins (ok .sheet .folds)
 
   pub scale-small : (scale : ℕ) → scale ≡ 2 ^ st .level → scale ≤ 32
@@ -122,8 +122,8 @@ module _ (w : List ℕ) (st : Stand) (ok : Placed w st) where
 pub record FinalInside (w : List ℕ) (st : Stand) : Type 0 where
   pub there : st .at + st .degree / getD w 3 0 + repetitionsOf w st ≤ length w
   pub below : Below (st .size / getD w 3 0) (finalsOf w st)
-  pub few : repetitionsOf w st ≤ 64
-  pub fewer : repetitionsOf w st * getD w 3 0 ≤ 1024
+  pub few : repetitionsOf w st ≤ 48
+  pub fewer : repetitionsOf w st * getD w 3 0 ≤ 768
   pub reads : st .reads ≤ 8192
 
 module _ (w : List ℕ) (st : Stand) (ok : Placed w st) (end : st .level ≡ getD w 4 0) where

@@ -26,7 +26,7 @@ pub record Shaped (w : List ℕ) : Type 0 where
   pub rounds : getD w 4 0 ≤ 5
   pub out : 1 ≤ getD w 5 0
   pub outs : getD w 5 0 ≤ 2
-  pub repetitions : (i : ℕ) → i < 6 → getD w (6 + i) 0 ≤ 64
+  pub repetitions : (i : ℕ) → i < 6 → getD w (6 + i) 0 ≤ 48
 
 -- At a place: the level is one of the sheet's; its table is in the words; the words still to come are there, each in range; and there are not too many reads
 -- to count.
@@ -36,17 +36,17 @@ pub record Placed (w : List ℕ) (st : Stand) : Type 0 where
   pub table : st .table + st .size ≤ length w
   pub here : st .at ≤ length w
   pub words : Begins (primeOf (getD w 0 0)) (restLayout (getD w 5 0) (levelOf w st) (levelsOf w st)) (drop (st .at) w)
-  pub reads : st .reads ≤ 1024 * st .level
+  pub reads : st .reads ≤ 768 * st .level
 
 -- The next round's words are there, its shift indices are below the number of shift points, and the words after it are in range.
 pub record RoundInside (w : List ℕ) (st : Stand) : Type 0 where
   pub there : shiftsAt w st + repetitionsOf w st ≤ length w
   pub below : Below (st .size / getD w 3 0) (shiftsOf w st)
   pub rest : Begins (primeOf (getD w 0 0)) (restLayout (getD w 5 0) (levelOf w (nextStand w st)) (levelsOf w (nextStand w st))) (drop (nextStand w st .at) w)
-  pub few : repetitionsOf w st ≤ 64
+  pub few : repetitionsOf w st ≤ 48
   pub sheet : Shaped w
   pub level : st .level < 5
-  pub fewer : repetitionsOf w st * getD w 3 0 ≤ 1024
+  pub fewer : repetitionsOf w st * getD w 3 0 ≤ 768
   pub reads : st .reads ≤ 8192
 
 -- At a place with a way to work out the level's function: the roots of shift points and their points are in the tables, whose sizes are powers of two. The

@@ -141,7 +141,7 @@ module _ (w pw xs cs : List ℕ) (st : Stand) (how : how.Function) (ok : Standin
 
   -- the place of a difference is that of a final index
   pub place-few : (place : ℕ) → Differing w pw xs cs st how (some place) →
-      Served w pw xs cs st how → place < 64
+      Served w pw xs cs st how → place < 48
   unfolding differences
   place-few place a s =
       let F = fieldOf (getD w 0 0) in

@@ -35,11 +35,11 @@ pub struct Stand {
     pub reads: usize,
 }
 
-// Places for the samples of a round, at most 64 + 2.
-fn room() -> [u32; 66]
-    ensures { λ r. ⌜ length r ≡ 66 ⌝ }
+// Places for the samples of a round, at most 48 + 2.
+fn room() -> [u32; 50]
+    ensures { λ r. ⌜ length r ≡ 50 ⌝ }
 {
-    [0u32; 66]
+    [0u32; 50]
 }
 
 // Places for the values at the roots of a shift point, at most 16.
@@ -77,12 +77,12 @@ fn first_stand(w: &[u32]) -> Stand
 // How table 0 is read: as it is, with no samples.
 fn first_function(w: &[u32]) -> Function
     requires { ⌜ Shaped (now w) ⌝ }
-    ensures { λ r. ⌜ r ≡ firstFunction (now (w .entry)) 66 ⌝ }
+    ensures { λ r. ⌜ r ≡ firstFunction (now (w .entry)) 50 ⌝ }
 {
     Function {
         scale: 1,
         step: w[1] as usize / w[3] as usize,
-        from: 66,
+        from: 50,
         coin: 0,
     }
 }
@@ -175,9 +175,9 @@ fn round_at(
 ) -> Gathered
     requires { ⌜ Standing (now w) (length (now pw)) (length (now xs)) (length (now cs)) stand how ⌝ }
     requires { ⌜ stand .level < getD (now w) 4 0 ⌝ }
-    requires { ⌜ (length (now px) ≡ 66) × (length (now py) ≡ 66) ⌝ }
+    requires { ⌜ (length (now px) ≡ 50) × (length (now py) ≡ 50) ⌝ }
     ensures { λ v. ⌜ Sifted (now (w .entry)) (now (pw .entry)) (now (xs .entry)) (now (cs .entry)) stand how (kept v (now (px .exit)) (now (py .exit))) ⌝ }
-    ensures { λ v. ⌜ Room 66 66 v ⌝ }
+    ensures { λ v. ⌜ Room 50 50 v ⌝ }
 {
     let s = w[5] as usize;
     let t = w[6 + stand.level] as usize;

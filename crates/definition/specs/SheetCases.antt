@@ -8,19 +8,20 @@ use Rattle.definition.specs.WorkedTranscript.{sheetWords, definitions}
 
 -- Each sheet that is refused breaks one rule alone, but for those at the end.
 pub record SheetCases : Type 0 where
-  -- the edges of 01: the smallest sheet; n0 = 32 in field 0; t_0 + s = d_1; t = 65 and t = 64, for i = M and for i below M
+  -- the edges of 01: the smallest sheet; n0 = 32 in field 0; t_0 + s = d_1; t = 65; t = 49 and t = 48 (02, CR 1), for i = M and for i below M
   pub smallest : sheetTest (0 ∷ 4 ∷ 2 ∷ 2 ∷ 0 ∷ 1 ∷ 1 ∷ 0 ∷ 0 ∷ 0 ∷ 0 ∷ 0 ∷ []) ≡ accepted
   pub n0·32 : sheetTest (0 ∷ 32 ∷ 8 ∷ 2 ∷ 1 ∷ 1 ∷ 1 ∷ 1 ∷ 0 ∷ 0 ∷ 0 ∷ 0 ∷ []) ≡ refused 3 1
   pub t0·with·s·is·d1 : sheetTest (0 ∷ 16 ∷ 8 ∷ 2 ∷ 1 ∷ 1 ∷ 3 ∷ 1 ∷ 0 ∷ 0 ∷ 0 ∷ 0 ∷ []) ≡ refused 3 6
   pub t0·with·s·below·d1 : sheetTest (0 ∷ 16 ∷ 8 ∷ 2 ∷ 1 ∷ 1 ∷ 2 ∷ 1 ∷ 0 ∷ 0 ∷ 0 ∷ 0 ∷ []) ≡ accepted
   pub t1·65 : sheetTest (0 ∷ 16 ∷ 8 ∷ 2 ∷ 1 ∷ 1 ∷ 1 ∷ 65 ∷ 0 ∷ 0 ∷ 0 ∷ 0 ∷ []) ≡ refused 3 7
-  pub t1·64 : sheetTest (0 ∷ 16 ∷ 8 ∷ 2 ∷ 1 ∷ 1 ∷ 1 ∷ 64 ∷ 0 ∷ 0 ∷ 0 ∷ 0 ∷ []) ≡ accepted
-  pub t0·65 : sheetTest (1 ∷ 4096 ∷ 1024 ∷ 2 ∷ 1 ∷ 1 ∷ 65 ∷ 1 ∷ 0 ∷ 0 ∷ 0 ∷ 0 ∷ []) ≡ refused 3 6
-  pub t0·64 : sheetTest (1 ∷ 4096 ∷ 1024 ∷ 2 ∷ 1 ∷ 1 ∷ 64 ∷ 1 ∷ 0 ∷ 0 ∷ 0 ∷ 0 ∷ []) ≡ accepted
+  pub t1·49 : sheetTest (0 ∷ 16 ∷ 8 ∷ 2 ∷ 1 ∷ 1 ∷ 1 ∷ 49 ∷ 0 ∷ 0 ∷ 0 ∷ 0 ∷ []) ≡ refused 3 7
+  pub t1·48 : sheetTest (0 ∷ 16 ∷ 8 ∷ 2 ∷ 1 ∷ 1 ∷ 1 ∷ 48 ∷ 0 ∷ 0 ∷ 0 ∷ 0 ∷ []) ≡ accepted
+  pub t0·49 : sheetTest (1 ∷ 4096 ∷ 1024 ∷ 2 ∷ 1 ∷ 1 ∷ 49 ∷ 1 ∷ 0 ∷ 0 ∷ 0 ∷ 0 ∷ []) ≡ refused 3 6
+  pub t0·48 : sheetTest (1 ∷ 4096 ∷ 1024 ∷ 2 ∷ 1 ∷ 1 ∷ 48 ∷ 1 ∷ 0 ∷ 0 ∷ 0 ∷ 0 ∷ []) ≡ accepted
   -- the sheet of the transcript by hand, and sheets of the other fields with the largest words
   pub worked : sheetTest sheetWords ≡ accepted
-  pub most·rounds : sheetTest (1 ∷ 4096 ∷ 2048 ∷ 2 ∷ 5 ∷ 2 ∷ 64 ∷ 64 ∷ 64 ∷ 64 ∷ 61 ∷ 64 ∷ []) ≡ accepted
-  pub largest·fold : sheetTest (2 ∷ 4096 ∷ 2048 ∷ 16 ∷ 0 ∷ 1 ∷ 64 ∷ 0 ∷ 0 ∷ 0 ∷ 0 ∷ 0 ∷ []) ≡ accepted
+  pub most·rounds : sheetTest (1 ∷ 4096 ∷ 2048 ∷ 2 ∷ 5 ∷ 2 ∷ 48 ∷ 48 ∷ 48 ∷ 48 ∷ 48 ∷ 48 ∷ []) ≡ accepted
+  pub largest·fold : sheetTest (2 ∷ 4096 ∷ 2048 ∷ 16 ∷ 0 ∷ 1 ∷ 48 ∷ 0 ∷ 0 ∷ 0 ∷ 0 ∷ 0 ∷ []) ≡ accepted
   -- word 0: there is no field 3
   pub field·3 : sheetTest (3 ∷ 16 ∷ 8 ∷ 2 ∷ 1 ∷ 1 ∷ 1 ∷ 1 ∷ 0 ∷ 0 ∷ 0 ∷ 0 ∷ []) ≡ refused 3 0
   pub field·largest : sheetTest (4294967295 ∷ 16 ∷ 8 ∷ 2 ∷ 1 ∷ 1 ∷ 1 ∷ 1 ∷ 0 ∷ 0 ∷ 0 ∷ 0 ∷ []) ≡ refused 3 0
@@ -54,7 +55,7 @@ pub record SheetCases : Type 0 where
   pub t0·with·two·outs : sheetTest (0 ∷ 16 ∷ 8 ∷ 2 ∷ 1 ∷ 2 ∷ 2 ∷ 1 ∷ 0 ∷ 0 ∷ 0 ∷ 0 ∷ []) ≡ refused 3 6
   pub t1·with·s·is·d2 : sheetTest (1 ∷ 32 ∷ 16 ∷ 2 ∷ 2 ∷ 1 ∷ 6 ∷ 3 ∷ 1 ∷ 0 ∷ 0 ∷ 0 ∷ []) ≡ refused 3 7
   pub t1·with·s·below·d2 : sheetTest (1 ∷ 32 ∷ 16 ∷ 2 ∷ 2 ∷ 1 ∷ 6 ∷ 2 ∷ 1 ∷ 0 ∷ 0 ∷ 0 ∷ []) ≡ accepted
-  pub t0·at·M·unbounded·by·d : sheetTest (0 ∷ 4 ∷ 2 ∷ 2 ∷ 0 ∷ 1 ∷ 64 ∷ 0 ∷ 0 ∷ 0 ∷ 0 ∷ 0 ∷ []) ≡ accepted
+  pub t0·at·M·unbounded·by·d : sheetTest (0 ∷ 4 ∷ 2 ∷ 2 ∷ 0 ∷ 1 ∷ 48 ∷ 0 ∷ 0 ∷ 0 ∷ 0 ∷ 0 ∷ []) ≡ accepted
   -- d_2 = 2 lets no t_1 be: refused at t_1, whatever it holds
   pub no·t1·fits : sheetTest (0 ∷ 16 ∷ 8 ∷ 2 ∷ 2 ∷ 1 ∷ 1 ∷ 1 ∷ 1 ∷ 0 ∷ 0 ∷ 0 ∷ []) ≡ refused 3 7
   pub no·t1·fits·0 : sheetTest (0 ∷ 16 ∷ 8 ∷ 2 ∷ 2 ∷ 1 ∷ 1 ∷ 0 ∷ 1 ∷ 0 ∷ 0 ∷ 0 ∷ []) ≡ refused 3 7
@@ -72,7 +73,7 @@ pub record SheetCases : Type 0 where
   pub words·2·and·5 : sheetTest (0 ∷ 16 ∷ 16 ∷ 2 ∷ 1 ∷ 3 ∷ 1 ∷ 1 ∷ 0 ∷ 0 ∷ 0 ∷ 0 ∷ []) ≡ refused 3 2
   pub words·3·and·4 : sheetTest (0 ∷ 16 ∷ 8 ∷ 1 ∷ 6 ∷ 1 ∷ 1 ∷ 1 ∷ 0 ∷ 0 ∷ 0 ∷ 0 ∷ []) ≡ refused 3 3
   pub words·4·and·6 : sheetTest (0 ∷ 16 ∷ 8 ∷ 2 ∷ 3 ∷ 1 ∷ 0 ∷ 1 ∷ 0 ∷ 0 ∷ 0 ∷ 0 ∷ []) ≡ refused 3 4
-  pub words·6·and·7 : sheetTest (0 ∷ 16 ∷ 8 ∷ 2 ∷ 1 ∷ 1 ∷ 3 ∷ 65 ∷ 0 ∷ 0 ∷ 0 ∷ 0 ∷ []) ≡ refused 3 6
+  pub words·6·and·7 : sheetTest (0 ∷ 16 ∷ 8 ∷ 2 ∷ 1 ∷ 1 ∷ 3 ∷ 49 ∷ 0 ∷ 0 ∷ 0 ∷ 0 ∷ []) ≡ refused 3 6
 
 pub sheetCases : SheetCases
 unfolding definitions
@@ -82,9 +83,10 @@ sheetCases = record {
   t0·with·s·is·d1 = refl;
   t0·with·s·below·d1 = refl;
   t1·65 = refl;
-  t1·64 = refl;
-  t0·65 = refl;
-  t0·64 = refl;
+  t1·49 = refl;
+  t1·48 = refl;
+  t0·49 = refl;
+  t0·48 = refl;
   worked = refl;
   most·rounds = refl;
   largest·fold = refl;

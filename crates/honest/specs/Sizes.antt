@@ -24,7 +24,7 @@ pub record Sizes (w : List ℕ) (i scale count points : ℕ) : Type 0 where
   pub folds : getD w 3 0 ≤ 16
   pub rounds : getD w 4 0 ≤ 5
   pub outs : outsOf w ≤ 2
-  pub repetitions : repetitionsOf w i ≤ 64
+  pub repetitions : repetitionsOf w i ≤ 48
   pub points-most : points ≤ 4096
   pub some-points : 0 < points
   pub divides : count ≡ getD w 3 0 * (count / getD w 3 0)

@@ -169,11 +169,11 @@ fn round(
     after_table(w[0], g, &coins[..s], &coins[s..s + 2 + t], &mut out[n..]);
 }
 
-// Places for the points of a round, at most 2 + 64.
-fn points_room() -> [u32; 66]
-    ensures { λ r. ⌜ length r ≡ 66 ⌝ }
+// Places for the points of a round, at most 2 + 48.
+fn points_room() -> [u32; 50]
+    ensures { λ r. ⌜ length r ≡ 50 ⌝ }
 {
-    [0u32; 66]
+    [0u32; 50]
 }
 
 // The corrected polynomial of the next level, where g holds the round's polynomial. What g holds afterwards is of no use.
@@ -258,7 +258,7 @@ fn fold_length(w: &[u32], n: usize) -> usize
 
 // The number of coins of the round after a level: the out coins, the combination coin, the fold coin and the shift indices.
 fn round_coins(w: &[u32], level: usize) -> usize
-    requires { ⌜ (length (now w) ≡ 12) × ((level < 6) × ((getD (now w) 5 0 ≤ 2) × (getD (now w) (6 + level) 0 ≤ 64))) ⌝ }
+    requires { ⌜ (length (now w) ≡ 12) × ((level < 6) × ((getD (now w) 5 0 ≤ 2) × (getD (now w) (6 + level) 0 ≤ 48))) ⌝ }
     ensures { λ r. ⌜ r ≡ getD (now (w .entry)) 5 0 + 2 + getD (now (w .entry)) (6 + level) 0 ⌝ }
 {
     w[5] as usize + 2 + w[6 + level] as usize
@@ -266,7 +266,7 @@ fn round_coins(w: &[u32], level: usize) -> usize
 
 // The number of its words: the table, a reply to each out coin, and the coins.
 fn round_words(w: &[u32], points: usize, level: usize, scale: usize) -> usize
-    requires { ⌜ (length (now w) ≡ 12) × ((level < 6) × ((getD (now w) 5 0 ≤ 2) × (getD (now w) (6 + level) 0 ≤ 64))) ⌝ }
+    requires { ⌜ (length (now w) ≡ 12) × ((level < 6) × ((getD (now w) 5 0 ≤ 2) × (getD (now w) (6 + level) 0 ≤ 48))) ⌝ }
     requires { ⌜ (0 < scale) × ((scale ≤ 32) × (points / (2 * scale) ≤ 4096)) ⌝ }
     ensures { λ r. ⌜ r ≡ points / (2 * scale) + getD (now (w .entry)) 5 0 + getD (now (w .entry)) 5 0 + 2 + getD (now (w .entry)) (6 + level) 0 ⌝ }
 {

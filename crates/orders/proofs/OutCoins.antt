@@ -80,7 +80,7 @@ module _ (w : List ℕ) where
 pub record AtRound (w coins : List ℕ) (points rounds s at scale i : ℕ) : Type 0 where
   pub all : rounds ≡ getD w 4 0
   pub few : rounds ≤ 5
-  pub most : length coins ≤ 405
+  pub most : length coins ≤ 309
   pub outs : s ≡ getD w 5 0
   pub within : i ≤ rounds
   pub scaled : scale ≡ 2 ^ i
@@ -132,7 +132,7 @@ module _ {w coins : List ℕ} {points rounds s at scale i : ℕ} (r : AtRound w 
     pub round-there : at + (s + 2 + t) ≤ length coins
     round-there = omega (arith, r .there, round-left)
 
-    pub round-small : at + (s + 2 + t) ≤ 405
+    pub round-small : at + (s + 2 + t) ≤ 309
     round-small = omega (arith, round-there, r .most)
 
     by-rounds : firstOf w (coinsAfter w i) coins at

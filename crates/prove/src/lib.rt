@@ -14,10 +14,10 @@ ghost use Rattle.completeness.specs.Numbered.{Allowed};
 ghost use Rattle.outcome.specs.Meaning.{answerOf};
 
 // Places for the words of the longest stream.
-fn room() -> [u32; 8636]
-    ensures { λ r. ⌜ length r ≡ 8636 ⌝ }
+fn room() -> [u32; 8509]
+    ensures { λ r. ⌜ length r ≡ 8509 ⌝ }
 {
-    [0u32; 8636]
+    [0u32; 8509]
 }
 
 // Writes the honest file at the front of the output, by way of the stream's words.

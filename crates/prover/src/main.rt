@@ -19,7 +19,7 @@ fn main() {
 fn order(words: &[u32]) {
     let rest = intake::after(words, 12);
     let degree = intake::degree_bound(words);
-    let mut output = [0u8; 34816];
+    let mut output = [0u8; 34304];
     let answer = prove::prove(
         intake::front(words, 12),
         intake::front(rest, degree),
@@ -36,7 +36,7 @@ fn order(words: &[u32]) {
     }
 }
 
-// Writes so many blocks of the output, which has 68.
+// Writes so many blocks of the output, which has 67.
 fn send(output: &[u8], blocks: usize) {
     if blocks <= output.len() / 512 {
         io::write_all(STDOUT_FILENO, &output[..512 * blocks]);

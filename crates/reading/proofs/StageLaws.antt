@@ -110,7 +110,7 @@ module _ {words : List ℕ} {blocks : ℕ} {w : List ℕ} (one : 1 ≤ blocks) (
         let e : due ≡ blockCount (wordsDue (sheetOf w)) = is ∙ ap (λ (n : ℕ). blockCount n) (ap wordsDue sheet-is) in
         sym (rw (sym e, ne-eqb blocks due differs)) ∙ to-body
 
-    pub whole : (due : ℕ) → due ≡ blockCount (wordsDue (sheetOf (take 12 words))) → blocks ≡ due → due ≤ 68 → {o : Outcome} →
+    pub whole : (due : ℕ) → due ≡ blockCount (wordsDue (sheetOf (take 12 words))) → blocks ≡ due → due ≤ 67 → {o : Outcome} →
         o ≡ (rangeTest (sheetOf (take (127 * blocks) words)) (take (127 * blocks) words) then fillTest (sheetOf (take (127 * blocks) words)) (take (127 * blocks) words)) →
         o ≡ streamTests blocks w
     unfolding bodyTests blocksTest refuseIf _then_

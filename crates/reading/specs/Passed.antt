@@ -45,9 +45,9 @@ module _ (file : List ℕ) (e : reading file ≡ accepted) where
   words-there = omega (arith, passed file e .blocks, stream-length file)
 
   -- no more blocks than are loaded
-  pub few-blocks : length file / 512 ≤ 68
+  pub few-blocks : length file / 512 ≤ 67
   few-blocks = few (length file / 512) (stream-length file) (passed file e .blocks)
     where
-      few : (blocks : ℕ) → length (streamOf file) ≡ 127 * blocks → blocks ≡ blockCount (wordsDue (sheetOf (streamOf file))) → blocks ≤ 68
+      few : (blocks : ℕ) → length (streamOf file) ≡ 127 * blocks → blocks ≡ blockCount (wordsDue (sheetOf (streamOf file))) → blocks ≤ 67
       few zero l n = omega arith
       few (suc m) l n = omega (arith, n, blocks-most (streamOf file) (omega arith) (passed file e .sheet))

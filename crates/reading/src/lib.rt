@@ -31,7 +31,7 @@ fn body(w: &[u32]) -> Outcome
 
 // Refusals 3 to 6, of a file in so many blocks whose words are loaded. Only the first 12 words are looked at before the sheet passes.
 fn after_checks(words: &[u32], blocks: usize) -> Outcome
-    requires { ⌜ (127 * min blocks 69 ≤ length (now words)) × (1 ≤ blocks) ⌝ }
+    requires { ⌜ (127 * min blocks 68 ≤ length (now words)) × (1 ≤ blocks) ⌝ }
     ensures { λ r. ⌜ ((w : List ℕ) → Loads (now (words .entry)) blocks w → outcomeOf r ≡ streamTests blocks w) ⌝ }
 {
     let head = &words[..12];
@@ -48,7 +48,7 @@ fn after_checks(words: &[u32], blocks: usize) -> Outcome
 
 // Reads a file of any length and content. Where it is accepted, the words of its stream stand at the front of the places lent.
 pub fn read(file: &[u8], words: &mut [u32]) -> Outcome
-    requires { ⌜ 127 * min (length (now file) / 512) 69 ≤ length (now words) ⌝ }
+    requires { ⌜ 127 * min (length (now file) / 512) 68 ≤ length (now words) ⌝ }
     ensures { λ r. ⌜ Read (now (file .entry)) r (now (words .exit)) ⌝ }
 {
     if file.len() == 0 {

@@ -74,16 +74,16 @@ rounds-by-logs w a b h ek ed =
     let ep : 2 ^ (a * (m + 1)) ≡ getD w 3 0 ^ suc m = ap (λ (x : ℕ). 2 ^ (a * x)) (add-one m) ∙ sym (pow-pow 2 a (suc m)) ∙ ap (λ (x : ℕ). x ^ suc m) (sym ek) in
     compare-logs (a * (m + 1)) b ∙ (λ i. leb (ep i) (sym ed i)) ∙ simp (le-leb m 5 h)
 
--- t_i: past M, out of 1 to 64, at M, before M
+-- t_i: past M, out of 1 to 48, at M, before M
 pub past-last : (w : List ℕ) (i : ℕ) → getD w 4 0 < i → eqb (getD w (6 + i) 0) 0 ≡ repetitionsRule w i
 unfolding repetitionsRule
 past-last w i h = simp (le-ltb i (getD w 4 0) (omega arith), ne-eqb i (getD w 4 0) (λ e. omega arith))
 
-pub at-last : (w : List ℕ) (i : ℕ) → i ≡ getD w 4 0 → between 1 64 (getD w (6 + i) 0) ≡ true → true ≡ repetitionsRule w i
+pub at-last : (w : List ℕ) (i : ℕ) → i ≡ getD w 4 0 → between 1 48 (getD w (6 + i) 0) ≡ true → true ≡ repetitionsRule w i
 unfolding repetitionsRule
 at-last w i e h = simp (le-ltb i (getD w 4 0) (omega arith), eq-eqb i (getD w 4 0) e, h)
 
-pub before-last : (w : List ℕ) (i d : ℕ) → i ≤ getD w 4 0 → (i ≡ getD w 4 0 → ⊥) → between 1 64 (getD w (6 + i) 0) ≡ true →
+pub before-last : (w : List ℕ) (i d : ℕ) → i ≤ getD w 4 0 → (i ≡ getD w 4 0 → ⊥) → between 1 48 (getD w (6 + i) 0) ≡ true →
     d ≡ getD w 2 0 / getD w 3 0 ^ (i + 1) → ltb (getD w (6 + i) 0 + getD w 5 0) d ≡ repetitionsRule w i
 unfolding repetitionsRule
 before-last w i d l n h e =
@@ -91,13 +91,13 @@ before-last w i d l n h e =
     let ed : d ≡ getD w 2 0 / getD w 3 0 ^ suc i = e ∙ ap (λ (x : ℕ). getD w 2 0 / getD w 3 0 ^ x) (add-one i) in
     ap (ltb (getD w (6 + i) 0 + getD w 5 0)) ed ∙ simp (lt-ltb i (getD w 4 0) less, h)
 
-pub out-of-range : (w : List ℕ) (i : ℕ) → i ≤ getD w 4 0 → between 1 64 (getD w (6 + i) 0) ≡ false → false ≡ repetitionsRule w i
+pub out-of-range : (w : List ℕ) (i : ℕ) → i ≤ getD w 4 0 → between 1 48 (getD w (6 + i) 0) ≡ false → false ≡ repetitionsRule w i
 unfolding repetitionsRule
 out-of-range w i l h = go (ltb i (getD w 4 0)) refl
   where
     go : (b : Bool) → ltb i (getD w 4 0) ≡ b → false ≡ cond b
-        (between 1 64 (getD w (6 + i) 0) && ltb (getD w (6 + i) 0 + getD w 5 0) (getD w 2 0 / getD w 3 0 ^ suc i))
-        (cond (eqb i (getD w 4 0)) (between 1 64 (getD w (6 + i) 0)) (eqb (getD w (6 + i) 0) 0))
+        (between 1 48 (getD w (6 + i) 0) && ltb (getD w (6 + i) 0 + getD w 5 0) (getD w 2 0 / getD w 3 0 ^ suc i))
+        (cond (eqb i (getD w 4 0)) (between 1 48 (getD w (6 + i) 0)) (eqb (getD w (6 + i) 0) 0))
     go true e = simp h
     go false e = let z : i ≡ getD w 4 0 = omega (arith, ltb-false i (getD w 4 0) e) in simp (eq-eqb i (getD w 4 0) z, h)
 

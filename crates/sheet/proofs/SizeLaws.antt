@@ -17,7 +17,7 @@ pub record Counted (w : List ℕ) (m s k n d due i total : ℕ) : Type 0 where
   pub within : i ≤ m
   pub few : m ≤ 5
   pub fold : 2 ≤ k
-  pub most : total ≤ 8636
+  pub most : total ≤ 8509
   pub sum : due + wordsAfter s k w (m - i) (6 + i) n d ≡ total
 
 pub words-start : (w : List ℕ) → 12 ≤ length w → sheetTest w ≡ accepted →
@@ -37,7 +37,7 @@ words-start w long passed =
       );
     }
 
-pub words-fit : {w : List ℕ} {m s k n d due i total : ℕ} → Counted w m s k n d due i total → i < m → due + roundWords (n / 2) s (getD w (6 + i) 0) ≤ 8636
+pub words-fit : {w : List ℕ} {m s k n d due i total : ℕ} → Counted w m s k n d due i total → i < m → due + roundWords (n / 2) s (getD w (6 + i) 0) ≤ 8509
 words-fit {w} {m} {s} {k} {n} {d} {due} {i} c h = omega (arith, c .sum, c .most, words-round s w k m i n d h)
 
 pub words-turn : {w : List ℕ} {m s k n d due i total r : ℕ} → Counted w m s k n d due i total → i < m → r ≡ roundWords (n / 2) s (getD w (6 + i) 0) →
@@ -57,7 +57,7 @@ words-done {w} {m} {s} {k} {n} {d} {due} {i} c h = omega (arith, c .sum, words-e
 pub record CountedCoins (w : List ℕ) (m s due i total : ℕ) : Type 0 where
   pub within : i ≤ m
   pub few : m ≤ 5
-  pub most : total ≤ 405
+  pub most : total ≤ 309
   pub sum : due + coinsAfter s w (m - i) (6 + i) ≡ total
 
 pub coins-start : (w : List ℕ) → 12 ≤ length w → sheetTest w ≡ accepted → CountedCoins w (getD w 4 0) (getD w 5 0) 1 0 (length (coinKinds (layout (sheetOf w))))
@@ -71,7 +71,7 @@ coins-start w long passed =
       sum = omega (arith, coins-due-sum w long (r .rounds), ap (λ (x : ℕ). coinsAfter (getD w 5 0) w x 6) (sub-zero m));
     }
 
-pub coins-fit : {w : List ℕ} {m s due i total : ℕ} → CountedCoins w m s due i total → i < m → due + (s + 2 + getD w (6 + i) 0) ≤ 405
+pub coins-fit : {w : List ℕ} {m s due i total : ℕ} → CountedCoins w m s due i total → i < m → due + (s + 2 + getD w (6 + i) 0) ≤ 309
 coins-fit {w} {m} {s} {due} {i} c h = omega (arith, c .sum, c .most, coins-of-round s w m i h)
 
 pub coins-turn : {w : List ℕ} {m s due i total : ℕ} → CountedCoins w m s due i total → i < m → CountedCoins w m s (due + (s + 2 + getD w (6 + i) 0)) (i + 1) total

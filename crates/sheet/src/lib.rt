@@ -134,7 +134,7 @@ fn degree_at(d: u32, k: u32, i: u32) -> u32
     d >> (log2(k) * i)
 }
 
-// Word 6 + i, t_i: 1 to 64 for i up to M, and t_i + s < d_(i+1) for i below M; past t_M zero.
+// Word 6 + i, t_i: 1 to 48 for i up to M, and t_i + s < d_(i+1) for i below M; past t_M zero.
 fn repetitions_rule(w: &[u32], i: u32) -> bool
     requires { ⌜ (12 ≤ length (now w)) × ((i < 6) × (Shape (now w))) ⌝ }
     ensures { λ r. ⌜ r ≡ repetitionsRule (now (w .entry)) i ⌝ }
@@ -144,7 +144,7 @@ fn repetitions_rule(w: &[u32], i: u32) -> bool
     if m < i {
         return t == 0;
     }
-    if !between(1, 64, t) {
+    if !between(1, 48, t) {
         return false;
     }
     if i == m {
@@ -196,7 +196,7 @@ pub fn broken(w: &[u32]) -> Found
 
 // The words of a round whose table has n words, after a level with t repetitions: table, out coins, replies, combination coin, fold coin, shift indices.
 fn round_words(n: usize, s: usize, t: usize) -> usize
-    requires { ⌜ roundWords n s t ≤ 8636 ⌝ }
+    requires { ⌜ roundWords n s t ≤ 8509 ⌝ }
     ensures { λ r. ⌜ r ≡ roundWords n s t ⌝ }
 {
     n + 2 * s + 2 + t
@@ -205,7 +205,7 @@ fn round_words(n: usize, s: usize, t: usize) -> usize
 // The number of words that a sheet makes due, its own included. At each level n is the domain's size and d the degree bound.
 pub fn words_due(w: &[u32]) -> usize
     requires { ⌜ (12 ≤ length (now w)) × (sheetTest (now w) ≡ accepted) ⌝ }
-    ensures { λ r. ⌜ (r ≡ wordsDue (sheetOf (now (w .entry)))) × (r ≤ 8636) ⌝ }
+    ensures { λ r. ⌜ (r ≡ wordsDue (sheetOf (now (w .entry)))) × (r ≤ 8509) ⌝ }
 {
     let rounds = w[4] as usize;
     let s = w[5] as usize;
@@ -228,7 +228,7 @@ pub fn words_due(w: &[u32]) -> usize
 // The number of blocks of 127 words that they fill.
 pub fn blocks_due(w: &[u32]) -> usize
     requires { ⌜ (12 ≤ length (now w)) × (sheetTest (now w) ≡ accepted) ⌝ }
-    ensures { λ r. ⌜ (r ≡ blockCount (wordsDue (sheetOf (now (w .entry))))) × ((1 ≤ r) × (r ≤ 68)) ⌝ }
+    ensures { λ r. ⌜ (r ≡ blockCount (wordsDue (sheetOf (now (w .entry))))) × ((1 ≤ r) × (r ≤ 67)) ⌝ }
 {
     (words_due(w) + 126) / 127
 }

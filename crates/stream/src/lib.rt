@@ -51,17 +51,17 @@ fn take_block(file: &[u8], b: usize, words: &mut [u32], at: usize) -> bool
     word(file, from + 508) as u64 == sum % 4294967291
 }
 
-// Where the words of block b go: one block after the other, and all from number 68 on to the same place,
-// since no file of more than 68 blocks is accepted and only their checks count.
+// Where the words of block b go: one block after the other, and all from number 67 on to the same place,
+// since no file of more than 67 blocks is accepted and only their checks count.
 fn place(b: usize) -> usize
-    ensures { λ r. ⌜ r ≡ 127 * min b 68 ⌝ }
+    ensures { λ r. ⌜ r ≡ 127 * min b 67 ⌝ }
 {
-    if b < 68 { 127 * b } else { 8636 }
+    if b < 67 { 127 * b } else { 8509 }
 }
 
-// Reads a file in one pass: checks each block up to the first that is wrong, and stores the words. There are places for the file's blocks, up to 69.
+// Reads a file in one pass: checks each block up to the first that is wrong, and stores the words. There are places for the file's blocks, up to 68.
 pub fn load(file: &[u8], words: &mut [u32]) -> Found
-    requires { ⌜ 127 * min (length (now file) / 512) 69 ≤ length (now words) ⌝ }
+    requires { ⌜ 127 * min (length (now file) / 512) 68 ≤ length (now words) ⌝ }
     ensures { λ r. ⌜ Loaded (now (file .entry)) r (now (words .exit)) ⌝ }
 {
     let blocks = file.len() / 512;

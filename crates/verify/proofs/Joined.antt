@@ -37,7 +37,7 @@ module _ (file : List ℕ) {r : Outcome} {words : List ℕ} (read : Read file r 
     stream : take (127 * (length file / 512)) words ≡ streamOf file
     stream = read .stream passes
 
-    pub few : 127 * (length file / 512) ≤ 8763
+    pub few : 127 * (length file / 512) ≤ 8636
     few = omega (arith, few-blocks file passes)
 
     pub handed : Handed (take (127 * (length file / 512)) words)

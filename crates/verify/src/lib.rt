@@ -7,11 +7,11 @@ ghost use lib.ListN.{length};
 ghost use Rattle.definition.specs.Verify.{verify};
 ghost use Rattle.outcome.specs.Meaning.{verdictOf};
 
-// Places for the words of the largest file that can be accepted, 68 blocks, and one block more.
-fn room() -> [u32; 8763]
-    ensures { λ r. ⌜ length r ≡ 8763 ⌝ }
+// Places for the words of the largest file that can be accepted, 67 blocks, and one block more.
+fn room() -> [u32; 8636]
+    ensures { λ r. ⌜ length r ≡ 8636 ⌝ }
 {
-    [0u32; 8763]
+    [0u32; 8636]
 }
 
 // Places for the words of 8 blocks.
@@ -23,7 +23,7 @@ fn small_room() -> [u32; 1016]
 
 // The verdict on a file, by way of the places lent.
 fn judge(file: &[u8], words: &mut [u32]) -> Verdict
-    requires { ⌜ 127 * min (length (now file) / 512) 69 ≤ length (now words) ⌝ }
+    requires { ⌜ 127 * min (length (now file) / 512) 68 ≤ length (now words) ⌝ }
     ensures { λ r. ⌜ verdictOf r ≡ verify (now (file .entry)) ⌝ }
 {
     let read = reading::read(file, words);

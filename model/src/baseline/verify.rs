@@ -6,8 +6,8 @@ use crate::{Outcome, Verdict};
 
 const BLOCK_WORDS: usize = 127;
 const CHECK_MODULUS: u64 = 4294967291;
-/// Most samples of a round: 64 shift points and 2 out coins.
-const MOST_SAMPLES: usize = 66;
+/// Most samples of a round: 48 shift points and 2 out coins.
+const MOST_SAMPLES: usize = 50;
 /// Most roots of a shift point.
 const MOST_ROOTS: usize = 16;
 

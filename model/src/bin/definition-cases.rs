@@ -8,6 +8,7 @@ use std::env;
 use std::io::{self, BufWriter, Write};
 use std::process::ExitCode;
 use tevrolig_model::generate::{aim, coefficients, coins, damage, honest_file, sheet_over, Rng};
+use tevrolig_model::sheet::MOST_COINS;
 use tevrolig_model::{line, verify, Outcome};
 
 fn main() -> ExitCode {
@@ -49,7 +50,7 @@ fn small(rng: &mut Rng) -> Vec<u8> {
         // The one shape of field 0 that has a round: t_0 + s < 4.
         let outs = 1 + rng.below(2) as u32;
         let shifts = 1 + rng.below(u64::from(3 - outs)) as u32;
-        let finals = 1 + rng.below(64) as u32;
+        let finals = 1 + rng.below(u64::from(MOST_COINS)) as u32;
         small_counts(rng, [0, 16, 8, 2, 1, outs, shifts, finals, 0, 0, 0, 0])
     });
     if rng.one_in(3) {
@@ -72,7 +73,11 @@ fn small(rng: &mut Rng) -> Vec<u8> {
 /// A file of field 1 without rounds that is refused with a number up to 6.
 fn before_arithmetic(rng: &mut Rng, wide: bool) -> Vec<u8> {
     let file = honest(rng, |rng| {
-        let (n0, d0, finals) = if wide { (64, 32, 64) } else { (16, 8, 6) };
+        let (n0, d0, finals) = if wide {
+            (64, 32, MOST_COINS)
+        } else {
+            (16, 8, 6)
+        };
         let finals = finals - rng.below(6) as u32;
         [1, n0, d0, 2, 0, 1, finals, 0, 0, 0, 0, 0]
     });

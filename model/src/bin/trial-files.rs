@@ -58,13 +58,20 @@ fn files() -> Vec<(String, Vec<u8>)> {
         }
     }
 
-    // Edges of the sheet: the smallest; n0 = 32 in field 0; t_0 + s = d_1; t = 65.
+    // Edges of the sheet: the smallest; n0 = 32 in field 0; t_0 + s = d_1; t = 65, and t = 48 and 49 (document 02, CR 1).
     let smallest = [0, 4, 2, 2, 0, 1, 1, 0, 0, 0, 0, 0];
     let mut rng = Rng::new(9);
     let given = coefficients(&mut rng, &smallest);
     let few = coins(&mut rng, &smallest, false);
     files.push(("smallest".into(), honest_file(&smallest, &given, &few)));
-    for (name, word, value) in [("n0-32", 1, 32), ("t0-with-s", 6, 3), ("t1-65", 7, 65)] {
+    let edges = [
+        ("n0-32", 1, 32),
+        ("t0-with-s", 6, 3),
+        ("t1-65", 7, 65),
+        ("t1-49", 7, 49),
+        ("t1-48", 7, 48),
+    ];
+    for (name, word, value) in edges {
         let mut file = worked(&[]);
         write_word(&mut file, word, value);
         generate::rewrite_checks(&mut file);
@@ -73,8 +80,8 @@ fn files() -> Vec<(String, Vec<u8>)> {
 
     // The largest sheets, honest.
     let largest: [[u32; 12]; 3] = [
-        [2, 4096, 2048, 2, 5, 2, 64, 64, 64, 64, 61, 64],
-        [2, 4096, 2048, 16, 1, 2, 64, 64, 0, 0, 0, 0],
+        [2, 4096, 2048, 2, 5, 2, 48, 48, 48, 48, 48, 48],
+        [2, 4096, 2048, 16, 1, 2, 48, 48, 0, 0, 0, 0],
         [2, 4096, 512, 4, 2, 2, 36, 27, 22, 0, 0, 0],
     ];
     for (i, sheet) in largest.iter().enumerate() {

@@ -168,7 +168,7 @@ impl<'a> Target<'a> {
         let place = self.rng.place(SHEET_WORDS);
         let mut words = self.sheet.words;
         let (old, any) = (words[place], self.rng.word());
-        let values = [0, 1, 2, 3, 5, 6, 12, 32, 65, 8192, any];
+        let values = [0, 1, 2, 3, 5, 6, 12, 32, 49, 65, 8192, any];
         let near = [old + 1, old.wrapping_sub(1), old / 2, old * 2];
         words[place] = match self.rng.below(3) {
             0 => self.rng.pick(&near),

@@ -1,4 +1,4 @@
--- `sheet::blocks_due` meets its contract. A division of at most 8636 words. Assumes nothing.
+-- `sheet::blocks_due` meets its contract. A division of at most 8509 words. Assumes nothing.
 use native.Mathlib.Omega.{arith}
 use mathlib.Core.Path.{ap}
 use borrow.Author.Needs.{needs}

@@ -1,4 +1,4 @@
--- `sheet::repetitions_rule` meets its contract. One law for each exit: past M, out of 1 to 64, at M, below M. Assumes nothing.
+-- `sheet::repetitions_rule` meets its contract. One law for each exit: past M, out of 1 to 48, at M, below M. Assumes nothing.
 use native.Mathlib.Omega.{arith}
 use borrow.Author.Needs.{needs}
 use Rattle.completeness.specs.SheetRules.{between-true}
@@ -34,7 +34,7 @@ shared-slice-read-result : tie.Need-shared-slice-read-result
 shared-slice-read-result c = search needs
 
 add-result : tie.Need-add-result
-add-result c = let s = c .before .before .before .before .before .before .before .before in omega (arith, between-true 1 64 _ (held (c .before .before .before .between .ensures) (c .before .before .if2 .left)), out-coins-small _ (s .pre .1 .1 .outCoins))
+add-result c = let s = c .before .before .before .before .before .before .before .before in omega (arith, between-true 1 48 _ (held (c .before .before .before .between .ensures) (c .before .before .if2 .left)), out-coins-small _ (s .pre .1 .1 .outCoins))
 
 shared-slice-read-degree-at : tie.Need-shared-slice-read-degree-at
 shared-slice-read-degree-at c = search needs

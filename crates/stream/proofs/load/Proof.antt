@@ -24,9 +24,9 @@ use Rattle.stream.proofs.load.Tie as tie
 Searching : List ℕ → ℕ → Type 0
 Searching file b = firstTrue b (wrongChecks b (drop b (fileBlocks file))) ≡ firstTrue 0 (wrongChecks 0 (fileBlocks file))
 
--- the words of the blocks before block b, up to 68 of them
+-- the words of the blocks before block b, up to 67 of them
 Holding : List ℕ → ℕ → List ℕ → Type 0
-Holding file b words = take (127 * min b 68) words ≡ take (127 * min b 68) (streamOf file)
+Holding file b words = take (127 * min b 67) words ≡ take (127 * min b 67) (streamOf file)
 
 module _ (file : List ℕ) (b : ℕ) where
   found-here : (words : List ℕ) {r : Bool} → b < length file / 512 → r ≡ rightCheck b (getD (fileBlocks file) b []) → not r ≡ true → Searching file b
@@ -45,25 +45,25 @@ module _ (file : List ℕ) (b : ℕ) where
       let n : b < length (fileBlocks file) = omega (arith, blocks-count file) in
       wrong-later (fileBlocks file) b n (sym e ∙ not-false r t) ∙ s
 
-  -- block b is stored behind those before it, or, from number 68 on, behind the first 68
-  hold-more : (l : List ℕ) {o : List ℕ} {at : ℕ} → b < length file / 512 → 127 * min (length file / 512) 69 ≤ length l → at ≡ 127 * min b 68
+  -- block b is stored behind those before it, or, from number 67 on, behind the first 67
+  hold-more : (l : List ℕ) {o : List ℕ} {at : ℕ} → b < length file / 512 → 127 * min (length file / 512) 68 ≤ length l → at ≡ 127 * min b 67
       → o ≡ overwrite l at (blockWords file b) → Holding file b l → Holding file (b + 1) o
   unfolding Holding
-  hold-more l {o} {at} h n e q w = ⊎-elim (λ z. above (omega arith)) (λ z. below (omega arith)) (eq-zero-or-pos (68 - b))
+  hold-more l {o} {at} h n e q w = ⊎-elim (λ z. above (omega arith)) (λ z. below (omega arith)) (eq-zero-or-pos (67 - b))
     where
-      below : b < 68 → take (127 * min (b + 1) 68) o ≡ take (127 * min (b + 1) 68) (streamOf file)
+      below : b < 67 → take (127 * min (b + 1) 67) o ≡ take (127 * min (b + 1) 67) (streamOf file)
       below k =
-          let m : min b 68 ≡ b = omega arith in
+          let m : min b 67 ≡ b = omega arith in
           let j : 127 * b + length (blockWords file b) ≡ 127 * (b + 1) = omega (arith, block-words-length file b h) in
-          let i : min (b + 1) 68 ≡ b + 1 = omega arith in
+          let i : min (b + 1) 67 ≡ b + 1 = omega arith in
           let f = overwrite-front l (127 * b) (blockWords file b) (omega (arith, n)) in
           let g = ap (λ (y : List ℕ). y ++ blockWords file b) (rw m at w) in
           rw (i, q, e, m) ((rw j at f) ∙ g ∙ stream-next file b h)
 
-      above : 68 ≤ b → take (127 * min (b + 1) 68) o ≡ take (127 * min (b + 1) 68) (streamOf file)
+      above : 67 ≤ b → take (127 * min (b + 1) 67) o ≡ take (127 * min (b + 1) 67) (streamOf file)
       above k =
-          let m : min (b + 1) 68 ≡ min b 68 = omega arith in
-          rw m (rw (q, e) (overwrite-before l (127 * min b 68) (blockWords file b) (omega (arith, n)) (127 * min b 68) (le-refl _) ∙ w))
+          let m : min (b + 1) 67 ≡ min b 67 = omega arith in
+          rw m (rw (q, e) (overwrite-before l (127 * min b 67) (blockWords file b) (omega (arith, n)) (127 * min b 67) (le-refl _) ∙ w))
 
 -- all blocks read
 all-right : (file : List ℕ) (b : ℕ) (words : List ℕ) → b ≡ length file / 512 → Searching file b → Holding file b words → Loaded file Nothing words
@@ -73,8 +73,8 @@ all-right file b words e s w =
       checked = sym (wrong-nowhere (fileBlocks file) b (omega (arith, blocks-count file))) ∙ s;
       front =
           λ q m h k.
-          let t : 127 * m ≤ 127 * min b 68 = omega arith in
-          sym (take-take (127 * m) (127 * min b 68) words t) ∙ ap (take (127 * m)) w ∙ take-take (127 * m) (127 * min b 68) (streamOf file) t;
+          let t : 127 * m ≤ 127 * min b 67 = omega arith in
+          sym (take-take (127 * m) (127 * min b 67) words t) ∙ ap (take (127 * m)) w ∙ take-take (127 * m) (127 * min b 67) (streamOf file) t;
     }
 
 abbrev Inv-loop : tie.InvT-loop
