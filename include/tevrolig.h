@@ -125,12 +125,14 @@ uint32_t tevrolig_encode(const uint32_t *sheet, size_t sheet_length, const uint3
                          size_t coefficients_length, uint32_t *output, size_t output_length, uint64_t *value);
 
 /* The operations of a field, given by its number as in word 0 of the sheet. They take a and b modulo p first, so any
- * words will do; an exponent is taken as it is. 0 to the power 0 is 1, and the inverse of 0 is 0. Each answers 1 and
- * writes the element, a word below p, or answers 0 where the number names no field; `element` is then 0. */
+ * words will do; an exponent is taken as it is. 0 to the power 0 is 1. Each answers 1 and writes the element, a word
+ * below p, or answers 0 where the number names no field; `element` is then 0. */
 uint32_t tevrolig_sum(uint32_t field, uint32_t a, uint32_t b, uint32_t *element);
 uint32_t tevrolig_difference(uint32_t field, uint32_t a, uint32_t b, uint32_t *element);
 uint32_t tevrolig_product(uint32_t field, uint32_t a, uint32_t b, uint32_t *element);
 uint32_t tevrolig_power(uint32_t field, uint32_t a, uint32_t exponent, uint32_t *element);
+
+/* The inverse likewise, except that there is none where a is 0 modulo p: it then answers 2, and `element` is 0. */
 uint32_t tevrolig_inverse(uint32_t field, uint32_t a, uint32_t *element);
 
 #ifdef __cplusplus

@@ -116,17 +116,18 @@ fn told(answer: Result<usize, tevrolig::OrderRefusal>) -> model::Answer {
 
 /// The operations of both; neither answers an element where the number names no field.
 fn elements([number, a, b]: [u32; 3]) {
-    let archive = Field::new(number).map_or([None; 5], |field| {
+    let archive = Field::new(number);
+    let elements = archive.map_or([None; 4], |field| {
         let (sum, difference) = (field.sum(a, b), field.difference(a, b));
-        let (product, power) = (field.product(a, b), field.power(a, b));
-        [sum, difference, product, power, field.inverse(a)].map(Some)
+        [sum, difference, field.product(a, b), field.power(a, b)].map(Some)
     });
     let model = [
         field::sum(number, a, b),
         field::difference(number, a, b),
         field::product(number, a, b),
         field::power(number, a, b),
-        field::inverse(number, a),
     ];
-    assert_eq!(archive, model);
+    assert_eq!(elements, model);
+    let inverse = archive.map(|field| field.inverse(a));
+    assert_eq!(inverse, field::inverse(number, a));
 }

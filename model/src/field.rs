@@ -48,8 +48,8 @@ impl Field {
         })
     }
 
-    /// The inverse by the extended Euclidean algorithm; that of 0 is 0.
-    pub fn inv(self, a: u64) -> u64 {
+    /// The inverse by the extended Euclidean algorithm; there is none for 0.
+    pub fn inv(self, a: u64) -> Option<u64> {
         // Kept: factor * a = remainder (modulo p) for both pairs.
         let (mut remainder, mut next_remainder) = (self.p as i64, a as i64);
         let (mut factor, mut next_factor) = (0_i64, 1_i64);
@@ -59,11 +59,12 @@ impl Field {
             (factor, next_factor) = (next_factor, factor - quotient * next_factor);
         }
         // The greatest common divisor is 1, except p itself when a is 0.
-        if remainder == 1 {
-            factor.rem_euclid(self.p as i64) as u64
-        } else {
-            0
-        }
+        (remainder == 1).then(|| factor.rem_euclid(self.p as i64) as u64)
+    }
+
+    /// a / b, where b is not 0.
+    pub fn div(self, a: u64, b: u64) -> u64 {
+        self.mul(a, self.inv(b).expect("a divisor other than 0"))
     }
 
     /// Any word, taken modulo p.
@@ -97,8 +98,8 @@ pub fn power(field: u32, a: u32, exponent: u32) -> Option<u32> {
     Some(f.pow(f.element(a), u64::from(exponent)) as u32)
 }
 
-/// The inverse of a; 0 for every multiple of p.
-pub fn inverse(field: u32, a: u32) -> Option<u32> {
+/// The inverse of a, where there is one; for every multiple of p there is none.
+pub fn inverse(field: u32, a: u32) -> Option<Option<u32>> {
     let f = Field::numbered(field)?;
-    Some(f.inv(f.element(a)) as u32)
+    Some(f.inv(f.element(a)).map(|found| found as u32))
 }

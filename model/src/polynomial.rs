@@ -68,7 +68,7 @@ pub fn interpolate(field: Field, pairs: &Pairs) -> Vec<u64> {
     let mut answer = vec![0; pairs.len()];
     for (&a, &value) in pairs {
         let (basis, _) = divide(field, &all, &[field.sub(0, a), 1]);
-        let scale = field.mul(value, field.inv(evaluate(field, &basis, a)));
+        let scale = field.div(value, evaluate(field, &basis, a));
         for (total, &c) in answer.iter_mut().zip(&basis) {
             *total = field.add(*total, field.mul(scale, c));
         }
@@ -88,7 +88,7 @@ pub fn interpolate_at(field: Field, points: &[u64], values: &[u64], x: u64) -> u
                 below = field.mul(below, field.sub(a, b));
             }
         }
-        total = field.add(total, field.mul(above, field.inv(below)));
+        total = field.add(total, field.div(above, below));
     }
     total
 }

@@ -206,7 +206,7 @@ impl Transcript {
             let below = pairs
                 .keys()
                 .fold(1, |product, &a| field.mul(product, field.sub(x, a)));
-            let quotient = field.mul(above, field.inv(below));
+            let quotient = field.div(above, below);
             field.mul(quotient, correction_at(field, c, x, pairs.len()))
         };
         let points = self.subgroup.domain(i).into_iter();

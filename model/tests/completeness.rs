@@ -99,7 +99,7 @@ fn hostile_coins_are_met() {
             outs[0] == outs[1],
             shifts[0] == shifts[1] || shifts[1] == shifts[2],
             c == 0,
-            subgroup.domain(1).contains(&inverse_of_c),
+            inverse_of_c.is_some_and(|x| subgroup.domain(1).contains(&x)),
         ];
         for (count, fact) in met.iter_mut().zip(facts) {
             *count += usize::from(fact);

@@ -15,7 +15,8 @@ use std::fmt::{self, Display, Formatter};
 /// assert_eq!(field.difference(0, 1), 16);
 /// assert_eq!(field.product(100, 2), 200 % 17);
 /// assert_eq!(field.power(3, 16), 1);
-/// assert_eq!(field.product(5, field.inverse(5)), 1);
+/// assert_eq!(field.inverse(5).map(|u| field.product(5, u)), Some(1));
+/// assert_eq!(field.inverse(0), None);
 /// assert_eq!(field.to_string(), "field 0 (p = 17)");
 /// ```
 #[derive(Debug, Clone, Copy, PartialEq, Eq, Hash)]
@@ -72,14 +73,14 @@ impl Field {
         self.apply(archive::tevrolig_power, a, exponent)
     }
 
-    /// The inverse of a; that of 0 is 0.
+    /// The inverse of a; there is none exactly for 0.
     #[must_use]
-    pub fn inverse(self, a: u32) -> u32 {
+    pub fn inverse(self, a: u32) -> Option<u32> {
         let mut element = 0;
         // SAFETY: as the archive's module says.
-        let named = unsafe { archive::tevrolig_inverse(self.0, a, &mut element) };
-        debug_assert_eq!(named, 1);
-        element
+        let answer = unsafe { archive::tevrolig_inverse(self.0, a, &mut element) };
+        debug_assert_ne!(answer, 0);
+        (answer == 1).then_some(element)
     }
 
     /// The element of an operation on two words. It finds its field, since a number that names none makes no `Field`.

@@ -51,8 +51,8 @@ fn operations(number: u32, a: u32, b: u32) {
         "{what}"
     );
     assert_eq!(Some(field.inverse(a)), field::inverse(number, a), "{what}");
-    let one = u32::from(modulo(x) != 0);
-    assert_eq!(field.product(a, field.inverse(a)), one, "{what}");
+    let one = field.inverse(a).map(|found| field.product(a, found));
+    assert_eq!(one, (modulo(x) != 0).then_some(1), "{what}");
 }
 
 #[test]
@@ -109,7 +109,29 @@ fn powers_of_whole_numbers() {
         // An exponent is not reduced by p: where it is p itself, the power is the element.
         assert_eq!((field.power(3, p), field.power(3, p - 1)), (3, 1));
         assert_eq!((field.power(0, 0), field.power(p, 0)), (1, 1));
-        assert_eq!((field.inverse(0), field.inverse(p)), (0, 0));
+    }
+}
+
+#[test]
+fn no_inverse_for_zero() {
+    let answer = |number, a| {
+        let mut element = 7;
+        // The operation writes one word.
+        let told = unsafe { tevrolig_inverse(number, a, &mut element) };
+        (told, element)
+    };
+    for (number, p) in (0..).zip(PRIMES) {
+        let field = Field::new(number).unwrap();
+        for a in [0, p, 2 * p] {
+            assert_eq!((answer(number, a), field.inverse(a)), ((2, 0), None));
+        }
+        for a in [1, p + 1] {
+            assert_eq!((answer(number, a), field.inverse(a)), ((1, 1), Some(1)));
+        }
+        assert_eq!(answer(number, p - 1), (1, p - 1));
+    }
+    for a in [0, 1, 17, u32::MAX] {
+        assert_eq!(answer(3, a), (0, 0));
     }
 }
 

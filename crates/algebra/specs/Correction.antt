@@ -2,7 +2,7 @@
 use mathlib.Core.Path.{_≡_, sym, ap, _∙_}
 use mathlib.Core.List.{List}
 use lib.ListN.{length}
-use Rattle.definition.specs.Field.{Field}
+use Rattle.definition.specs.Field.{Field, reciprocal}
 use Rattle.definition.specs.Polynomial.{Sample, points, evaluate, subPoly, vanishing, interpolate, quotient, geometric, correctedValue, correctedPoly}
 use Rattle.algebra.specs.ListFacts.{All, all-map₂}
 use Rattle.algebra.specs.Laws.{FieldLaws}
@@ -15,7 +15,7 @@ use Rattle.algebra.specs.Interpolation.{all-of-points, interpolate-throu
 module _ {A : Type 0} (F : Field A) (L : FieldLaws F) where
   infixl 65 _⊖_
   infixl 70 _⊗_
-  open Field F using (𝟘, _⊖_, _⊗_, inverse)
+  open Field F using (𝟘, _⊖_, _⊗_)
   open FieldLaws L using (reduce, mul-comm, mul-assoc, mul-one, mul-inverse)
 
   pub corrected : (ps : List (Sample A)) (c : A) (f : List A) (x : A) → Apart F (points ps) →
@@ -32,12 +32,12 @@ module _ {A : Type 0} (F : Field A) (L : FieldLaws F) where
       roots : All (λ a. evaluate F (subPoly F f (interpolate F ps)) a ≡ 𝟘) (points ps)
       roots = all-of-points (λ a. evaluate F (subPoly F f (interpolate F ps)) a ≡ 𝟘) ps (all-map₂ ps values (interpolate-through F L ps apart) meets)
 
-      exact : (q v : A) → (reduce v ≡ 𝟘 → ⊥) → (v ⊗ q) ⊗ inverse v ≡ reduce q
+      exact : (q v : A) → (reduce v ≡ 𝟘 → ⊥) → (v ⊗ q) ⊗ reciprocal F v ≡ reduce q
       exact q v k = rw (mul-comm v q, mul-assoc, mul-inverse v k, mul-one)
 
-      divided : (evaluate F f x ⊖ evaluate F (interpolate F ps) x) ⊗ inverse (evaluate F (vanishing F (points ps)) x)
+      divided : (evaluate F f x ⊖ evaluate F (interpolate F ps) x) ⊗ reciprocal F (evaluate F (vanishing F (points ps)) x)
           ≡ evaluate F (quotient F (subPoly F f (interpolate F ps)) (points ps)) x
       divided =
-          ap (λ (v : A). v ⊗ inverse (evaluate F (vanishing F (points ps)) x))
+          ap (λ (v : A). v ⊗ reciprocal F (evaluate F (vanishing F (points ps)) x))
           (sym (evaluate-sub F L f (interpolate F ps) x) ∙ quotient-exact F L (subPoly F f (interpolate F ps)) (points ps) apart roots x)
           ∙ exact _ _ (λ k. vanishing-nonzero F L (points ps) x off (sym (reduce-evaluate F L _ _) ∙ k)) ∙ reduce-evaluate F L _ x

@@ -3,7 +3,7 @@ use Prim.Native.Nat.{_≤_}
 use mathlib.Core.Path.{_≡_, sym, _∙_}
 use mathlib.Core.List.{List, [], _∷_}
 use lib.ListN.{length}
-use Rattle.definition.specs.Field.{Field}
+use Rattle.definition.specs.Field.{Field, reciprocal}
 use Rattle.definition.specs.Polynomial.{Sample, points, evaluate, subPoly, vanishing, interpolate}
 use Rattle.algebra.specs.ListFacts.{All, all-map, all-map₂, all-of-map, all-in-map}
 use Rattle.algebra.specs.Laws.{FieldLaws}
@@ -21,13 +21,13 @@ all-of-points P ps h = all-of-map P (λ p. p .point) ps h
 module _ {A : Type 0} (F : Field A) (L : FieldLaws F) where
   infixl 65 _⊕_ _⊖_
   infixl 70 _⊗_
-  open Field F using (𝟘, _⊕_, _⊖_, _⊗_, inverse)
+  open Field F using (𝟘, _⊕_, _⊖_, _⊗_)
   open FieldLaws L using (reduce, add-comm, mul-comm, mul-assoc, add-zero, mul-one, mul-zero, add-reduce, mul-inverse)
 
   -- Newton's step at a point: the new sample is met, and where the other points vanish nothing changes
   pub interpolate-cons : (p : Sample A) (ps : List (Sample A)) (x : A) →
       evaluate F (interpolate F (p ∷ ps)) x
-      ≡ evaluate F (interpolate F ps) x ⊕ ((p .value ⊖ evaluate F (interpolate F ps) (p .point)) ⊗ inverse (evaluate F (vanishing F (points ps)) (p .point))) ⊗ evaluate F (vanishing F (points ps)) x
+      ≡ evaluate F (interpolate F ps) x ⊕ ((p .value ⊖ evaluate F (interpolate F ps) (p .point)) ⊗ reciprocal F (evaluate F (vanishing F (points ps)) (p .point))) ⊗ evaluate F (vanishing F (points ps)) x
   unfolding interpolate
   interpolate-cons p ps x = evaluate-add F L (interpolate F ps) _ x ∙ rw (evaluate-scale F L)
 
@@ -37,8 +37,8 @@ module _ {A : Type 0} (F : Field A) (L : FieldLaws F) where
       interpolate-cons p ps (p .point)
       ∙ newton-step (evaluate F (interpolate F ps) (p .point)) (p .value) (evaluate F (vanishing F (points ps)) (p .point)) (λ e. h (sym (reduce-evaluate F L _ _) ∙ e))
     where
-      newton-step : (q y v : A) → (reduce v ≡ 𝟘 → ⊥) → q ⊕ ((y ⊖ q) ⊗ inverse v) ⊗ v ≡ reduce y
-      newton-step q y v k = rw (mul-assoc, mul-comm (inverse v) v, mul-inverse v k, mul-one, add-reduce, add-comm, sub-add F L)
+      newton-step : (q y v : A) → (reduce v ≡ 𝟘 → ⊥) → q ⊕ ((y ⊖ q) ⊗ reciprocal F v) ⊗ v ≡ reduce y
+      newton-step q y v k = rw (mul-assoc, mul-comm (reciprocal F v) v, mul-inverse v k, mul-one, add-reduce, add-comm, sub-add F L)
 
   pub interpolate-tail : (p : Sample A) (ps : List (Sample A)) (x : A) → evaluate F (vanishing F (points ps)) x ≡ 𝟘 →
       evaluate F (interpolate F (p ∷ ps)) x ≡ evaluate F (interpolate F ps) x

@@ -2,7 +2,8 @@
 -- spells. The commutative, associative and distributive laws hold of every spelling, and a unit law gives the reduced one.
 use mathlib.Core.Path.{_≡_, refl, sym, ap, _∙_}
 use mathlib.Core.Bool.{true}
-use Rattle.definition.specs.Field.{Field}
+use mathlib.Core.Option.{none, some}
+use Rattle.definition.specs.Field.{Field, reciprocal}
 
 pub record FieldLaws {A : Type 0} (F : Field A) : Type 0 where
   pub reduce : A → A
@@ -25,7 +26,9 @@ pub record FieldLaws {A : Type 0} (F : Field A) : Type 0 where
   pub equal-refl : (x : A) → F .equal x x ≡ true
   pub equal-true : (x y : A) → F .equal x y ≡ true → x ≡ y
   pub one≢zero : F .𝟙 ≡ F .𝟘 → ⊥
-  pub mul-inverse : (x : A) → (reduce x ≡ F .𝟘 → ⊥) → F ._⊗_ x (F .inverse x) ≡ F .𝟙
+  pub mul-inverse : (x : A) → (reduce x ≡ F .𝟘 → ⊥) → F ._⊗_ x (reciprocal F x) ≡ F .𝟙
+  pub inverse-found : (x : A) → (reduce x ≡ F .𝟘 → ⊥) → F .inverse x ≡ some (reciprocal F x)
+  pub inverse-none : (x : A) → reduce x ≡ F .𝟘 → F .inverse x ≡ none
 
 -- An ordinary field: every element has one spelling.
 pub record OrdinaryField {A : Type 0} (F : Field A) : Type 0 where
@@ -38,7 +41,9 @@ pub record OrdinaryField {A : Type 0} (F : Field A) : Type 0 where
   pub mul-one : (x : A) → F ._⊗_ x (F .𝟙) ≡ x
   pub mul-add : (x y z : A) → F ._⊗_ x (F ._⊕_ y z) ≡ F ._⊕_ (F ._⊗_ x y) (F ._⊗_ x z)
   pub one≢zero : F .𝟙 ≡ F .𝟘 → ⊥
-  pub mul-inverse : (x : A) → (x ≡ F .𝟘 → ⊥) → F ._⊗_ x (F .inverse x) ≡ F .𝟙
+  pub mul-inverse : (x : A) → (x ≡ F .𝟘 → ⊥) → F ._⊗_ x (reciprocal F x) ≡ F .𝟙
+  pub inverse-found : (x : A) → (x ≡ F .𝟘 → ⊥) → F .inverse x ≡ some (reciprocal F x)
+  pub inverse-none : (x : A) → x ≡ F .𝟘 → F .inverse x ≡ none
   pub equal-refl : (x : A) → F .equal x x ≡ true
   pub equal-true : (x y : A) → F .equal x y ≡ true → x ≡ y
 
@@ -46,7 +51,7 @@ module _ {A : Type 0} (F : Field A) (O : OrdinaryField F) where
   infixl 65 _⊕_ _⊖_
   infixl 70 _⊗_
   open Field F using (𝟘, _⊕_, _⊖_, _⊗_)
-  open OrdinaryField O using (add-comm, add-assoc, add-zero, sub-add, mul-comm, mul-assoc, mul-one, mul-add, one≢zero, mul-inverse, equal-refl, equal-true)
+  open OrdinaryField O using (add-comm, add-assoc, add-zero, sub-add, mul-comm, mul-assoc, mul-one, mul-add, one≢zero, mul-inverse, inverse-found, inverse-none, equal-refl, equal-true)
 
   add-cancel : (x y z : A) → x ⊕ z ≡ y ⊕ z → x ≡ y
   add-cancel x y z e =
@@ -81,4 +86,6 @@ module _ {A : Type 0} (F : Field A) (O : OrdinaryField F) where
     equal-true = equal-true;
     one≢zero = one≢zero;
     mul-inverse = mul-inverse;
+    inverse-found = inverse-found;
+    inverse-none = inverse-none;
   }

@@ -6,13 +6,13 @@ use native.Mathlib.Nat.{not-suc-le-zero}
 use native.Mathlib.Omega.{arith}
 use lib.ListN.{length, drop, length-map}
 use Rattle.definition.specs.Lists.{chunks}
-use Rattle.definition.specs.Field.{Field}
+use Rattle.definition.specs.Field.{Field, reciprocal}
 use Rattle.definition.specs.Polynomial.{Sample, points, evaluate, scale, addPoly, subPoly, mulPoly, vanishing, interpolate, horner, divide, quotient, geometric, foldPoly, correctedPoly}
 
 module _ {A : Type 0} (F : Field A) where
   infixl 65 _⊖_
   infixl 70 _⊗_
-  open Field F using (𝟘, 𝟙, _⊖_, _⊗_, inverse)
+  open Field F using (𝟘, 𝟙, _⊖_, _⊗_)
 
   pub length-scale : (a : A) (f : List A) → length (scale F a f) ≡ length f
   unfolding scale
@@ -78,7 +78,7 @@ module _ {A : Type 0} (F : Field A) where
   length-interpolate [] = refl
   length-interpolate (p ∷ ps) =
       length-add (interpolate F ps) _
-      ∙ omega (arith, length-interpolate ps, length-scale ((p .value ⊖ evaluate F (interpolate F ps) (p .point)) ⊗ inverse (evaluate F (vanishing F (points ps)) (p .point))) (vanishing F (points ps)), length-vanishing (points ps), length-points ps)
+      ∙ omega (arith, length-interpolate ps, length-scale ((p .value ⊖ evaluate F (interpolate F ps) (p .point)) ⊗ reciprocal F (evaluate F (vanishing F (points ps)) (p .point))) (vanishing F (points ps)), length-vanishing (points ps), length-points ps)
 
   pub length-corrected : (ps : List (Sample A)) (c : A) (f : List A) → length ps < length f → length (correctedPoly F ps c f) ≡ length f
   unfolding correctedPoly

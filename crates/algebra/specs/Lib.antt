@@ -23,3 +23,5 @@ pub mod Primes
 pub mod Fermat
 pub mod PowerBySquaring
 pub mod PrimeField
+pub mod Divisors
+pub mod PublicInverse

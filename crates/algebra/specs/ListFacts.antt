@@ -17,7 +17,7 @@ pub all-map₂ : {A : Type 0} {P Q R : A → Type 0} (xs : List A) → All P xs 
 all-map₂ [] h k e = tt
 all-map₂ (x ∷ xs) h k e = (e x (h .0) (k .0), all-map₂ xs (h .1) (k .1) e)
 
--- a property of each image, of each element, of both parts, of each number in a range
+-- a property of each image, of each element, of every one, of both parts, of each number in a range
 pub all-of-map : {A B : Type 0} (P : B → Type 0) (f : A → B) (xs : List A) → All (λ x. P (f x)) xs → All P (map f xs)
 all-of-map P f [] h = tt
 all-of-map P f (x ∷ xs) h = (h .0, all-of-map P f xs (h .1))
@@ -25,6 +25,10 @@ all-of-map P f (x ∷ xs) h = (h .0, all-of-map P f xs (h .1))
 pub all-in-map : {A B : Type 0} (P : B → Type 0) (f : A → B) (xs : List A) → All P (map f xs) → All (λ x. P (f x)) xs
 all-in-map P f [] h = tt
 all-in-map P f (x ∷ xs) h = (h .0, all-in-map P f xs (h .1))
+
+pub everywhere : {A : Type 0} {P : A → Type 0} (xs : List A) → ((x : A) → P x) → All P xs
+everywhere [] h = tt
+everywhere (x ∷ xs) h = (h x, everywhere xs h)
 
 pub all-append : {A : Type 0} (P : A → Type 0) (xs ys : List A) → All P xs → All P ys → All P (xs ++ ys)
 all-append P [] ys h k = k

@@ -6,7 +6,8 @@ use native.Mathlib.Omega.{arith}
 use mathlib.Core.Path.{_≡_, refl, sym, ap, _∙_, subst}
 use mathlib.Core.Bool.{Bool, true, false}
 use lib.Dec.{eqb, eqb→eq, eqb-refl, T, lit<}
-use Rattle.definition.specs.Field.{primeField, power, fieldOf, primeOf, generatorOf}
+use borrow.Author.Tests.{eq-eqb, ne-eqb}
+use Rattle.definition.specs.Field.{primeField, foundOr, reciprocal, power, fieldOf, primeOf, generatorOf}
 use Rattle.algebra.specs.Laws.{FieldLaws}
 use Rattle.algebra.specs.ModularArithmetic.{mod-mul, mul-mod, pow-mod, pow-pow, power-is}
 use Rattle.algebra.specs.Primes.{Prime, prime₁₇, prime₆₅₅₃₇, prime₂₀₁₃₂₆₅₉₂₁}
@@ -17,6 +18,11 @@ use Rattle.algebra.specs.RootsOfUnity.{minusOne}
 T-true : (b : Bool) → T b → b ≡ true
 T-true true t = refl
 T-true false t = absurd t
+
+-- where there is an inverse, it is x^(p-2)
+found-value : (p x : ℕ) → (x % p ≡ 0 → ⊥) → reciprocal (primeField p) x ≡ x ^ (p - 2) % p
+unfolding primeField reciprocal foundOr
+found-value p x h = simp (ne-eqb (x % p) 0 h)
 
 pub prime-field : (p : ℕ) → Prime p → FieldLaws (primeField p)
 unfolding primeField
@@ -41,7 +47,9 @@ prime-field p prime = record {
   equal-refl = λ x. T-true (eqb x x) (eqb-refl x);
   equal-true = λ x y e. eqb→eq x y (subst (λ (b : Bool). T b) (sym e) tt);
   one≢zero = λ e. let z : _≡_ {A = ℕ} 1 0 = e in omega arith;
-  mul-inverse = fermat-inverse p prime;
+  mul-inverse = λ x h. ap (λ (y : ℕ). x * y % p) (found-value p x h) ∙ fermat-inverse p prime x h;
+  inverse-found = λ x h. rw (found-value p x h) (simp (ne-eqb (x % p) 0 h));
+  inverse-none = λ x h. simp (eq-eqb (x % p) 0 h);
 }
   where
     below : (x : ℕ) → 0 + (p - x % p) + x % p ≡ p

@@ -3,13 +3,13 @@
 use mathlib.Core.Path.{_≡_, sym, ap, ap₂, _∙_, _≡⟨_⟩_, _∎}
 use Prim.Native.Nat.{ℕ, zero, suc, _+_}
 use native.Mathlib.Nat as N
-use Rattle.definition.specs.Field.{Field, power}
+use Rattle.definition.specs.Field.{Field, power, reciprocal}
 use Rattle.algebra.specs.Laws.{FieldLaws}
 
 module _ {A : Type 0} (F : Field A) (L : FieldLaws F) where
   infixl 65 _⊕_ _⊖_
   infixl 70 _⊗_
-  open Field F using (𝟘, 𝟙, _⊕_, _⊖_, _⊗_, inverse)
+  open Field F using (𝟘, 𝟙, _⊕_, _⊖_, _⊗_)
   open FieldLaws L using (reduce, add-comm, add-assoc, mul-comm, mul-assoc, mul-add, add-zero, mul-one, mul-zero, sub-def, neg-add, mul-inverse)
   open FieldLaws L using (reduce-one, reduce-add, reduce-mul, add-reduce)
 
@@ -75,8 +75,8 @@ module _ {A : Type 0} (F : Field A) (L : FieldLaws F) where
   cancel t u h e =
       reduce u ≡⟨ sym (mul-one u) ⟩
       u ⊗ 𝟙 ≡⟨ ap (λ (v : A). u ⊗ v) (sym (mul-inverse t h)) ⟩
-      u ⊗ (t ⊗ inverse t) ≡⟨ sym (mul-assoc u t (inverse t)) ∙ ap (λ (v : A). v ⊗ inverse t) (mul-comm u t ∙ e) ⟩
-      𝟘 ⊗ inverse t ≡⟨ zero-mul (inverse t) ⟩
+      u ⊗ (t ⊗ reciprocal F t) ≡⟨ sym (mul-assoc u t (reciprocal F t)) ∙ ap (λ (v : A). v ⊗ reciprocal F t) (mul-comm u t ∙ e) ⟩
+      𝟘 ⊗ reciprocal F t ≡⟨ zero-mul (reciprocal F t) ⟩
       𝟘 ∎
 
   -- ---- powers

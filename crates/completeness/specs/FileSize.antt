@@ -1,24 +1,22 @@
 -- No accepted file is so long as 65,536 bytes (01, A transcript by hand): what `check` reads is enough.
-use Prim.Native.Nat.{ℕ, zero, suc, _+_, _*_, _/_, _%_, _≤_, _<_}
+use Prim.Native.Nat.{ℕ, zero, suc, _+_, _*_, _/_, _≤_, _<_}
 use native.Mathlib.Nat.{div-le-self}
 use native.Mathlib.Omega.{arith}
-use mathlib.Core.Bool.{Bool, true, false, _||_, true≢false}
 use mathlib.Core.List.{List, [], _∷_, tail}
-use mathlib.Core.Path.{_≡_, refl, sym, ap, _∙_, subst}
-use lib.Dec.{eqb}
+use mathlib.Core.Path.{_≡_, sym, ap, _∙_, subst}
 use lib.ListN.{length, getD, take, drop, replicate, length-append, length-replicate}
 use lib.Seq.{getD-drop}
-use borrow.Author.Tests.{eqb-true, not-false}
 use Rattle.definition.specs.Block.{blockCount, streamOf}
 use Rattle.definition.specs.Layout.{coin, index, laterCount, layout, message, restLayout, roundLayout, wordsDue}
-use Rattle.definition.specs.Reading.{blocksTest, bodyTests, checkTest, lengthTest, reading, sheetTest, streamTests}
+use Rattle.definition.specs.Reading.{reading, sheetTest}
 use Rattle.definition.specs.Sheet.{Level, degreeRule, finalCount, firstLevel, laterLevels, levelsFrom, outCoinsRule, powerOfTwo, sheetOf, sheetRules, shiftCount}
-use Rattle.definition.specs.Verdict.{Outcome, Verdict, accepted, refused, thenVerdict}
+use Rattle.definition.specs.Verdict.{accepted}
 use Rattle.definition.specs.Verify.{verify}
 use Rattle.algebra.specs.ListFacts.{All}
 use Rattle.completeness.specs.LayoutFacts.{round-length}
+use Rattle.completeness.specs.Passed.{passed}
 use Rattle.completeness.specs.SheetRules.{between-true, exponents, rules-hold, small-repetitions}
-use Rattle.completeness.specs.Tests.{and-true, equal-passes, if-passes, then-passes}
+use Rattle.completeness.specs.Tests.{and-true, verdict-passes}
 
 final-size : (s : ℕ) (b : Level) → length (restLayout s b []) ≤ b .degree + b .repetitions
 unfolding restLayout finalCount
@@ -85,24 +83,7 @@ file-size : (w : List ℕ) → sheetTest w ≡ accepted → 512 * blockCount (wo
 unfolding blockCount wordsDue
 file-size w e = omega (arith, sheet-size w e)
 
-reading-accepted : (o : Outcome) (v : Verdict) → thenVerdict o v .outcome ≡ accepted → o ≡ accepted
-unfolding thenVerdict
-reading-accepted accepted v e = refl
-reading-accepted (refused n p) v e = e
-
-or-false : (a b : Bool) → (a || b) ≡ false → b ≡ false
-or-false true b e = absurd (true≢false e)
-or-false false b e = e
-
 -- No accepted file is so long.
 pub accepted-short : (bytes : List ℕ) → verify bytes .outcome ≡ accepted → length bytes < 65536
-unfolding verify reading lengthTest streamTests bodyTests blocksTest
-accepted-short bytes e =
-    let w = streamOf bytes in
-    let a = then-passes (lengthTest bytes) _ (reading-accepted (reading bytes) _ e) in
-    let b = then-passes (checkTest bytes) _ (a .1) in
-    let c = then-passes (sheetTest w) _ (b .1) in
-    let d = then-passes (blocksTest (sheetOf w) (length bytes / 512)) _ (c .1) in
-    let n : length bytes / 512 ≡ blockCount (wordsDue (sheetOf w)) = equal-passes 4 (blockCount (wordsDue (sheetOf w))) (length bytes / 512) (blockCount (wordsDue (sheetOf w))) (d .0) in
-    let z : length bytes % 512 ≡ 0 = eqb-true (length bytes % 512) 0 (not-false (eqb (length bytes % 512) 0) (or-false (eqb (length bytes) 0) _ (if-passes 1 0 _ (a .0)))) in
-    omega (arith, n, z, file-size w (c .0))
+unfolding verify
+accepted-short bytes e = let p = passed bytes (verdict-passes (reading bytes) _ e .0) in omega (arith, p .blocks, p .whole, file-size (streamOf bytes) (p .sheet))

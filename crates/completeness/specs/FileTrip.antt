@@ -1,13 +1,13 @@
 -- Reading back the file of a word stream: its length, its checks, and the stream with its fill (01, The word stream and its blocks).
-use Prim.Native.Nat.{ℕ, zero, suc, _+_, _-_, _*_, _/_, _%_, _<_}
+use Prim.Native.Nat.{ℕ, zero, suc, _+_, _-_, _*_, _/_, _%_, _≤_, _<_}
 use native.Mathlib.Nat.{zero-mul, suc-mul, mod-lt}
 use native.Mathlib.Omega.{arith}
 use mathlib.Core.Bool.{Bool, false}
 use mathlib.Core.List.{List, [], _∷_, _++_, map, flatMap}
 use mathlib.Core.Path.{_≡_, refl, sym, ap, _∙_}
 use lib.Dec.{lit<}
-use lib.ListN.{length, take, drop, replicate, length-append, length-replicate, length-take, length-drop, take-append-drop}
-use lib.Seq.{take-at}
+use lib.ListN.{length, take, drop, replicate, length-append, length-replicate, length-map, length-take, length-drop, take-append-drop}
+use lib.Seq.{length-take-le, take-at}
 use Rattle.definition.specs.Block.{blockCount, blocksOf, bytesOf, checkWord, fileBlocks, fileOf, lowBytes, sealFrom, streamOf, weightedSum, wordOf, wrongChecks}
 use Rattle.definition.specs.Lists.{chunks}
 use Rattle.algebra.specs.ListFacts.{All, all-append}
@@ -170,3 +170,17 @@ module _ (w : List ℕ) where
   -- the file is a list of bytes
   pub file-of-bytes : All (λ x. x < 256) (fileOf w)
   file-of-bytes = rw file-bytes (bytes-small allWords)
+
+-- any file: its stream has 127 words of each block
+fronts-length : (n : ℕ) (ws : List ℕ) → 128 * n ≤ length ws → length (flatMap (take 127) (chunks n 128 ws)) ≡ 127 * n
+unfolding chunks flatMap
+fronts-length zero ws h = refl
+fronts-length (suc n) ws h =
+    length-append (take 127 (take 128 ws)) _
+    ∙ omega (arith, length-take-le 127 (take 128 ws) (omega (arith, length-take-le 128 ws (omega arith))), fronts-length n (drop 128 ws) (omega (arith, length-drop 128 ws)))
+
+pub stream-length : (bytes : List ℕ) → length (streamOf bytes) ≡ 127 * (length bytes / 512)
+unfolding streamOf fileBlocks
+stream-length bytes =
+    let ws = chunks (length bytes / 4) 4 bytes in
+    fronts-length (length bytes / 512) (map wordOf ws) (omega (arith, length-map ws wordOf, chunks-length (length bytes / 4) 4 bytes))

@@ -23,10 +23,13 @@ pub mod Causal
 -- the words: their file, their kinds, and the coins among them
 pub mod BlockTrip
 pub mod FileTrip
+pub mod Passed
 pub mod EachWord
 pub mod LayoutFacts
 pub mod FairCoins
 pub mod Allowed
+-- nothing is divided by 0
+pub mod Divisors
 -- the honest file is accepted, and the premises can be met
 pub mod RoundTrip
 pub mod HonestStream

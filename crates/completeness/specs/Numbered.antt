@@ -1,19 +1,21 @@
 -- THE VOCABULARY OF THE PAGE: 01's notions by number, over a sheet's words w, coefficients f, a coin list and a word stream. It holds no lemma and no proof.
 -- M is the number of rounds, k the folding number, s the number of out coins of a round; t_i, n_i and d_i belong to level i.
-use Prim.Native.Nat.{ℕ, zero, suc, _+_, _*_, _/_, _^_, _≤_}
-use mathlib.Core.List.{List, [], _∷_, _++_}
+use Prim.Native.Nat.{ℕ, zero, suc, _+_, _*_, _/_, _%_, _^_, _≤_}
+use mathlib.Core.List.{List, [], _∷_, _++_, map, flatMap}
 use mathlib.Core.Path.{_≡_}
 use lib.ListN.{length, getD, take, drop}
 use Rattle.definition.specs.Block.{blockCount, fileOf, streamOf}
 use Rattle.definition.specs.Deciding.{answers, nextFunction, tableFunction}
+use Rattle.definition.specs.Domain.{domain, point, rootNumbers}
 use Rattle.definition.specs.Field.{Field, primeField}
-use Rattle.definition.specs.Layout.{coinKinds, laterCount, layout, wordsDue}
-use Rattle.definition.specs.Polynomial.{Sample, distinct, foldPoly, interpolate, points, quotient, subPoly, vanishing}
+use Rattle.definition.specs.Layout.{coinKinds, laterCount, layout, readTranscript, wordsDue}
+use Rattle.definition.specs.Polynomial.{Sample, distinct, evaluate, foldPoly, interpolate, points, quotient, subPoly, vanishing}
 use Rattle.definition.specs.Prove.{coefficientsTest, coinDomainTest, coinsTest, inputRangeTest, outputTest, sheetLengthTest}
 use Rattle.definition.specs.Prover.{honestAnswers, honestStream, nextPoly}
 use Rattle.definition.specs.Reading.{sheetTest}
-use Rattle.definition.specs.Sheet.{Level, finalCount, rootOfUnity, sheetLength, sheetOf}
-use Rattle.definition.specs.Transcript.{Round, RoundCoins}
+use Rattle.definition.specs.Sheet.{Level, finalCount, firstLevel, rootOfUnity, sheetLength, sheetOf}
+use Rattle.definition.specs.Transcript.{Rest, Round, RoundCoins, round}
+use Rattle.definition.specs.Transcript as transcript
 use Rattle.definition.specs.Verdict.{accepted}
 
 -- the sheet's field, and its ω
@@ -194,3 +196,32 @@ functionOf w coins stream (suc i) =
     nextFunction (sheetField w) (sheetRoot w)
     (distinct (sheetField w) (answers (sheetField w) (sheetRoot w) (levelOf w i) (functionOf w coins stream i) (foldCoin w coins i) (roundOf w coins stream (suc i))))
     (roundOf w coins stream (suc i)) .value
+
+-- WHAT IS DIVIDED BY. `interpolate` divides, for each sample, by V of those behind it, at its point.
+unfoldable pub divisors : {A : Type 0} → Field A → List (Sample A) → List A
+divisors F [] = []
+divisors F (s ∷ samples) = evaluate F (vanishing F (points samples)) (s .point) ∷ divisors F samples
+
+-- The verifier's run, as `decideRest` goes: by those of the fold at each shift or final index; and in round i by those of A_i, and for the quotient by V_i at each
+-- point of domain i.
+module _ {A : Type 0} (F : Field A) (ω : A) where
+  abbrev pub foldDivisors : Level → (ℕ → A) → ℕ → List A
+  foldDivisors b f j = divisors F (map (λ m. record { point = point F ω b m; value = f m }) (rootNumbers b j))
+
+  unfoldable pub restDivisors : Level → (ℕ → A) → A → Rest A → List A
+  restDivisors b f r (transcript.final coefficients js) = flatMap (foldDivisors b f) js
+  restDivisors b f r (round ρ rest) =
+      let g = distinct F (answers F ω b f r ρ) in
+      flatMap (foldDivisors b f) (ρ .coins .shifts) ++ (divisors F g ++ (map (evaluate F (vanishing F (points g))) (domain F ω (ρ .coins .level))
+      ++ restDivisors (ρ .coins .level) (nextFunction F ω g ρ .value) (ρ .coins .fold) rest))
+
+-- all that deciding a stream divides by
+unfoldable pub decidingDivisors : List ℕ → List ℕ
+decidingDivisors w =
+    let first = firstLevel (sheetOf w) in
+    let τ = readTranscript (sheetOf w) (drop sheetLength w) in
+    restDivisors (sheetField w) (sheetRoot w) first (tableFunction (sheetField w) (sheetRoot w) first (τ .table) .value) (τ .fold) (τ .rest)
+
+-- x differs from 0 in the sheet's field
+abbrev pub Nonzero : List ℕ → ℕ → Type 0
+Nonzero w x = x % sheetOf w .prime ≡ 0 → ⊥

@@ -4,9 +4,10 @@ use Prim.Native.Nat.{ℕ, suc, _+_, _-_, _/_, _%_, _^_, _≤_, _<_}
 use native.Mathlib.Nat.{pow-suc, div-le-self, mul-le-mul-right, one-mul}
 use native.Mathlib.Omega.{arith}
 use mathlib.Core.List.{List}
-use mathlib.Core.Path.{_≡_, sym, subst}
-use lib.ListN.{length, getD}
+use mathlib.Core.Path.{_≡_, sym, ap, _∙_, subst}
+use lib.ListN.{length, getD, take, drop, take-append-drop}
 use lib.Pow.{pow-pos}
+use lib.Seq.{length-take-le}
 use Rattle.definition.specs.Field.{power, primeField}
 use Rattle.definition.specs.Layout.{layout, limit}
 use Rattle.definition.specs.Reading.{sheetTest}
@@ -19,7 +20,7 @@ use Rattle.algebra.specs.RootsOfUnity.{minusOne}
 use Rattle.completeness.specs.LayoutFacts.{layout-all}
 use Rattle.completeness.specs.LevelSizes.{Chain, Sized}
 use Rattle.completeness.specs.Numbered.{levelOf, roundsOf}
-use Rattle.completeness.specs.SheetLevels.{Steps, sheet-chain, sheet-steps, sized}
+use Rattle.completeness.specs.SheetLevels.{Steps, rules-same, sheet-chain, sheet-front, sheet-steps, sized}
 use Rattle.completeness.specs.SheetRules.{exponents}
 
 pub record Ready (h : Sheet) : Type 0 where
@@ -54,6 +55,14 @@ ready w long passed =
       chain = sheet-chain w long passed;
       steps = sheet-steps w long passed;
     }
+
+-- and so has the sheet of a stream
+pub ready-stream : (w : List ℕ) → 12 ≤ length w → sheetTest w ≡ accepted → Ready (sheetOf w)
+ready-stream w long passed =
+    let front = length-take-le 12 w long in
+    let whole = take-append-drop 12 w in
+    let rules = sym (rules-same (take 12 w) front (drop 12 w)) ∙ ap sheetTest whole ∙ passed in
+    subst Ready (sym (sheet-front (take 12 w) front rules (drop 12 w)) ∙ ap sheetOf whole) (ready (take 12 w) front rules)
 
 -- its levels by number
 pub ready-sized : (w : List ℕ) (long : length w ≡ 12) (passed : sheetTest w ≡ accepted) (i : ℕ) → i ≤ roundsOf w → Sized (suc (ready w long passed .e)) (levelOf w i)

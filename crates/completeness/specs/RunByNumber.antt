@@ -121,7 +121,7 @@ module _ {w f coins : List ℕ} (ok : Allowed w f coins) where
     unfolding quotientPoly answerPoly samplesAt pairsOf
     quotient-length = RoundPolynomials.quotient-length F L ω (levelOf w i) g (coinsOf w coins (suc i)) (fair-round i l) (round-length (suc i) (omega arith))
 
-    samples-apart : Apart F (points (samplesAt w f coins (suc i)))
+    pub samples-apart : Apart F (points (samplesAt w f coins (suc i)))
     unfolding samplesAt pairsOf
     samples-apart = RoundPolynomials.samples-apart F L ω (levelOf w i) g (coinsOf w coins (suc i)) (fair-round i l)
 

@@ -32,6 +32,11 @@ abbrev pub Steps : ℕ → Level → List Level → Type 0
 Steps s b [] = Unit {0}
 Steps s b (l ∷ ls) = Step s b l × Steps s l ls
 
+-- the rules go by the first 12 words
+pub rules-same : (w : List ℕ) → length w ≡ 12 → (x : List ℕ) → sheetTest (w ++ x) ≡ sheetTest w
+unfolding sheetTest sheetRules fieldRule sizeRule degreeRule foldRule roundsRule outCoinsRule repetitionsRule range
+rules-same w long x = ap (λ (l : List ℕ). sheetTest (l ++ x)) (twelve w long)
+
 module _ (w : List ℕ) (long : length w ≡ 12) (passed : sheetTest w ≡ accepted) where
   open Exponents (exponents w passed) using (a, b, c, size, degree, fold, below, rounds, most)
 
@@ -107,5 +112,4 @@ module _ (w : List ℕ) (long : length w ≡ 12) (passed : sheetTest w ≡ accep
 
   -- and so are its rules
   pub rules-front : (x : List ℕ) → sheetTest (w ++ x) ≡ accepted
-  unfolding sheetTest sheetRules fieldRule sizeRule degreeRule foldRule roundsRule outCoinsRule repetitionsRule range
-  rules-front x = ap (λ (l : List ℕ). sheetTest (l ++ x)) (twelve w long) ∙ passed
+  rules-front x = rules-same w long x ∙ passed

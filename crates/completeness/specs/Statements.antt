@@ -2,36 +2,39 @@
 -- To read it: the definition (crate `definition`) and the vocabulary Numbered.antt, which says what round i, level i and message m are and what Allowed asks.
 -- All theorems are of the three fields and of every sheet, polynomial and coin list that pass the definition's tests. Behind them stand general theorems, for any
 -- field with the laws and any fitting root: DecidingAccepts.deciding-accepts (any list of levels), RoundPolynomials, Domains, and Causal (any party that sends and asks).
-use Prim.Native.Nat.{ℕ, suc, _+_, _-_, _*_, _/_, _^_, _≤_, _<_}
+use Prim.Native.Nat.{ℕ, suc, _+_, _-_, _*_, _/_, _%_, _^_, _≤_, _<_}
 use native.Mathlib.Omega.{arith}
 use mathlib.Core.List.{List, [], _++_, map}
 use mathlib.Core.Logic.{_↔_}
 use mathlib.Core.Path.{_≡_}
 use lib.ListN.{length, getD, take, drop, replicate}
-use Rattle.definition.specs.Block.{blockCount, fileOf}
-use Rattle.definition.specs.Deciding.{answers}
+use Rattle.definition.specs.Block.{blockCount, fileOf, streamOf}
+use Rattle.definition.specs.Deciding.{answers, outTest}
 use Rattle.definition.specs.Domain.{foldAt, point, rootNumbers, shiftPoint}
-use Rattle.definition.specs.Field.{Field, power}
+use Rattle.definition.specs.Field.{Field, element, found, inverseOf, noInverse, power, primeField, primeOf, product, reciprocal, unknownField}
 use Rattle.definition.specs.Layout.{coinKinds, layout, message, readTranscript, wordsDue}
 use Rattle.definition.specs.Lists.{range}
 use Rattle.definition.specs.Polynomial.{addPoly, evaluate, foldPoly, geometric, mulPoly, points}
 use Rattle.definition.specs.Prove.{coefficientsTest, done, inputRangeTest, prove, refusal, sheetLengthTest}
 use Rattle.definition.specs.Prover.{honest, honestStream}
-use Rattle.definition.specs.Reading.{sheetTest}
+use Rattle.definition.specs.Reading.{reading, sheetTest}
 use Rattle.definition.specs.Sheet.{finalCount, sheetLength, sheetOf, shiftCount}
 use Rattle.definition.specs.Verdict.{accepted}
 use Rattle.definition.specs.Verify.{verify}
 use Rattle.definition.specs.WorkedTranscript.{coefficients, coins, sheetWords}
+use Rattle.algebra.specs.Divisors as algebra
+use Rattle.algebra.specs.PublicInverse
 use Rattle.completeness.specs.ByPlace.{at-place}
 use Rattle.completeness.specs.Completeness
 use Rattle.completeness.specs.DecidingAccepts
+use Rattle.completeness.specs.Divisors
 use Rattle.completeness.specs.DomainsByNumber
 use Rattle.completeness.specs.FileSize
 use Rattle.completeness.specs.FileTrip
 use Rattle.completeness.specs.FunctionsByNumber
 use Rattle.completeness.specs.LayoutByNumber
 use Rattle.completeness.specs.NonAnticipation
-use Rattle.completeness.specs.Numbered.{Allowed, Copy, Due, Message, Room, answerPoly, coinsOf, combinationCoin, correctedOf, final, finalIndices, foldCoin, functionOf, lengthOf, levelOf, outCoinsOf, outsOf, pairAt, pairsOf, quotientPoly, readsDue, replies, roundOf, roundPoly, roundsOf, samplesAt, sentBefore, sheetField, sheetRoot, startOf, streamOn, table, total, vanishingPoly, wordsIn}
+use Rattle.completeness.specs.Numbered.{Allowed, Copy, Due, Message, Nonzero, Room, answerPoly, coinsOf, combinationCoin, correctedOf, decidingDivisors, divisors, final, finalIndices, foldCoin, functionOf, lengthOf, levelOf, outCoinsOf, outsOf, pairAt, pairsOf, quotientPoly, read, readsDue, replies, roundOf, roundPoly, roundsOf, samplesAt, sentBefore, sheetField, sheetRoot, startOf, streamOn, table, total, vanishingPoly, wordsIn}
 use Rattle.completeness.specs.Premises
 use Rattle.completeness.specs.ProveAccepted
 use Rattle.completeness.specs.RunByNumber
@@ -244,3 +247,35 @@ some-coins-allowed w f words sheet coefficients elements = (replicate (length (c
 -- 10. NO ACCEPTED FILE IS SO LONG as 65,536 bytes (01, A transcript by hand), so what `check` reads is enough.
 pub accepted-short : (bytes : List ℕ) → verify bytes .outcome ≡ accepted → length bytes < 65536
 accepted-short = FileSize.accepted-short
+
+-- 12. NO INVERSE FOR ZERO (02, CR 3). The public inverse is none exactly for 0, that is, for each multiple of p;
+pub inverse-none-exactly : (field x : ℕ) → field < 3 → (inverseOf field x ≡ noInverse) ↔ (x % primeOf field ≡ 0)
+inverse-none-exactly = PublicInverse.none-exactly
+
+-- else an element is found whose product with x is 1; and above 2 there is no field.
+pub inverse-found : (field x : ℕ) → field < 3 → (x % primeOf field ≡ 0 → ⊥) → (u : ℕ) × (inverseOf field x ≡ found u) × (u < primeOf field) × (product field x u ≡ element 1)
+inverse-found = PublicInverse.inverse-there
+
+pub inverse-no-field : (field x : ℕ) → 3 ≤ field → inverseOf field x ≡ unknownField
+inverse-no-field = PublicInverse.inverse-nowhere
+
+-- Nothing is divided by 0. In a file that passes reading and refusal 7, whatever its tables, replies and final coefficients are, each divisor of deciding differs
+-- from 0: in every round those of the folds, of the interpolation and of the quotient.
+pub file-divisors : (bytes : List ℕ) → reading bytes ≡ accepted → outTest (sheetOf (streamOf bytes)) (streamOf bytes) ≡ accepted →
+    (i : ℕ) → i < length (decidingDivisors (streamOf bytes)) → Nonzero (streamOf bytes) (getD (decidingDivisors (streamOf bytes)) i 0)
+file-divisors bytes passes outside = at-place (Nonzero (streamOf bytes)) (decidingDivisors (streamOf bytes)) 0 (Divisors.file-divisors bytes passes outside)
+
+-- So it is in every honest run, in the file,
+pub honest-divisors : (w f coins : List ℕ) → Allowed w f coins →
+    (i : ℕ) → i < length (decidingDivisors (streamOn read w f coins)) → Nonzero (streamOn read w f coins) (getD (decidingDivisors (streamOn read w f coins)) i 0)
+unfolding streamOn
+honest-divisors w f coins ok = at-place (Nonzero (streamOn read w f coins)) (decidingDivisors (streamOn read w f coins)) 0 (Divisors.honest-divisors ok)
+
+-- and in the prover's interpolation in each round. (Its fold and its quotient divide by no element.)
+pub prover-divisors : (w f coins : List ℕ) → Allowed w f coins → (i : ℕ) → i < roundsOf w →
+    (j : ℕ) → j < length (divisors (sheetField w) (samplesAt w f coins (suc i))) → Nonzero w (getD (divisors (sheetField w) (samplesAt w f coins (suc i))) j 0)
+prover-divisors w f coins ok i l = at-place (Nonzero w) (divisors (sheetField w) (samplesAt w f coins (suc i))) 0 (Divisors.prover-divisors ok i l)
+
+-- No verdict and no block changed: interpolation and quotient multiply by x^(p-2), as they did when the inverse of 0 was 0.
+pub reciprocal-as-before : (p x : ℕ) → 2 < p → reciprocal (primeField p) x ≡ x ^ (p - 2) % p
+reciprocal-as-before = algebra.as-before

@@ -8,7 +8,7 @@ use mathlib.Core.Path.{_≡_, refl, sym}
 use lib.Dec.{eqb}
 use borrow.Author.Tests.{eqb-true, not-false}
 use Rattle.definition.specs.Lists.{firstTrue}
-use Rattle.definition.specs.Verdict.{Outcome, _then_, accepted, refuseAt, refuseIf, refused}
+use Rattle.definition.specs.Verdict.{Outcome, Verdict, _then_, accepted, refuseAt, refuseIf, refused, thenVerdict}
 use Rattle.algebra.specs.ListFacts.{All}
 
 -- what a test that passes says
@@ -29,6 +29,11 @@ pub then-passes : (a b : Outcome) → (a then b) ≡ accepted → (a ≡ accepte
 unfolding _then_
 then-passes accepted b e = (refl, e)
 then-passes (refused n p) b e = let z : _≡_ {A = ℕ} 0 1 = cc in absurd (omega arith)
+
+pub verdict-passes : (o : Outcome) (v : Verdict) → thenVerdict o v .outcome ≡ accepted → (o ≡ accepted) × (v .outcome ≡ accepted)
+unfolding thenVerdict
+verdict-passes accepted v e = (refl, e)
+verdict-passes (refused n p) v e = let z : _≡_ {A = ℕ} 0 1 = cc in absurd (omega arith)
 
 pub all-false : (n from : ℕ) (bs : List Bool) → refuseAt n (firstTrue from bs) ≡ accepted → All (λ (b : Bool). b ≡ false) bs
 unfolding firstTrue refuseAt

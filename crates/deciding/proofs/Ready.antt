@@ -7,6 +7,7 @@ use mathlib.Core.Option.{Option, none, some}
 use lib.ListN.{length, getD, take, drop, drop-of-length-le}
 use lib.Pow.{pow-pos}
 use lib.Seq.{length-take-le}
+use Rattle.completeness.specs.Tests.{at-none, at-passes}
 use Rattle.definition.specs.Deciding.{decide, deciding, outInDomain, outTest}
 use Rattle.definition.specs.Field.{fieldOf, primeField}
 use Rattle.definition.specs.Layout.{layout, readTranscript, wordsDue}
@@ -25,13 +26,15 @@ use Rattle.samples.specs.declared.Gathered.the-variants.{Clash, From}
 use Rattle.samples.specs.Samples.{Room, kept}
 use Rattle.samples.specs.Answers.{kept-clash, kept-from}
 use Rattle.rounds.specs.declared.Function.{Function}
-use Rattle.rounds.specs.Round.{Below, Fits}
+use Rattle.rounds.specs.Round.{Below, Clear, Fits}
 use Rattle.rounds.specs.RoundLaws.{Answered, Compared, Serves}
 use Rattle.deciding.specs.declared.Stand.{Stand}
+use Rattle.algebra.specs.Different.{Apart}
+use Rattle.deciding.specs.Divisors.{samples-apart}
 use Rattle.deciding.specs.First.{first-step, placed-first, served-first, standing-first}
 use Rattle.deciding.specs.Inside.{final-inside, round-inside, standing-next}
-use Rattle.deciding.specs.Outs.{Scaled, outs-first, outsFrom, scaled-first}
-use Rattle.deciding.specs.Stand.{coefficientsOf, finalsOf, firstFunction, firstStand, nextFunction, nextStand, outsOf, repliesOf, shiftsOf, tableOf}
+use Rattle.deciding.specs.Outs.{Scaled, outs-first, scaled-first}
+use Rattle.deciding.specs.Stand.{coefficientsOf, finalsOf, firstFunction, firstStand, nextFunction, nextStand, outsFrom, outsOf, repliesOf, shiftsOf, tableOf}
 use Rattle.deciding.specs.Standing.{Decided, Differing, Placed, Served, Sifted, Standing}
 use Rattle.deciding.specs.Steps.{clash-step, next-step, part-length, served-next}
 
@@ -64,6 +67,11 @@ module _ (w : List ℕ) {points samples coefficients : ℕ} (st : Stand) (how : 
   fits-table : (table : List ℕ) → table ≡ tableOf w st → Fits points (length table) how (getD w 3 0)
   unfolding tableOf
   fits-table table e = subst (λ (n : ℕ). Fits points n how (getD w 3 0)) (sym (ap length e ∙ part-length w (st .table) (st .size) (ok .place .table))) (ok .fits)
+
+  -- and so is what is divided by, by the table's length
+  pub clear-table : (pw xs table : List ℕ) → table ≡ tableOf w st → Clear (getD w 0 0) pw (st .size) xs how → Clear (getD w 0 0) pw (length table) xs how
+  unfolding tableOf
+  clear-table pw xs table e h = subst (λ (n : ℕ). Clear (getD w 0 0) pw n xs how) (sym (ap length e ∙ part-length w (st .table) (st .size) (ok .place .table))) h
 
   pub answer-ready : st .level < getD w 4 0 → (table shifts outs replies : List ℕ) → table ≡ tableOf w st → shifts ≡ shiftsOf w st → outs ≡ outsOf w st → replies ≡ repliesOf w st →
       Fits points (length table) how (getD w 3 0) × (Below (how .step) shifts × ((length replies ≡ length outs) × (length outs + length shifts ≤ 50)))
@@ -120,6 +128,11 @@ module _ (w pw xs cs : List ℕ) (st : Stand) (how : Function) (ok : Standing w 
       subst (λ (x : Stand). Decided w pw xs cs st how (record { outcome = refused 8 (x .level); reads = x .reads })) (sym en)
       (clash-step w pw xs cs st how ok more (subst (Sifted w pw xs cs st how) (sym (kept-clash px py e refl)) a))
 
+  -- the points of the samples are different
+  pub apart-ready : (px py : List ℕ) (j : ℕ) → g ≡ From j → Sifted w pw xs cs st how (kept g px py) → length py ≡ length px → Served w pw xs cs st how →
+      Apart (fieldOf (getD w 0 0)) (drop j px)
+  apart-ready px py j ej a ly s = samples-apart w pw xs cs st how ok more s px py j ly (subst (Sifted w pw xs cs st how) (sym (kept-from px py ej refl)) a)
+
   module _ (j : ℕ) (how′ : Function) (eh : how′ ≡ nextFunction w st (how .scale) j) (px py pc : List ℕ) (ej : g ≡ From j)
       (a : Sifted w pw xs cs st how (kept g px py)) (inside : j ≤ length px) (ly : length py ≡ length px) (lc : length pc ≡ length px)
       (newtons : drop j pc ≡ newton (fieldOf (getD w 0 0)) (drop j px) (drop j py)) where
@@ -145,8 +158,12 @@ module _ (w pw xs cs : List ℕ) (st : Stand) (how : Function) (ok : Standing w 
 -- ---- before round 1
 
 module _ (w pw xs : List ℕ) (passed : sheetTest w ≡ accepted) (ranged : rangeTest (sheetOf w) w ≡ accepted) (due : wordsDue (sheetOf w) ≤ length w)
-    (points : Powers (getD w 0 0) (rootOfUnity (sheetOf w)) pw) (size : length pw ≡ getD w 1 0) (none : length xs ≡ 50)
+    (points : Powers (getD w 0 0) (rootOfUnity (sheetOf w)) pw) (size : length pw ≡ getD w 1 0) (outside : outTest (sheetOf w) w ≡ accepted) (long : length xs ≡ 50)
     (st : Stand) (es : st ≡ firstStand w) (how : Function) (eh : how ≡ firstFunction w 50) where
+  first-outside : firstTrue 12 (zipWith (outInDomain (sheetOf w)) (layout (sheetOf w)) (drop 12 w)) ≡ none
+  unfolding outTest
+  first-outside = at-passes 7 _ outside
+
   empty : drop 50 xs ≡ []
   empty = drop-of-length-le xs {i = 50} (omega arith)
 
@@ -156,7 +173,7 @@ module _ (w pw xs : List ℕ) (passed : sheetTest w ≡ accepted) (ranged : rang
         (subst (Standing w (length pw) (length xs) (length xs) (firstStand w)) (sym eh)
         (standing-first w passed due ranged (length pw) (length xs) (length xs) 50 size (omega arith) (omega arith))),
     subst (λ (x : Stand). Served w pw xs xs x how) (sym es)
-        (subst (Served w pw xs xs (firstStand w)) (sym eh) (served-first w passed due pw xs xs 50 points empty)),
+        (subst (Served w pw xs xs (firstStand w)) (sym eh) (served-first w passed due pw xs xs 50 points empty (outs-first w passed due ranged ∙ first-outside))),
   )
 
   pub first-decided : {v : Verdict} → Decided w pw xs xs st how v →
@@ -191,3 +208,7 @@ module _ (w : List ℕ) (f : Found) (first : placeOf f ≡ firstTrue 12 (zipWith
       v ≡ decide (primeField (sheetOf w .prime)) (rootOfUnity (sheetOf w)) (firstLevel (sheetOf w)) (readTranscript (sheetOf w) (drop 12 w)) → v ≡ deciding w
   unfolding placeOf thenVerdict refuseAt
   out-passed e h = h ∙ sym (by-place none (ap placeOf e))
+
+  pub outside-passed : f ≡ Nothing → outTest (sheetOf w) w ≡ accepted
+  unfolding placeOf outTest
+  outside-passed e = at-none 7 _ (sym first ∙ ap placeOf e)

@@ -12,8 +12,8 @@ use Rattle.outcome.specs.declared.Found.the-variants.{At, Nothing}
 use Rattle.outcome.specs.Meaning.{placeOf}
 use Rattle.deciding.specs.declared.Stand.{Stand}
 use Rattle.deciding.specs.Inside.{placed-next}
-use Rattle.deciding.specs.Outs.{Scaled, outs-next, outsFrom, round-outs, scaled-next}
-use Rattle.deciding.specs.Stand.{nextStand, outsAt}
+use Rattle.deciding.specs.Outs.{Scaled, outs-next, round-outs, scaled-next}
+use Rattle.deciding.specs.Stand.{nextStand, outsAt, outsFrom}
 use Rattle.deciding.specs.Standing.{Placed}
 
 module _ (w pw : List ℕ) (st : Stand) (scale : ℕ) (ok : Placed w st) (scaled : Scaled (length pw) st scale) (points : Powers (getD w 0 0) (rootOfUnity (sheetOf w)) pw)

@@ -1,11 +1,14 @@
 -- Before round 1: what the tests of reading say of the first place, and that the verdict from there on is the definition's.
-use Prim.Native.Nat.{ℕ, suc, _+_, _-_, _^_, _≤_}
+use Prim.Native.Nat.{ℕ, suc, _+_, _-_, _*_, _^_, _≤_}
 use native.Mathlib.Nat.{sub-zero}
 use native.Mathlib.Omega.{arith}
 use mathlib.Core.Path.{_≡_, refl, sym, ap, _∙_, subst}
 use mathlib.Core.List.{List, [], _∷_, zipWith}
+use mathlib.Core.Option.{none}
 use lib.ListN.{length, getD, take, drop, replicate, length-append, length-drop, length-replicate}
 use lib.Seq.{drop-cons, drop-drop, getD-drop}
+use Rattle.algebra.specs.Different.{Differ}
+use Rattle.algebra.specs.ListFacts.{All}
 use Rattle.completeness.specs.SheetRules.{exponents}
 use Rattle.completeness.specs.Tests.{at-passes}
 use Rattle.definition.specs.Deciding.{decide, decideRest, readsOf, tableFunction}
@@ -22,7 +25,7 @@ use Rattle.rounds.specs.RoundLaws.{Serves}
 use Rattle.sheet.specs.Bounds.{ranges}
 use Rattle.deciding.specs.Begins.{Begins, begins-after, begins-tail, begins-tested}
 use Rattle.deciding.specs.Inside.{divided}
-use Rattle.deciding.specs.Stand.{firstFunction, firstStand, levelOf, levelsOf, restOf, tableOf}
+use Rattle.deciding.specs.Stand.{firstFunction, firstStand, levelOf, levelsOf, outsFrom, restOf, tableOf}
 use Rattle.deciding.specs.Standing.{Decided, Placed, Served, Shaped, Standing}
 
 module _ (w : List ℕ) (passed : sheetTest w ≡ accepted) (due : wordsDue (sheetOf w) ≤ length w) where
@@ -131,8 +134,17 @@ module _ (w : List ℕ) (passed : sheetTest w ≡ accepted) (due : wordsDue (she
   first-serves pw xs cs from p e =
       serves-first (getD w 0 0) (rootOfUnity (sheetOf w)) (levelOf w (firstStand w)) pw (tableOf w (firstStand w)) xs cs (firstFunction w from) (getD w 3 0) p refl refl refl e
 
-  pub served-first : (pw xs cs : List ℕ) (from : ℕ) → Powers (getD w 0 0) (rootOfUnity (sheetOf w)) pw → drop from xs ≡ [] → Served w pw xs cs (firstStand w) (firstFunction w from)
-  served-first pw xs cs from p e = record { ω = _; f = _; serves = first-serves pw xs cs from p e }
+  pub served-first : (pw xs cs : List ℕ) (from : ℕ) → Powers (getD w 0 0) (rootOfUnity (sheetOf w)) pw → drop from xs ≡ [] → outsFrom w (firstStand w) ≡ none →
+      Served w pw xs cs (firstStand w) (firstFunction w from)
+  unfolding firstFunction
+  served-first pw xs cs from p e outside = record {
+    ω = _;
+    f = _;
+    serves = first-serves pw xs cs from p e;
+    root = refl;
+    clear = λ m l. subst (λ (t : List ℕ). All (λ a. Differ (fieldOf (getD w 0 0)) (getD pw (1 * m) 0) a) t) (sym e) tt;
+    outside = outside;
+  }
 
   -- the definition's deciding is that from the first place on
   pub first-step : (pw xs cs : List ℕ) (from : ℕ) {v : Verdict} → Powers (getD w 0 0) (rootOfUnity (sheetOf w)) pw → drop from xs ≡ [] →

@@ -58,7 +58,7 @@ module _ (w : List ℕ) (st : Stand) (ok : Placed w st) where
   scale-small scale e = let l : st .level ≤ 5 = omega (arith, ok .level, ok .sheet .rounds) in omega (arith, e, pow-mono l)
 
   module _ (more : st .level < getD w 4 0) where
-    whole : Begins (primeOf (getD w 0 0)) (roundLayout (getD w 5 0) (levelOf w st) (levelOf w (nextStand w st)) ++ restLayout (getD w 5 0) (levelOf w (nextStand w st)) (levelsOf w (nextStand w st))) (drop (st .at) w)
+    pub whole : Begins (primeOf (getD w 0 0)) (roundLayout (getD w 5 0) (levelOf w st) (levelOf w (nextStand w st)) ++ restLayout (getD w 5 0) (levelOf w (nextStand w st)) (levelsOf w (nextStand w st))) (drop (st .at) w)
     unfolding restLayout
     whole =
         subst (λ (ls : List Level). Begins (primeOf (getD w 0 0)) (restLayout (getD w 5 0) (levelOf w st) ls) (drop (st .at) w))

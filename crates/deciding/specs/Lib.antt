@@ -3,6 +3,7 @@ pub mod Stand
 pub mod Words
 pub mod Standing
 pub mod Inside
+pub mod Divisors
 pub mod Steps
 pub mod First
 pub mod Outs

@@ -20,13 +20,9 @@ use Rattle.domain.specs.Powers.{Powers}
 use Rattle.deciding.specs.declared.Stand.{Stand}
 use Rattle.deciding.specs.First.{first-level, first-room, later-levels}
 use Rattle.deciding.specs.Inside.{round-inside, scale-next}
-use Rattle.deciding.specs.Stand.{firstStand, levelOf, levelsOf, nextSize, nextStand, outsAt, repetitionsOf, repliesAt}
+use Rattle.deciding.specs.Stand.{firstStand, levelOf, levelsOf, nextSize, nextStand, outsAt, outsFrom, repetitionsOf, repliesAt}
 use Rattle.deciding.specs.Standing.{Placed}
 use Rattle.deciding.specs.Words.{levels-end, levels-next}
-
--- the first out coin from a place on that lies in its domain
-unfoldable pub outsFrom : List ℕ → Stand → Option ℕ
-outsFrom w st = firstTrue (st .at) (zipWith (outInDomain (sheetOf w)) (restLayout (getD w 5 0) (levelOf w st) (levelsOf w st)) (drop (st .at) w))
 
 module _ (w : List ℕ) (st : Stand) (ok : Placed w st) where
   pub outs-last : st .level ≡ getD w 4 0 → outsFrom w st ≡ none

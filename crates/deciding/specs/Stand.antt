@@ -1,10 +1,13 @@
 -- Where deciding stands: the level, the levels after it, the words still to come and the next place, all read off the words of the stream, which begin with
 -- the sheet: k is word 3, M word 4, s word 5, t_i word 6 + i.
 use Prim.Native.Nat.{ℕ, _+_, _-_, _*_, _/_}
-use mathlib.Core.List.{List}
+use mathlib.Core.List.{List, zipWith}
+use mathlib.Core.Option.{Option}
 use lib.ListN.{getD, take, drop, replicate}
-use Rattle.definition.specs.Layout.{readRest}
-use Rattle.definition.specs.Sheet.{Level, levelsFrom}
+use Rattle.definition.specs.Deciding.{outInDomain}
+use Rattle.definition.specs.Layout.{readRest, restLayout}
+use Rattle.definition.specs.Lists.{firstTrue}
+use Rattle.definition.specs.Sheet.{Level, levelsFrom, sheetOf}
 use Rattle.definition.specs.Transcript.{Round, Rest}
 use Rattle.rounds.specs.declared.Function.{Function}
 use Rattle.deciding.specs.declared.Stand.{Stand}
@@ -106,3 +109,7 @@ finalsOf w st = take (repetitionsOf w st) (drop (st .at + st .degree / getD w 3 
 -- the transcript from here on
 unfoldable pub restOf : List ℕ → Stand → Rest ℕ
 restOf w st = readRest (getD w 5 0) (levelOf w st) (levelsOf w st) (drop (st .at) w)
+
+-- the first out coin from here on that lies in its domain
+unfoldable pub outsFrom : List ℕ → Stand → Option ℕ
+outsFrom w st = firstTrue (st .at) (zipWith (outInDomain (sheetOf w)) (restLayout (getD w 5 0) (levelOf w st) (levelsOf w st)) (drop (st .at) w))

@@ -2,20 +2,21 @@
 use Prim.Native.Nat.{ℕ, suc, _+_, _-_, _*_, _/_, _^_, _≤_, _<_}
 use mathlib.Core.Path.{_≡_}
 use mathlib.Core.List.{List}
-use mathlib.Core.Option.{Option}
+use mathlib.Core.Option.{Option, none}
 use lib.ListN.{length, getD, drop}
 use Rattle.completeness.specs.SheetRules.{Exponents}
 use Rattle.definition.specs.Deciding.{Place, decideRest, ownPlace, readsOf}
 use Rattle.definition.specs.Field.{fieldOf, primeOf}
 use Rattle.definition.specs.Layout.{restLayout}
 use Rattle.definition.specs.Polynomial.{Sample}
+use Rattle.definition.specs.Sheet.{rootOfUnity, sheetOf}
 use Rattle.definition.specs.Verdict.{Verdict}
 use Rattle.rounds.specs.declared.Function.{Function}
-use Rattle.rounds.specs.Round.{Below, Fits}
+use Rattle.rounds.specs.Round.{Below, Clear, Fits}
 use Rattle.rounds.specs.RoundLaws.{Answered, Compared, Serves}
 use Rattle.deciding.specs.declared.Stand.{Stand}
 use Rattle.deciding.specs.Begins.{Begins}
-use Rattle.deciding.specs.Stand.{coefficientsOf, finalsOf, levelOf, levelsOf, nextStand, outsOf, repetitionsOf, repliesOf, restOf, shiftsAt, shiftsOf, tableOf}
+use Rattle.deciding.specs.Stand.{coefficientsOf, finalsOf, levelOf, levelsOf, nextStand, outsFrom, outsOf, repetitionsOf, repliesOf, restOf, shiftsAt, shiftsOf, tableOf}
 
 -- the bounds of a sheet's words
 pub record Shaped (w : List ℕ) : Type 0 where
@@ -61,11 +62,15 @@ pub record Standing (w : List ℕ) (points samples coefficients : ℕ) (st : Sta
   pub scale : how .scale ≡ 2 ^ st .level
   pub step : how .step ≡ st .size / getD w 3 0
 
--- the words in hand are those of some function at the level, for some ω
+-- The words in hand are those of some function at the level, for the sheet's ω. No point of the level's domain is the point of a sample, and no out coin still to
+-- come lies in its domain, so that nothing is divided by 0.
 pub record Served (w pw xs cs : List ℕ) (st : Stand) (how : Function) : Type 0 where
   pub ω : ℕ
   pub f : ℕ → ℕ
   pub serves : Serves (getD w 0 0) ω (levelOf w st) f pw (tableOf w st) xs cs how (getD w 3 0)
+  pub root : ω ≡ rootOfUnity (sheetOf w)
+  pub clear : Clear (getD w 0 0) pw (st .size) xs how
+  pub outside : outsFrom w st ≡ none
 
 -- v is the definition's verdict from the place on, for every ω and function that the words in hand are those of, and all places read with as many reads
 abbrev pub Decided : List ℕ → List ℕ → List ℕ → List ℕ → Stand → Function → Verdict → Type 0

@@ -26,6 +26,7 @@ use Rattle.rounds.specs.Reads.{reads-add, reads-all, reads-are, reads-until}
 use Rattle.rounds.specs.Round.{Fits}
 use Rattle.rounds.specs.RoundLaws.{Serves}
 use Rattle.deciding.specs.declared.Stand.{Stand}
+use Rattle.deciding.specs.Divisors.{clear-next, outside-next}
 use Rattle.deciding.specs.Inside.{final-inside, round-inside}
 use Rattle.deciding.specs.Stand.{coefficientsOf, finalsOf, levelOf, nextFunction, nextStand, outsOf, repetitionsOf, repliesOf, restOf, roundOf, shiftsOf, tableOf}
 use Rattle.deciding.specs.Standing.{Decided, Differing, Served, Sifted, Standing}
@@ -112,7 +113,14 @@ module _ (w pw xs cs : List ℕ) (st : Stand) (how : how.Function) (ok : Standin
   pub served-next : (px py pc : List ℕ) (j : ℕ) → Standing w (length pw) (length px) (length pc) (nextStand w st) (nextFunction w st (how .scale) j) →
       length py ≡ length px → Sifted w pw xs cs st how (some (pair (drop j px) (drop j py))) → drop j pc ≡ newton (fieldOf (getD w 0 0)) (drop j px) (drop j py) →
       Served w pw xs cs st how → Served w pw px pc (nextStand w st) (nextFunction w st (how .scale) j)
-  served-next px py pc j next long a newtons s = record { ω = s .ω; f = _; serves = serves-after px py pc j (s .ω) (s .f) next long a newtons (s .serves) }
+  served-next px py pc j next long a newtons s = record {
+    ω = s .ω;
+    f = _;
+    serves = serves-after px py pc j (s .ω) (s .f) next long a newtons (s .serves);
+    root = s .root;
+    clear = clear-next w pw xs cs st how ok more s px py j long a pc next;
+    outside = outside-next w pw xs cs st how ok more s;
+  }
 
   pub next-step : (px py pc : List ℕ) (j : ℕ) {v : Verdict} → Standing w (length pw) (length px) (length pc) (nextStand w st) (nextFunction w st (how .scale) j) →
       length py ≡ length px → Sifted w pw xs cs st how (some (pair (drop j px) (drop j py))) → drop j pc ≡ newton (fieldOf (getD w 0 0)) (drop j px) (drop j py) →

@@ -8,7 +8,7 @@ ghost use mathlib.Core.Path.{_≡_};
 ghost use mathlib.Core.List.{zipWith};
 ghost use Prim.Native.Nat.{_+_, _*_, _/_, _≤_, _<_};
 ghost use lib.ListN.{length, getD, take, drop};
-ghost use Rattle.definition.specs.Deciding.{decide as decideBy, deciding as decidingOf, outInDomain};
+ghost use Rattle.definition.specs.Deciding.{decide as decideBy, deciding as decidingOf, outInDomain, outTest};
 ghost use Rattle.definition.specs.Field.{primeField};
 ghost use Rattle.definition.specs.Layout.{layout, readTranscript, wordsDue};
 ghost use Rattle.definition.specs.Lists.{firstTrue};
@@ -17,12 +17,12 @@ ghost use Rattle.definition.specs.Sheet.{firstLevel, rootOfUnity, sheetOf};
 ghost use Rattle.definition.specs.Verdict.{accepted};
 ghost use Rattle.domain.specs.Powers.{Powers};
 ghost use Rattle.outcome.specs.Meaning.{placeOf, verdictOf};
-ghost use Rattle.rounds.specs.Round.{Fits, Below};
+ghost use Rattle.rounds.specs.Round.{Fits, Below, Clear};
 ghost use Rattle.rounds.specs.RoundLaws.{Answered, Compared};
 ghost use Rattle.samples.specs.Samples.{kept, Room};
-ghost use Rattle.deciding.specs.Stand.{firstFunction, firstStand, nextFunction, nextStand};
+ghost use Rattle.deciding.specs.Stand.{firstFunction, firstStand, nextFunction, nextStand, outsFrom};
 ghost use Rattle.deciding.specs.Standing.{Decided, Differing, Placed, RoundInside, Served, Shaped, Sifted, Standing};
-ghost use Rattle.deciding.specs.Outs.{Scaled, outsFrom};
+ghost use Rattle.deciding.specs.Outs.{Scaled};
 
 // A place: the level's number, domain size and degree bound, where its table and the words after its fold coin begin, the fold coin, the reads so far.
 pub struct Stand {
@@ -137,7 +137,7 @@ fn answer(
     px: &mut [u32],
     py: &mut [u32],
 ) -> Gathered
-    requires { ⌜ (how .from ≤ length (now xs)) × (length (now xs) ≤ length (now cs)) ⌝ }
+    requires { ⌜ (how .from ≤ length (now xs)) × ((length (now xs) ≤ length (now cs)) × (Clear field (now pw) (length (now table)) (now xs) how)) ⌝ }
     requires { ⌜ Fits (length (now pw)) (length (now table)) how k ⌝ }
     requires { ⌜ Below (how .step) (now shifts) ⌝ }
     requires { ⌜ (length (now py) ≡ length (now px)) × ((length (now replies) ≡ length (now outs)) × (length (now outs) + length (now shifts) ≤ length (now px))) ⌝ }
@@ -176,6 +176,7 @@ fn round_at(
     requires { ⌜ Standing (now w) (length (now pw)) (length (now xs)) (length (now cs)) stand how ⌝ }
     requires { ⌜ stand .level < getD (now w) 4 0 ⌝ }
     requires { ⌜ (length (now px) ≡ 50) × (length (now py) ≡ 50) ⌝ }
+    requires { ⌜ Clear (getD (now w) 0 0) (now pw) (stand .size) (now xs) how ⌝ }
     ensures { λ v. ⌜ Sifted (now (w .entry)) (now (pw .entry)) (now (xs .entry)) (now (cs .entry)) stand how (kept v (now (px .exit)) (now (py .exit))) ⌝ }
     ensures { λ v. ⌜ Room 50 50 v ⌝ }
 {
@@ -213,7 +214,7 @@ fn difference(
     coefficients: &[u32],
     finals: &[u32],
 ) -> Found
-    requires { ⌜ (how .from ≤ length (now xs)) × (length (now xs) ≤ length (now cs)) ⌝ }
+    requires { ⌜ (how .from ≤ length (now xs)) × ((length (now xs) ≤ length (now cs)) × (Clear field (now pw) (length (now table)) (now xs) how)) ⌝ }
     requires { ⌜ Fits (length (now pw)) (length (now table)) how k ⌝ }
     requires { ⌜ Below (how .step) (now finals) ⌝ }
     ensures { λ v. ⌜ Compared field (now (pw .entry)) (now (table .entry)) (now (xs .entry)) (now (cs .entry)) how k r (now (coefficients .entry)) (now (finals .entry)) (placeOf v) ⌝ }
@@ -237,6 +238,7 @@ fn difference(
 fn final_at(w: &[u32], pw: &[u32], stand: Stand, how: Function, xs: &[u32], cs: &[u32]) -> Found
     requires { ⌜ Standing (now w) (length (now pw)) (length (now xs)) (length (now cs)) stand how ⌝ }
     requires { ⌜ stand .level ≡ getD (now w) 4 0 ⌝ }
+    requires { ⌜ Clear (getD (now w) 0 0) (now pw) (stand .size) (now xs) how ⌝ }
     ensures { λ v. ⌜ Differing (now (w .entry)) (now (pw .entry)) (now (xs .entry)) (now (cs .entry)) stand how (placeOf v) ⌝ }
 {
     let k = w[3] as usize;
@@ -301,11 +303,12 @@ fn rest(w: &[u32], pw: &[u32], stand: Stand, how: Function, xs: &[u32], cs: &[u3
     rest(w, pw, next, next_function(w, stand, how.scale, j), &px, &pc)
 }
 
-// Deciding from table 0 on, by the table of points: refusals 8 and 9.
+// Deciding from table 0 on, by the table of points: refusals 8 and 9. Past refusal 7 no out coin lies in its round's domain, and so nothing is divided by 0.
 pub fn decide(w: &[u32], pw: &[u32]) -> Verdict
     requires { ⌜ (sheetTest (now w) ≡ accepted) × (rangeTest (sheetOf (now w)) (now w) ≡ accepted) ⌝ }
     requires { ⌜ wordsDue (sheetOf (now w)) ≤ length (now w) ⌝ }
     requires { ⌜ (Powers (getD (now w) 0 0) (rootOfUnity (sheetOf (now w))) (now pw)) × (length (now pw) ≡ getD (now w) 1 0) ⌝ }
+    requires { ⌜ outTest (sheetOf (now w)) (now w) ≡ accepted ⌝ }
     ensures { λ v.
         ⌜ verdictOf v ≡ decideBy (primeField (sheetOf (now (w .entry)) .prime)) (rootOfUnity (sheetOf (now (w .entry)))) (firstLevel (sheetOf (now (w .entry)))) (readTranscript (sheetOf (now (w .entry))) (drop 12 (now (w .entry)))) ⌝ }
 {

@@ -1,9 +1,9 @@
 -- The public field operations, ω, levels and domains (01, Fields and the sheet; Domains), by computation.
--- In fields 1 and 2 an inverse is too large a power to compute here.
+-- In fields 1 and 2 an inverse that is found is too large a power to compute here.
 use Prim.Native.Nat.{ℕ}
 use mathlib.Core.Path.{_≡_, refl}
 use mathlib.Core.List.{[], _∷_}
-use Rattle.definition.specs.Field.{element, noField, primeOf, generatorOf, sum, difference, product, powerOf, inverseOf}
+use Rattle.definition.specs.Field.{element, noField, found, noInverse, unknownField, primeOf, generatorOf, sum, difference, product, powerOf, inverseOf}
 use Rattle.definition.specs.Sheet.{sheetOf, firstLevel, laterLevels, rootOfUnity}
 use Rattle.definition.specs.Domain.{rootNumbers, domain, shiftPoint}
 use Rattle.definition.specs.Layout.{wordsDue}
@@ -38,13 +38,14 @@ pub record FieldCases : Type 0 where
   pub power·17·of·0 : powerOf 0 0 17 ≡ element 0
   pub power·17·of·3 : powerOf 0 3 17 ≡ element 3
   pub power·reduced : powerOf 0 20 2 ≡ element 9
-  -- inverses: of 0 and of p it is 0
-  pub inverse·0·of·0 : inverseOf 0 0 ≡ element 0
-  pub inverse·0·of·p : inverseOf 0 17 ≡ element 0
-  pub inverse·0·of·1 : inverseOf 0 1 ≡ element 1
-  pub inverse·0·of·5 : inverseOf 0 5 ≡ element 7
-  pub inverse·0·of·16 : inverseOf 0 16 ≡ element 16
-  pub inverse·0·reduced : inverseOf 0 22 ≡ element 7
+  -- inverses: there is none of 0, of p and of 2p
+  pub inverse·0·of·0 : inverseOf 0 0 ≡ noInverse
+  pub inverse·0·of·p : inverseOf 0 17 ≡ noInverse
+  pub inverse·0·of·2p : inverseOf 0 34 ≡ noInverse
+  pub inverse·0·of·1 : inverseOf 0 1 ≡ found 1
+  pub inverse·0·of·5 : inverseOf 0 5 ≡ found 7
+  pub inverse·0·of·16 : inverseOf 0 16 ≡ found 16
+  pub inverse·0·reduced : inverseOf 0 22 ≡ found 7
   -- field 1, with words at and above p = 65537
   pub sum·1 : sum 1 65536 2 ≡ element 1
   pub sum·1·reduced : sum 1 65537 131080 ≡ element 6
@@ -53,6 +54,7 @@ pub record FieldCases : Type 0 where
   pub product·1 : product 1 65536 65536 ≡ element 1
   pub product·1·reduced : product 1 65539 131077 ≡ element 6
   pub power·1 : powerOf 1 65539 16 ≡ element 65536
+  pub inverse·1·of·p : inverseOf 1 65537 ≡ noInverse
   -- field 2, with words at and above p = 2013265921
   pub sum·2 : sum 2 2013265920 2 ≡ element 1
   pub sum·2·reduced : sum 2 4294967295 2013265922 ≡ element 268435454
@@ -61,12 +63,15 @@ pub record FieldCases : Type 0 where
   pub product·2 : product 2 65536 65536 ≡ element 268435454
   pub product·2·reduced : product 2 4294967295 2013265923 ≡ element 536870906
   pub power·2 : powerOf 2 2013265923 31 ≡ element 134217727
+  pub inverse·2·of·0 : inverseOf 2 0 ≡ noInverse
+  pub inverse·2·of·2p : inverseOf 2 4026531842 ≡ noInverse
   -- a number above 2 names no field
   pub sum·3 : sum 3 1 1 ≡ noField
   pub difference·3 : difference 3 1 1 ≡ noField
   pub product·3 : product 3 1 1 ≡ noField
   pub power·3 : powerOf 3 1 1 ≡ noField
-  pub inverse·3 : inverseOf 3 1 ≡ noField
+  pub inverse·3 : inverseOf 3 1 ≡ unknownField
+  pub inverse·3·of·0 : inverseOf 3 0 ≡ unknownField
   pub sum·largest : sum 4294967295 1 1 ≡ noField
   -- ω of n0: in field 0 for 4, 8 and 16; in field 1 for 4096, 64 and 32
   pub root·0·4 : rootOfUnity (sheetOf (0 ∷ 4 ∷ [])) ≡ 13
@@ -124,6 +129,7 @@ fieldCases = record {
   power·reduced = refl;
   inverse·0·of·0 = refl;
   inverse·0·of·p = refl;
+  inverse·0·of·2p = refl;
   inverse·0·of·1 = refl;
   inverse·0·of·5 = refl;
   inverse·0·of·16 = refl;
@@ -135,6 +141,7 @@ fieldCases = record {
   product·1 = refl;
   product·1·reduced = refl;
   power·1 = refl;
+  inverse·1·of·p = refl;
   sum·2 = refl;
   sum·2·reduced = refl;
   difference·2·wraps = refl;
@@ -142,11 +149,14 @@ fieldCases = record {
   product·2 = refl;
   product·2·reduced = refl;
   power·2 = refl;
+  inverse·2·of·0 = refl;
+  inverse·2·of·2p = refl;
   sum·3 = refl;
   difference·3 = refl;
   product·3 = refl;
   power·3 = refl;
   inverse·3 = refl;
+  inverse·3·of·0 = refl;
   sum·largest = refl;
   root·0·4 = refl;
   root·0·8 = refl;

@@ -3,11 +3,13 @@ use Prim.Native.Nat.{ℕ}
 use mathlib.Core.Path.{_≡_, sym, ap, _∙_}
 use mathlib.Core.Option.{Option}
 use Rattle.definition.specs.Verdict as definition
-use Rattle.definition.specs.Field.{FieldAnswer}
+use Rattle.definition.specs.Field.{FieldAnswer, InverseAnswer}
 use Rattle.definition.specs.Prove as prove
 use Rattle.field.specs.declared.Element.{Element}
 use Rattle.field.specs.declared.Element.the-variants as element
-use Rattle.field.specs.Answer.{answerOf}
+use Rattle.field.specs.declared.Inverted.{Inverted}
+use Rattle.field.specs.declared.Inverted.the-variants as inverted
+use Rattle.field.specs.Answer.{answerOf, invertedOf}
 use Rattle.reader.specs.declared.Word.{Word}
 use Rattle.reader.specs.declared.Word.the-variants as word
 use Rattle.reader.specs.Words as words
@@ -17,7 +19,7 @@ use Rattle.outcome.specs.declared.Answer.{Answer}
 use Rattle.outcome.specs.declared.Answer.the-variants.{Done, Refusal}
 use Rattle.outcome.specs.Meaning as meaning
 use Rattle.outcome.specs.Meaning.{outcomeOf, verdictOf}
-use Rattle.exports.specs.Numbers.{numberOf, placeIn, refusalOf, valueOf, wordThere, wordOrZero, fieldNamed, elementOrZero}
+use Rattle.exports.specs.Numbers.{numberOf, placeIn, refusalOf, valueOf, wordThere, wordOrZero, fieldNamed, elementOrZero, inverseNumber, inverseOrZero}
 
 module _ (v : Verdict) {d : definition.Verdict} (e : verdictOf v ≡ d) where
   outcome-is : outcomeOf (v .outcome) ≡ d .outcome
@@ -98,3 +100,29 @@ module _ (a : Element) where
   -- what is written of an answer is what the definition's answer says
   pub as-defined : {d : FieldAnswer} {named element : ℕ} → ElementNumbers (answerOf a) named element → answerOf a ≡ d → ElementNumbers d named element
   as-defined n e = (n .0 ∙ ap fieldNamed e, n .1 ∙ ap elementOrZero e)
+
+abbrev pub InverseNumbers : InverseAnswer → ℕ → ℕ → Type 0
+InverseNumbers d number element = (number ≡ inverseNumber d) × (element ≡ inverseOrZero d)
+
+module _ (a : Inverted) where
+  pub inverse-found : (x : ℕ) → a ≡ inverted.Found x → InverseNumbers (invertedOf a) 1 x
+  unfolding inverseNumber inverseOrZero
+  inverse-found x h =
+      let o = ap invertedOf (sym h) in
+      (ap inverseNumber o, ap inverseOrZero o)
+
+  pub inverse-nothing : a ≡ inverted.Nothing → InverseNumbers (invertedOf a) 2 0
+  unfolding inverseNumber inverseOrZero
+  inverse-nothing h =
+      let o = ap invertedOf (sym h) in
+      (ap inverseNumber o, ap inverseOrZero o)
+
+  pub inverse-unknown : a ≡ inverted.NoField → InverseNumbers (invertedOf a) 0 0
+  unfolding inverseNumber inverseOrZero
+  inverse-unknown h =
+      let o = ap invertedOf (sym h) in
+      (ap inverseNumber o, ap inverseOrZero o)
+
+  -- what is written of an answer is what the definition's answer says
+  pub inverse-defined : {d : InverseAnswer} {number element : ℕ} → InverseNumbers (invertedOf a) number element → invertedOf a ≡ d → InverseNumbers d number element
+  inverse-defined n e = (n .0 ∙ ap inverseNumber e, n .1 ∙ ap inverseOrZero e)

@@ -3,7 +3,7 @@ use Prim.Native.Nat.{ℕ}
 use mathlib.Core.Option.{Option, none, some}
 use Rattle.definition.specs.Verdict.{Outcome, accepted, refused}
 use Rattle.definition.specs.Prove.{Answer, done, refusal}
-use Rattle.definition.specs.Field.{FieldAnswer, element, noField}
+use Rattle.definition.specs.Field.{FieldAnswer, element, noField, InverseAnswer, found, noInverse, unknownField}
 
 -- an outcome: 0 and 0 for accepted, else the fault's number and place
 unfoldable pub numberOf : Outcome → ℕ
@@ -40,3 +40,14 @@ fieldNamed (element x) = 1
 unfoldable pub elementOrZero : FieldAnswer → ℕ
 elementOrZero noField = 0
 elementOrZero (element x) = x
+
+-- an inverse: 1 and the value found, 2 and 0 where there is none, 0 and 0 where the number names no field
+unfoldable pub inverseNumber : InverseAnswer → ℕ
+inverseNumber unknownField = 0
+inverseNumber noInverse = 2
+inverseNumber (found x) = 1
+
+unfoldable pub inverseOrZero : InverseAnswer → ℕ
+inverseOrZero unknownField = 0
+inverseOrZero noInverse = 0
+inverseOrZero (found x) = x

@@ -1,5 +1,6 @@
 // The operations as C functions. Nothing is allocated and no state is kept; what is lent is lent for the call alone.
 use field::Element;
+use field::Inverted;
 use outcome::Answer;
 use outcome::Outcome;
 use reader::Word;
@@ -8,10 +9,10 @@ ghost use Rattle.definition.specs.Verify.{verify};
 ghost use Rattle.definition.specs.Block.{streamOf};
 ghost use Rattle.definition.specs.Prove.{encode, prove};
 ghost use Rattle.definition.specs.Field.{sum, difference, product, powerOf, inverseOf};
-ghost use Rattle.field.specs.Answer.{answerOf};
+ghost use Rattle.field.specs.Answer.{answerOf, invertedOf};
 ghost use Rattle.outcome.specs.Meaning.{answerOf as orderAnswer};
 ghost use Rattle.reader.specs.Words.{wordIn};
-ghost use Rattle.exports.specs.Numbers.{numberOf, placeIn, refusalOf, valueOf, wordThere, wordOrZero, fieldNamed, elementOrZero};
+ghost use Rattle.exports.specs.Numbers.{numberOf, placeIn, refusalOf, valueOf, wordThere, wordOrZero, fieldNamed, elementOrZero, inverseNumber, inverseOrZero};
 
 // Judges a file. Answers 0 for accepted, else the fault's number, and writes the fault's place (0 where accepted) and the count of reads.
 #[no_mangle]
@@ -161,11 +162,28 @@ pub extern "C" fn tevrolig_power(field: u32, a: u32, exponent: u32, element: &mu
     write_element(field::power(field, a, exponent), element)
 }
 
-// The inverse of a word in a field; that of 0 is 0.
+// Writes an inverse that was found, else 0; answers 1 where it was found, 2 where there is none, 0 where the number named no field.
+fn write_inverse(answer: Inverted, element: &mut u32) -> u32
+    ensures { λ r. ⌜ r ≡ inverseNumber (invertedOf answer) ⌝ }
+    ensures { λ r. ⌜ now (element .exit) ≡ inverseOrZero (invertedOf answer) ⌝ }
+{
+    *element = 0;
+    match answer {
+        Inverted::Found(u) => {
+            *element = u;
+            1
+        }
+        Inverted::Nothing => 2,
+        Inverted::NoField => 0,
+    }
+}
+
+// The inverse of a word in a field. Answers 1 and writes it, or answers 2 where there is none, exactly for 0, or 0 where the number names no field; `element`
+// is then 0.
 #[no_mangle]
 pub extern "C" fn tevrolig_inverse(field: u32, a: u32, element: &mut u32) -> u32
-    ensures { λ r. ⌜ r ≡ fieldNamed (inverseOf field a) ⌝ }
-    ensures { λ r. ⌜ now (element .exit) ≡ elementOrZero (inverseOf field a) ⌝ }
+    ensures { λ r. ⌜ r ≡ inverseNumber (inverseOf field a) ⌝ }
+    ensures { λ r. ⌜ now (element .exit) ≡ inverseOrZero (inverseOf field a) ⌝ }
 {
-    write_element(field::inverse(field, a), element)
+    write_inverse(field::inverse(field, a), element)
 }

@@ -4,9 +4,11 @@ use mathlib.Core.Path.{_≡_, refl, _∙_, sym, ap}
 use Prim.Native.Nat.{ℕ, zero, suc, _+_, _-_, _%_, _^_, _<_, _≤_}
 use native.Mathlib.Nat.{mod-add-mod, add-mod-mod, mod-mod}
 use native.Mathlib.Omega.{arith}
-use borrow.Author.Tests.{lt-ltb, le-ltb}
-use lib.Dec.{lit<}
-use Rattle.definition.specs.Field.{Field, primeField, power, knownField, primeOf, fieldOf, FieldAnswer, element, noField, inField, sum, difference, product, powerOf, inverseOf}
+use mathlib.Core.Bool.{cond}
+use mathlib.Core.Option.{Option, none, some}
+use borrow.Author.Tests.{lt-ltb, le-ltb, eq-eqb, ne-eqb}
+use lib.Dec.{eqb, lit<}
+use Rattle.definition.specs.Field.{Field, primeField, power, knownField, primeOf, fieldOf, FieldAnswer, element, noField, inField, answerFound, unknownField, sum, difference, product, powerOf, inverseOf}
 use Rattle.algebra.specs.ModularArithmetic.{mod-mul, mul-mod, pow-mod, power-is}
 
 pub known : (field x : ℕ) → field < 3 → element x ≡ inField field x
@@ -40,9 +42,15 @@ sub-is zero a b e h k₀ k₁ k₂ = omega arith
 sub-is (suc zero) a b e h k₀ k₁ k₂ = omega arith
 sub-is (suc (suc field)) a b e h k₀ k₁ k₂ = omega arith
 
-pub inverse-is : (field a : ℕ) {m r : ℕ} → m ≡ primeOf field → r ≡ power (fieldOf field) a (m - 2) → r ≡ fieldOf field .inverse a
+-- the inverse: none for 0, else a power
+pub inverse-none : (field a : ℕ) {x : ℕ} → x ≡ a % primeOf field → x ≡ 0 → none ≡ fieldOf field .inverse a
 unfolding fieldOf primeField
-inverse-is field a {m} em er = er ∙ power-by field a (m - 2) ∙ ap (λ (n : ℕ). a ^ (n - 2) % primeOf field) em
+inverse-none field a ex z = simp (eq-eqb (a % primeOf field) 0 (sym ex ∙ z))
+
+pub inverse-is : (field a : ℕ) {x m r : ℕ} → x ≡ a % primeOf field → (x ≡ 0 → ⊥) → m ≡ primeOf field → r ≡ power (fieldOf field) a (m - 2) → some r ≡ fieldOf field .inverse a
+unfolding fieldOf primeField
+inverse-is field a {x} {m} ex h em er =
+    ap {B = Option ℕ} some (er ∙ power-by field a (m - 2) ∙ ap (λ (n : ℕ). a ^ (n - 2) % primeOf field) em) ∙ simp (ne-eqb (a % primeOf field) 0 (λ z. h (ex ∙ z)))
 
 -- A public operation reduces its words first; the operations do not see it. So what a leaf gives, answered, is what the operation answers.
 module _ (field x : ℕ) where
@@ -68,6 +76,15 @@ module _ (field x : ℕ) where
   unfolding powerOf
   power-of-is n e = answered (e ∙ power-by field x n ∙ sym (power-by field (x % p) n ∙ pow-mod p x n))
 
-  pub inverse-of-is : {s : ℕ} {o : FieldAnswer} → s ≡ fieldOf field .inverse x → o ≡ inField field s → o ≡ inverseOf field x
-  unfolding fieldOf primeField inverseOf
-  inverse-of-is e = answered (e ∙ sym (pow-mod p x (p - 2)))
+  -- the inverse of a word is that of the word reduced
+  inverse-reduced : fieldOf field .inverse x ≡ fieldOf field .inverse (x % p)
+  unfolding fieldOf primeField
+  inverse-reduced = λ i. cond (eqb (sym (mod-mod x p) i) 0) none (some (sym (pow-mod p x (p - 2)) i))
+
+  pub inverse-of-is : {o : Option ℕ} → field < 3 → o ≡ fieldOf field .inverse x → answerFound o ≡ inverseOf field x
+  unfolding inverseOf knownField
+  inverse-of-is h e = ap answerFound (e ∙ inverse-reduced) ∙ simp (lt-ltb field 3 h)
+
+  pub inverse-unknown : 3 ≤ field → unknownField ≡ inverseOf field x
+  unfolding inverseOf knownField
+  inverse-unknown h = simp (le-ltb field 3 h)

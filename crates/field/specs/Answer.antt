@@ -1,9 +1,23 @@
 -- What the answer of a public operation says, in the words of the definition. Assumes nothing.
 use Prim.Native.Nat.{ℕ}
-use Rattle.definition.specs.Field.{FieldAnswer, element, noField}
+use mathlib.Core.Option.{Option, none, some}
+use Rattle.definition.specs.Field.{FieldAnswer, element, noField, InverseAnswer, found, noInverse, unknownField}
 use Rattle.field.specs.declared.Element.{Element}
 use Rattle.field.specs.declared.Element.the-variants.{Value, NoField}
+use Rattle.field.specs.declared.Inversion.{Inversion}
+use Rattle.field.specs.declared.Inversion.the-variants as inversion
+use Rattle.field.specs.declared.Inverted.{Inverted}
+use Rattle.field.specs.declared.Inverted.the-variants as inverted
 
 abbrev pub answerOf : Element → FieldAnswer
 answerOf (Value x) = element x
 answerOf NoField = noField
+
+abbrev pub inversionOf : Inversion → Option ℕ
+inversionOf (inversion.Found x) = some x
+inversionOf inversion.Nothing = none
+
+abbrev pub invertedOf : Inverted → InverseAnswer
+invertedOf (inverted.Found x) = found x
+invertedOf inverted.Nothing = noInverse
+invertedOf inverted.NoField = unknownField

@@ -4,7 +4,7 @@
 ghost use mathlib.Core.Path.{_≡_};
 ghost use Prim.Native.Nat.{_%_};
 ghost use Rattle.definition.specs.Field.{Field, primeOf, fieldOf, power, inField, sum, difference, product, powerOf, inverseOf};
-ghost use Rattle.field.specs.Answer.{answerOf};
+ghost use Rattle.field.specs.Answer.{answerOf, inversionOf, invertedOf};
 
 // A multiple of all three primes that is above every word: added before a word is taken away, it keeps a difference from going below zero.
 const ABOVE: u64 = 17 * 65537 * 2013265921;
@@ -76,11 +76,21 @@ pub fn pow(field: u32, a: u32, e: u32) -> u32
     r
 }
 
-// The inverse, as a power; that of 0 is 0.
-pub fn inv(field: u32, a: u32) -> u32
-    ensures { λ r. ⌜ r ≡ fieldOf field .inverse a ⌝ }
+// What an inversion answers: the inverse, or that there is none, which is so for 0 alone.
+pub enum Inversion {
+    Found(u32),
+    Nothing,
+}
+
+// The inverse, as a power.
+pub fn inv(field: u32, a: u32) -> Inversion
+    ensures { λ r. ⌜ inversionOf r ≡ fieldOf field .inverse a ⌝ }
 {
-    pow(field, a, modulus(field) - 2)
+    let x = reduce(field, a as u64);
+    if x == 0 {
+        return Inversion::Nothing;
+    }
+    Inversion::Found(pow(field, a, modulus(field) - 2))
 }
 
 // What a public operation answers: an element, or that the number names no field.
@@ -128,9 +138,23 @@ pub fn power(field: u32, a: u32, exponent: u32) -> Element
     answer(field, pow(field, a, exponent))
 }
 
-// The inverse of a word taken modulo the prime; that of 0 is 0.
-pub fn inverse(field: u32, a: u32) -> Element
-    ensures { λ r. ⌜ answerOf r ≡ inverseOf field a ⌝ }
+// What the public inverse answers: a found value, that there is none, or that the number names no field.
+pub enum Inverted {
+    Found(u32),
+    Nothing,
+    NoField,
+}
+
+// The inverse of a word taken modulo the prime.
+pub fn inverse(field: u32, a: u32) -> Inverted
+    ensures { λ r. ⌜ invertedOf r ≡ inverseOf field a ⌝ }
 {
-    answer(field, inv(field, a))
+    if 3 <= field {
+        return Inverted::NoField;
+    }
+    let i = inv(field, a);
+    let Inversion::Found(x) = i else {
+        return Inverted::Nothing;
+    };
+    Inverted::Found(x)
 }

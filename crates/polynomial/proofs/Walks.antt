@@ -5,7 +5,7 @@ use mathlib.Core.List.{List, _∷_}
 use native.Mathlib.Omega.{arith}
 use lib.ListN.{length, drop, getD, set, length-drop, length-set}
 use lib.Seq.{drop-length, drop-set-lt, getD-set-same}
-use Rattle.definition.specs.Field.{Field}
+use Rattle.definition.specs.Field.{Field, reciprocal}
 use Rattle.definition.specs.Polynomial.{evaluate, geometric}
 use Rattle.algebra.specs.Evaluation.{evaluate-cons}
 use Rattle.polynomial.specs.Newton.{vanishAt, newtonAt, nextCoefficient, coefficientInFront, newton, newtonCorrected}
@@ -14,7 +14,7 @@ use Rattle.polynomial.specs.Backwards.{drop-back, drop-store}
 module _ (F : Field ℕ) where
   infixl 65 _⊕_ _⊖_
   infixl 70 _⊗_
-  open Field F using (𝟘, 𝟙, _⊕_, _⊖_, _⊗_, inverse)
+  open Field F using (𝟘, 𝟙, _⊕_, _⊖_, _⊗_)
 
   -- ---- Horner's rule
 
@@ -108,10 +108,10 @@ module _ (F : Field ℕ) where
   filled-one xs ys from {l} h e odd el eo ei = rw (eo, ei) (omega arith, (omega arith, (e, (omega arith, el))))
 
   -- the words that give a coefficient, and the one in front of it
-  pub next-is : (value vanish y : ℕ) {u d r : ℕ} → u ≡ inverse vanish → d ≡ y ⊖ value → r ≡ d ⊗ u → r ≡ nextCoefficient F value vanish y
+  pub next-is : (value vanish y : ℕ) {u d r : ℕ} → u ≡ reciprocal F vanish → d ≡ y ⊖ value → r ≡ d ⊗ u → r ≡ nextCoefficient F value vanish y
   next-is value vanish y eu ed er = cc er
 
-  pub in-front-is : (value vanish a c b y : ℕ) {d v u n e r : ℕ} → d ≡ b ⊖ a → v ≡ d ⊗ vanish → u ≡ inverse v → n ≡ value ⊕ c ⊗ vanish → e ≡ y ⊖ n → r ≡ e ⊗ u →
+  pub in-front-is : (value vanish a c b y : ℕ) {d v u n e r : ℕ} → d ≡ b ⊖ a → v ≡ d ⊗ vanish → u ≡ reciprocal F v → n ≡ value ⊕ c ⊗ vanish → e ≡ y ⊖ n → r ≡ e ⊗ u →
       r ≡ coefficientInFront F value vanish a c b y
   in-front-is value vanish a c b y ed ev eu en ee er = cc er
 
@@ -122,7 +122,7 @@ module _ (F : Field ℕ) where
   corrected-by c e x y value u ed eq eg er = cc er
 
   pub corrected : (xs cs : List ℕ) (from c x y : ℕ) {a v u r : ℕ} →
-      a ≡ newtonAt F (drop from xs) cs x → v ≡ vanishAt F (drop from xs) x → u ≡ inverse v →
+      a ≡ newtonAt F (drop from xs) cs x → v ≡ vanishAt F (drop from xs) x → u ≡ reciprocal F v →
       r ≡ (y ⊖ a) ⊗ u ⊗ evaluate F (geometric F c (length xs - from)) x → r ≡ newtonCorrected F (drop from xs) cs c x y
   unfolding newtonCorrected
   corrected xs cs from c x y ea ev eu er = cc (length-drop from xs)

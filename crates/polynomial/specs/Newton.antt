@@ -1,13 +1,13 @@
 -- Interpolation in Newton's form: a polynomial written over the vanishing polynomials of the points behind each point, with one coefficient for each.
 use mathlib.Core.List.{List, [], _∷_}
 use lib.ListN.{length}
-use Rattle.definition.specs.Field.{Field}
+use Rattle.definition.specs.Field.{Field, reciprocal}
 use Rattle.definition.specs.Polynomial.{evaluate, geometric}
 
 module _ {A : Type 0} (F : Field A) where
   infixl 65 _⊕_ _⊖_
   infixl 70 _⊗_
-  open Field F using (𝟘, 𝟙, _⊕_, _⊖_, _⊗_, inverse)
+  open Field F using (𝟘, 𝟙, _⊕_, _⊖_, _⊗_)
 
   -- the value at x of the points' vanishing polynomial: the product of x - a
   unfoldable pub vanishAt : List A → A → A
@@ -22,7 +22,7 @@ module _ {A : Type 0} (F : Field A) where
 
   -- the coefficient of one sample more, with the value y, where at its point the form of the others has `value` and their vanishing polynomial `vanish`
   abbrev pub nextCoefficient : A → A → A → A
-  nextCoefficient value vanish y = (y ⊖ value) ⊗ inverse vanish
+  nextCoefficient value vanish y = (y ⊖ value) ⊗ reciprocal F vanish
 
   -- the same for a sample at b in front of one at a, whose coefficient is c: the others' values at b take the step over a
   abbrev pub coefficientInFront : A → A → A → A → A → A → A
@@ -36,4 +36,4 @@ module _ {A : Type 0} (F : Field A) where
 
   -- the definition's corrected value at x, where the table sent has y, by Newton's form
   unfoldable pub newtonCorrected : List A → List A → A → A → A → A
-  newtonCorrected xs cs c x y = (y ⊖ newtonAt xs cs x) ⊗ inverse (vanishAt xs x) ⊗ evaluate F (geometric F c (length xs)) x
+  newtonCorrected xs cs c x y = (y ⊖ newtonAt xs cs x) ⊗ reciprocal F (vanishAt xs x) ⊗ evaluate F (geometric F c (length xs)) x

@@ -3,7 +3,7 @@ use mathlib.Core.Path.{_≡_, _∙_, sym, ap}
 use mathlib.Core.List.{List, [], _∷_, zipWith}
 use native.Mathlib.Omega.{arith}
 use lib.ListN.{length}
-use Rattle.definition.specs.Field.{Field}
+use Rattle.definition.specs.Field.{Field, reciprocal}
 use Rattle.definition.specs.Polynomial.{points, pair, evaluate, vanishing, interpolate, geometric, correctedValue}
 use Rattle.algebra.specs.Laws.{FieldLaws}
 use Rattle.algebra.specs.Evaluation.{evaluate-nil}
@@ -15,7 +15,7 @@ use Rattle.polynomial.specs.Pairs.{pair-length, points-pair}
 module _ {A : Type 0} (F : Field A) (L : FieldLaws F) where
   infixl 65 _⊕_ _⊖_
   infixl 70 _⊗_
-  open Field F using (_⊕_, _⊖_, _⊗_, inverse)
+  open Field F using (_⊕_, _⊖_, _⊗_)
 
   pub vanish-ok : (xs : List A) (x : A) → vanishAt F xs x ≡ evaluate F (vanishing F xs) x
   unfolding vanishAt
@@ -30,11 +30,11 @@ module _ {A : Type 0} (F : Field A) (L : FieldLaws F) where
       let s : length ys ≡ length xs = omega arith in
       rw (newton-ok xs ys x s, newton-ok xs ys a s, vanish-ok xs x, vanish-ok xs a)
       (sym (interpolate-cons F L (record { point = a; value = y }) (pair xs ys) x
-      ∙ ap (λ (l : List A). evaluate F (interpolate F (pair xs ys)) x ⊕ ((y ⊖ evaluate F (interpolate F (pair xs ys)) a) ⊗ inverse (evaluate F (vanishing F l) a)) ⊗ evaluate F (vanishing F l) x) (points-pair xs ys s)))
+      ∙ ap (λ (l : List A). evaluate F (interpolate F (pair xs ys)) x ⊕ ((y ⊖ evaluate F (interpolate F (pair xs ys)) a) ⊗ reciprocal F (evaluate F (vanishing F l) a)) ⊗ evaluate F (vanishing F l) x) (points-pair xs ys s)))
 
   pub corrected-ok : (xs ys : List A) (c x y : A) → length ys ≡ length xs →
       newtonCorrected F xs (newton F xs ys) c x y ≡ correctedValue F (pair xs ys) c x y
   unfolding correctedValue newtonCorrected
   corrected-ok xs ys c x y e =
       let v : vanishAt F xs x ≡ evaluate F (vanishing F (points (pair xs ys))) x = vanish-ok xs x ∙ ap (λ (l : List A). evaluate F (vanishing F l) x) (sym (points-pair xs ys e)) in
-      λ i. (y ⊖ newton-ok xs ys x e i) ⊗ inverse (v i) ⊗ evaluate F (geometric F c (sym (pair-length xs ys e) i)) x
+      λ i. (y ⊖ newton-ok xs ys x e i) ⊗ reciprocal F (v i) ⊗ evaluate F (geometric F c (sym (pair-length xs ys e) i)) x

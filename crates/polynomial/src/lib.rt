@@ -2,12 +2,16 @@
 // Newton's form has one coefficient for each point, and a single walk over points and coefficients gives the value at x of the polynomial through
 // the samples and of the points' vanishing polynomial. Samples stand in the last places of their slices, from number `from` on, and a walk goes
 // from the end to the front, as the definition's recursions do.
+use field::Inversion;
 ghost use mathlib.Core.Path.{_≡_};
 ghost use Prim.Native.Nat.{_-_, _≤_, _<_};
 ghost use lib.ListN.{length, drop};
 ghost use Rattle.definition.specs.Field.{Field, fieldOf};
 ghost use Rattle.definition.specs.Polynomial.{evaluate, geometric};
+ghost use Rattle.algebra.specs.Different.{Apart, Differ};
+ghost use Rattle.algebra.specs.ListFacts.{All};
 ghost use Rattle.polynomial.specs.Newton.{vanishAt, newtonAt, nextCoefficient, coefficientInFront, newton, newtonCorrected};
+ghost use Rattle.polynomial.specs.Inverses.{bothFound, Nonzero};
 
 // The value at x of the polynomial with these coefficients, by Horner's rule.
 pub fn value_at(field: u32, coefficients: &[u32], x: u32) -> u32
@@ -95,61 +99,68 @@ pub struct Two {
     pub second: u32,
 }
 
-// The inverses of two words by one inversion: that of their product, times the other word. Where the product is 0, each by itself.
-pub fn inverse_two(field: u32, a: u32, b: u32) -> Two
-    ensures { λ r. ⌜ r .first ≡ fieldOf field .inverse a ⌝ }
-    ensures { λ r. ⌜ r .second ≡ fieldOf field .inverse b ⌝ }
+// The inverses of two words, or that one of them has none.
+pub enum Inversions {
+    Found(u32, u32),
+    Nothing,
+}
+
+// The inverses of two words by one inversion: that of their product, times the other word. Where the product has none, one of the two is 0.
+pub fn inverse_two(field: u32, a: u32, b: u32) -> Inversions
+    ensures { λ r. ⌜ r ≡ bothFound (fieldOf field .inverse a) (fieldOf field .inverse b) ⌝ }
 {
-    let product = field::mul(field, a, b);
-    if product == 0 {
-        return Two {
-            first: field::inv(field, a),
-            second: field::inv(field, b),
-        };
-    }
-    let inverse = field::inv(field, product);
-    Two {
-        first: field::mul(field, inverse, b),
-        second: field::mul(field, inverse, a),
-    }
+    let inversion = field::inv(field, field::mul(field, a, b));
+    let Inversion::Found(u) = inversion else {
+        return Inversions::Nothing;
+    };
+    let first = field::mul(field, u, b);
+    let second = field::mul(field, u, a);
+    Inversions::Found(first, second)
 }
 
 // The coefficient of Newton's form in front of those from number i on, which stand in out.
 fn one_more(field: u32, xs: &[u32], ys: &[u32], i: usize, out: &mut [u32])
     requires { ⌜ (0 < i) × ((i ≤ length (now xs)) × ((length (now ys) ≡ length (now xs)) × (length (now out) ≡ length (now xs)))) ⌝ }
+    requires { ⌜ Apart (fieldOf field) (drop (i - 1) (now xs)) ⌝ }
     requires { ⌜ drop i (now out) ≡ newton (fieldOf field) (drop i (now xs)) (drop i (now ys)) ⌝ }
     ensures { λ _. ⌜ drop (i - 1) (now (out .exit)) ≡ newton (fieldOf field) (drop (i - 1) (now (xs .entry))) (drop (i - 1) (now (ys .entry))) ⌝ }
 {
     let b = newton_at(field, xs, out, i, xs[i - 1]);
-    out[i - 1] = field::mul(
-        field,
-        field::sub(field, ys[i - 1], b.value),
-        field::inv(field, b.vanish),
-    );
+    let inversion = field::inv(field, b.vanish);
+    let Inversion::Found(u) = inversion else {
+        // never: the points differ, so that V of those behind differs from 0 at this one
+        return;
+    };
+    out[i - 1] = field::mul(field, field::sub(field, ys[i - 1], b.value), u);
 }
 
 // The coefficients of two samples more, one at a and in front of it one at b, by what a walk over the samples behind them gave at a and at b.
 fn next_two(field: u32, walk: BothTwo, a: u32, ya: u32, b: u32, yb: u32) -> Two
+    requires { ⌜ (Nonzero field (walk .first .vanish)) × (Nonzero field (fieldOf field ._⊗_ (fieldOf field ._⊖_ b a) (walk .second .vanish))) ⌝ }
     ensures { λ r. ⌜ r .first ≡ nextCoefficient (fieldOf field) (walk .first .value) (walk .first .vanish) ya ⌝ }
     ensures { λ r. ⌜ r .second ≡ coefficientInFront (fieldOf field) (walk .second .value) (walk .second .vanish) a (r .first) b yb ⌝ }
 {
     let vanish = field::mul(field, field::sub(field, b, a), walk.second.vanish);
-    let inverses = inverse_two(field, walk.first.vanish, vanish);
-    let first = field::mul(
-        field,
-        field::sub(field, ya, walk.first.value),
-        inverses.first,
-    );
+    let inversions = inverse_two(field, walk.first.vanish, vanish);
+    let Inversions::Found(u, v) = inversions else {
+        // never: both divisors differ from 0
+        return Two {
+            first: 0,
+            second: 0,
+        };
+    };
+    let first = field::mul(field, field::sub(field, ya, walk.first.value), u);
     let value = field::add_product(field, walk.second.value, first, walk.second.vanish);
     Two {
         first: first,
-        second: field::mul(field, field::sub(field, yb, value), inverses.second),
+        second: field::mul(field, field::sub(field, yb, value), v),
     }
 }
 
 // The two coefficients of Newton's form in front of those from number i on, which stand in out.
 fn two_more(field: u32, xs: &[u32], ys: &[u32], i: usize, out: &mut [u32])
     requires { ⌜ (1 < i) × ((i ≤ length (now xs)) × ((length (now ys) ≡ length (now xs)) × (length (now out) ≡ length (now xs)))) ⌝ }
+    requires { ⌜ Apart (fieldOf field) (drop (i - 2) (now xs)) ⌝ }
     requires { ⌜ drop i (now out) ≡ newton (fieldOf field) (drop i (now xs)) (drop i (now ys)) ⌝ }
     ensures { λ _. ⌜ drop (i - 2) (now (out .exit)) ≡ newton (fieldOf field) (drop (i - 2) (now (xs .entry))) (drop (i - 2) (now (ys .entry))) ⌝ }
 {
@@ -165,6 +176,7 @@ fn two_more(field: u32, xs: &[u32], ys: &[u32], i: usize, out: &mut [u32])
 // Of an odd number the last goes first and by itself, as its walk is the shortest.
 pub fn coefficients(field: u32, xs: &[u32], ys: &[u32], from: usize, out: &mut [u32])
     requires { ⌜ (from ≤ length (now xs)) × ((length (now ys) ≡ length (now xs)) × (length (now out) ≡ length (now xs))) ⌝ }
+    requires { ⌜ Apart (fieldOf field) (drop from (now xs)) ⌝ }
     ensures { λ _. ⌜ drop from (now (out .exit)) ≡ newton (fieldOf field) (drop from (now (xs .entry))) (drop from (now (ys .entry))) ⌝ }
 {
     let mut i = xs.len();
@@ -220,14 +232,22 @@ pub fn corrected_two(
     y2: u32,
 ) -> Two
     requires { ⌜ (from ≤ length (now xs)) × (length (now xs) ≤ length (now cs)) ⌝ }
+    requires { ⌜ (All (λ a. Differ (fieldOf field) x1 a) (drop from (now xs))) × (All (λ a. Differ (fieldOf field) x2 a) (drop from (now xs))) ⌝ }
     ensures { λ r. ⌜ r .first ≡ newtonCorrected (fieldOf field) (drop from (now (xs .entry))) (drop from (now (cs .entry))) c x1 y1 ⌝ }
     ensures { λ r. ⌜ r .second ≡ newtonCorrected (fieldOf field) (drop from (now (xs .entry))) (drop from (now (cs .entry))) c x2 y2 ⌝ }
 {
     let b = newton_two(field, xs, cs, from, x1, x2);
-    let inverses = inverse_two(field, b.first.vanish, b.second.vanish);
+    let inversions = inverse_two(field, b.first.vanish, b.second.vanish);
+    let Inversions::Found(u, v) = inversions else {
+        // never: neither x1 nor x2 is the point of a sample, so that V differs from 0 at both
+        return Two {
+            first: 0,
+            second: 0,
+        };
+    };
     let e = xs.len() - from;
     Two {
-        first: corrected_by(field, b.first.value, inverses.first, c, e, x1, y1),
-        second: corrected_by(field, b.second.value, inverses.second, c, e, x2, y2),
+        first: corrected_by(field, b.first.value, u, c, e, x1, y1),
+        second: corrected_by(field, b.second.value, v, c, e, x2, y2),
     }
 }

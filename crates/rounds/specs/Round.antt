@@ -6,7 +6,9 @@ use native.Mathlib.Nat.{suc-mul, mul-le-mul-left, mul-le-mul-right, le-of-eq, po
 use native.Mathlib.Omega.{arith}
 use lib.ListN.{length, getD, drop}
 use lib.Pow.{pow-pos}
-use Rattle.definition.specs.Field.{Field, fieldOf, primeOf}
+use Rattle.definition.specs.Field.{Field, fieldOf, reciprocal}
+use Rattle.algebra.specs.Different.{Differ}
+use Rattle.algebra.specs.ListFacts.{All}
 use Rattle.definition.specs.Polynomial.{Sample}
 use Rattle.polynomial.specs.Newton.{newtonCorrected}
 use Rattle.rounds.specs.declared.Function.{Function}
@@ -28,9 +30,9 @@ valueIn field pw table xs cs how m =
 abbrev pub rootIn : ℕ → List ℕ → List ℕ → List ℕ → List ℕ → Function → ℕ → ℕ → ℕ
 rootIn field pw table xs cs how j m = valueIn field pw table xs cs how (j + m * how .step)
 
--- 1/2 is (p + 1)/2, and p is odd
+-- 1/2
 unfoldable pub halfOf : ℕ → ℕ
-halfOf field = primeOf field / 2 + 1
+halfOf field = reciprocal (fieldOf field) 2
 
 -- the fold at shift index j with coin r, by halves of the values at the k roots: the first root is ω^(1 + scale·j), the next are scale·step powers apart
 unfoldable pub foldIn : ℕ → List ℕ → List ℕ → List ℕ → List ℕ → Function → ℕ → ℕ → ℕ → ℕ
@@ -51,6 +53,10 @@ pub record Fits (points n : ℕ) (how : Function) (k : ℕ) : Type 0 where
   pub roots : k * how .step ≡ n
   pub room : how .scale * n ≡ points
   pub small : points ≤ 4096
+
+-- No point of a table of n values is the point of a sample, so that V, by which a value is divided, differs from 0 there.
+abbrev pub Clear : ℕ → List ℕ → ℕ → List ℕ → Function → Type 0
+Clear field pw n xs how = (m : ℕ) → m < n → All (λ a. Differ (fieldOf field) (getD pw (how .scale * m) 0) a) (drop (how .from) xs)
 
 -- each index of a list is below the number of shift points
 abbrev pub Below : ℕ → List ℕ → Type 0

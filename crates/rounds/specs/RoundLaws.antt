@@ -1,14 +1,15 @@
 -- What is worked out over the words in hand is the definition's, where the words are those of a level's function.
-use Prim.Native.Nat.{ℕ, zero, suc, _+_, _*_, _^_, _<_, zero-le, suc-le-suc}
+use Prim.Native.Nat.{ℕ, zero, suc, _+_, _*_, _%_, _^_, _<_, zero-le, suc-le-suc}
+use native.Mathlib.Nat.{mod-eq-of-lt}
 use mathlib.Core.Path.{_≡_, _∙_, sym, ap, refl}
 use mathlib.Core.Bool.{Bool, not}
 use mathlib.Core.List.{List, [], _∷_, _++_, map}
-use mathlib.Core.Option.{Option}
+use mathlib.Core.Option.{Option, some}
 use native.Mathlib.Omega.{arith}
 use lib.Dec.{eqb}
 use lib.ListN.{length}
 use Rattle.definition.specs.Lists.{firstTrue}
-use Rattle.definition.specs.Field.{Field, primeField, primeOf, fieldOf, power}
+use Rattle.definition.specs.Field.{Field, primeField, primeOf, fieldOf, power, reciprocal}
 use Rattle.definition.specs.Sheet.{Level, shiftCount}
 use Rattle.definition.specs.Polynomial.{Sample, pair, evaluate}
 use Rattle.definition.specs.Domain.{shiftPoint, foldAt}
@@ -16,6 +17,7 @@ use Rattle.definition.specs.Transcript.{Round}
 use Rattle.definition.specs.Deciding.{answers, differences}
 use Rattle.algebra.specs.PrimeField.{laws, signs-differ, suited}
 use Rattle.algebra.specs.RootsOfUnity.{minusOne}
+use Rattle.polynomial.specs.Inverses.{Nonzero, found-is}
 use Rattle.samples.specs.Samples.{sifted}
 use Rattle.rounds.specs.declared.Function.{Function}
 use Rattle.rounds.specs.PointsIn.{backIn, back-power, shift-in}
@@ -50,14 +52,20 @@ differsIn field coefficients s = not (eqb (evaluate (fieldOf field) coefficients
 
 -- ---- folds and samples
 
--- twice 1/2 is 1
-two-halves : (field : ℕ) → fieldOf field ._⊗_ (fieldOf field ._⊕_ (fieldOf field .𝟙) (fieldOf field .𝟙)) (halfOf field) ≡ fieldOf field .𝟙
-unfolding fieldOf primeField primeOf halfOf
-two-halves zero = refl
-two-halves (suc zero) = refl
-two-halves (suc (suc field)) = refl
+-- 2 differs from 0, and twice 1/2 is 1
+pub two-nonzero : (field : ℕ) → Nonzero field 2
+unfolding fieldOf primeField
+two-nonzero field z = let e : _≡_ {A = ℕ} 2 0 = sym (mod-eq-of-lt (suited field .large)) ∙ laws field .mul-one 2 ∙ z in omega arith
 
-opposite-signs : (field : ℕ) → minusOne (fieldOf field) ≡ fieldOf field .𝟙 → ⊥
+pub half-is : (field : ℕ) {u : ℕ} → some u ≡ fieldOf field .inverse 2 → u ≡ halfOf field
+unfolding halfOf
+half-is field e = found-is field 2 (two-nonzero field) e
+
+two-halves : (field : ℕ) → fieldOf field ._⊗_ (fieldOf field ._⊕_ (fieldOf field .𝟙) (fieldOf field .𝟙)) (halfOf field) ≡ fieldOf field .𝟙
+unfolding fieldOf primeField halfOf
+two-halves field = ap (λ (x : ℕ). x * reciprocal (fieldOf field) 2 % primeOf field) (mod-eq-of-lt (suited field .large)) ∙ laws field .mul-inverse 2 (two-nonzero field)
+
+pub opposite-signs : (field : ℕ) → minusOne (fieldOf field) ≡ fieldOf field .𝟙 → ⊥
 unfolding fieldOf
 opposite-signs field = signs-differ (primeOf field) (suited field .large)
 

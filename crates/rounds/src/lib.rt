@@ -4,9 +4,11 @@
 // the inverse of a power stands in the table too. A level's function is worked out from the table sent and from the samples of its round, whose points xs
 // and Newton coefficients cs stand in the last places of their slices.
 //
-// The fold at a shift point takes no inversion. Its k roots are x·ζ^m, where ζ^(k/2) is -1, so root m and root m + k/2 are opposite. From the values v at x
-// and w at -x the polynomial E + r·O, made of the even and the odd half of the one through all k values, has (v + w + r·(v - w)/x)/2 at x², and at r² what
-// that one has at r. So k values halve to k/2, until one is left. The caller lends `values` for them, k words of scratch.
+// The fold at a shift point divides by 2 and by powers of ω. Its k roots are x·ζ^m, where ζ^(k/2) is -1, so root m and root m + k/2 are opposite. From the values v
+// at x and w at -x the polynomial E + r·O, made of the even and the odd half of the one through all k values, has (v + w + r·(v - w)/x)/2 at x², and at r² what
+// that one has at r. So k values halve to k/2, until one is left. The caller lends `values` for them, k words of scratch. The inverse of 2 is asked for once for
+// all coins of a round; that of a power of ω stands in the table.
+use field::Inversion;
 use outcome::Found;
 use polynomial::Two;
 use samples::Gathered;
@@ -15,11 +17,12 @@ ghost use mathlib.Core.List.{map};
 ghost use Prim.Native.Nat.{ℕ, _+_, _*_, _^_, _≤_, _<_};
 ghost use lib.ListN.{length, getD};
 ghost use Rattle.definition.specs.Field.{fieldOf};
+ghost use Rattle.field.specs.Answer.{inversionOf};
 ghost use Rattle.outcome.specs.Meaning.{placeOf};
 ghost use Rattle.samples.specs.Samples.{kept, sifted, Room};
 ghost use Rattle.rounds.specs.Halving.{joined, halving, exponentOf};
 ghost use Rattle.rounds.specs.PointsIn.{backIn, shiftIn, ShiftPoint};
-ghost use Rattle.rounds.specs.Round.{Fits, Below, halfOf, valueIn, rootIn, foldIn, sampleIn};
+ghost use Rattle.rounds.specs.Round.{Fits, Below, Clear, halfOf, valueIn, rootIn, foldIn, sampleIn};
 ghost use Rattle.rounds.specs.RoundLaws.{Answered, Compared};
 
 // How the function of a level is worked out: its point m stands at scale·m in pw, the roots of a shift point have numbers that are `step` apart, and the
@@ -43,7 +46,7 @@ fn value_two(
     m: usize,
     o: usize,
 ) -> Two
-    requires { ⌜ (how .from ≤ length (now xs)) × (length (now xs) ≤ length (now cs)) ⌝ }
+    requires { ⌜ (how .from ≤ length (now xs)) × ((length (now xs) ≤ length (now cs)) × (Clear field (now pw) (length (now table)) (now xs) how)) ⌝ }
     requires { ⌜ (m < length (now table)) × (o < length (now table)) ⌝ }
     requires { ⌜ (how .scale * m < length (now pw)) × (how .scale * o < length (now pw)) ⌝ }
     ensures { λ v. ⌜ v .first ≡ valueIn field (now (pw .entry)) (now (table .entry)) (now (xs .entry)) (now (cs .entry)) how m ⌝ }
@@ -73,7 +76,7 @@ fn gather(
     j: usize,
     values: &mut [u32],
 )
-    requires { ⌜ (how .from ≤ length (now xs)) × (length (now xs) ≤ length (now cs)) ⌝ }
+    requires { ⌜ (how .from ≤ length (now xs)) × ((length (now xs) ≤ length (now cs)) × (Clear field (now pw) (length (now table)) (now xs) how)) ⌝ }
     requires { ⌜ Fits (length (now pw)) (length (now table)) how (length (now values)) ⌝ }
     requires { ⌜ j < how .step ⌝ }
     ensures { λ _. ⌜ ((m : ℕ) → m < length (now (values .entry)) → getD (now (values .exit)) m 0 ≡ rootIn field (now (pw .entry)) (now (table .entry)) (now (xs .entry)) (now (cs .entry)) how j m) ⌝ }
@@ -98,11 +101,11 @@ fn gather(
     }
 }
 
-// 1/2 in the field: (p + 1)/2, where p is odd.
-fn one_half(field: u32) -> u32
-    ensures { λ v. ⌜ v ≡ halfOf field ⌝ }
+// What the inversion of 2 answers.
+fn invert_two(field: u32) -> Inversion
+    ensures { λ v. ⌜ inversionOf v ≡ fieldOf field .inverse 2 ⌝ }
 {
-    field::modulus(field) / 2 + 1
+    field::inv(field, 2)
 }
 
 // The values v at x and w at -x, joined; y is 1/x.
@@ -142,13 +145,25 @@ fn turn(field: u32, pw: &[u32], half: u32, e: usize, d: usize, r: u32, h: usize,
     }
 }
 
-// The values at the powers e, e + d, .. of ω, folded with r. Each turn doubles the exponents and squares the coin.
-fn fold_values(field: u32, pw: &[u32], e: usize, d: usize, r: u32, values: &mut [u32]) -> u32
+// The values at the powers e, e + d, .. of ω, folded with r. Each turn doubles the exponents and squares the coin. `two` is the answer for 2.
+fn fold_values(
+    field: u32,
+    pw: &[u32],
+    two: Inversion,
+    e: usize,
+    d: usize,
+    r: u32,
+    values: &mut [u32],
+) -> u32
     requires { ⌜ (0 < length (now pw)) × ((e ≤ 4096) × (d ≤ 4096)) ⌝ }
     requires { ⌜ (length (now values) ≡ 2 ^ exponentOf (length (now values))) × (length (now values) ≤ 16) ⌝ }
+    requires { ⌜ inversionOf two ≡ fieldOf field .inverse 2 ⌝ }
     ensures { λ v. ⌜ v ≡ halving (fieldOf field) (halfOf field) (backIn (now (pw .entry))) (exponentOf (length (now (values .entry)))) e d r (λ m. getD (now (values .entry)) m 0) ⌝ }
 {
-    let half = one_half(field);
+    let Inversion::Found(half) = two else {
+        // never: 2 differs from 0 in each field
+        return 0;
+    };
     let mut count = values.len();
     let mut first = e;
     let mut step = d;
@@ -173,17 +188,20 @@ fn fold_at(
     how: Function,
     j: usize,
     r: u32,
+    two: Inversion,
     values: &mut [u32],
 ) -> u32
-    requires { ⌜ (how .from ≤ length (now xs)) × (length (now xs) ≤ length (now cs)) ⌝ }
+    requires { ⌜ (how .from ≤ length (now xs)) × ((length (now xs) ≤ length (now cs)) × (Clear field (now pw) (length (now table)) (now xs) how)) ⌝ }
     requires { ⌜ Fits (length (now pw)) (length (now table)) how (length (now values)) ⌝ }
     requires { ⌜ j < how .step ⌝ }
+    requires { ⌜ inversionOf two ≡ fieldOf field .inverse 2 ⌝ }
     ensures { λ v. ⌜ v ≡ foldIn field (now (pw .entry)) (now (table .entry)) (now (xs .entry)) (now (cs .entry)) how (length (now (values .entry))) r j ⌝ }
 {
     gather(field, pw, table, xs, cs, how, j, values);
     fold_values(
         field,
         pw,
+        two,
         1 + how.scale * j,
         how.scale * how.step,
         r,
@@ -223,16 +241,66 @@ pub fn sample_at(
     how: Function,
     j: usize,
     r: u32,
+    two: Inversion,
     values: &mut [u32],
 ) -> Point
-    requires { ⌜ (how .from ≤ length (now xs)) × (length (now xs) ≤ length (now cs)) ⌝ }
+    requires { ⌜ (how .from ≤ length (now xs)) × ((length (now xs) ≤ length (now cs)) × (Clear field (now pw) (length (now table)) (now xs) how)) ⌝ }
     requires { ⌜ Fits (length (now pw)) (length (now table)) how (length (now values)) ⌝ }
     requires { ⌜ j < how .step ⌝ }
+    requires { ⌜ inversionOf two ≡ fieldOf field .inverse 2 ⌝ }
     ensures { λ v. ⌜ record { point = v .x; value = v .y } ≡ sampleIn field (now (pw .entry)) (now (table .entry)) (now (xs .entry)) (now (cs .entry)) how (length (now (values .entry))) r j ⌝ }
 {
     let x = shift_point(pw, how.scale, j, values.len());
-    let y = fold_at(field, pw, table, xs, cs, how, j, r, values);
+    let y = fold_at(field, pw, table, xs, cs, how, j, r, two, values);
     Point { x: x, y: y }
+}
+
+// The samples at the shift points, without repeats, in the last places of px and py; `two` is the answer for 2.
+fn put_shifts(
+    field: u32,
+    pw: &[u32],
+    table: &[u32],
+    xs: &[u32],
+    cs: &[u32],
+    how: Function,
+    r: u32,
+    two: Inversion,
+    shifts: &[u32],
+    values: &mut [u32],
+    px: &mut [u32],
+    py: &mut [u32],
+) -> Gathered
+    requires { ⌜ (how .from ≤ length (now xs)) × ((length (now xs) ≤ length (now cs)) × (Clear field (now pw) (length (now table)) (now xs) how)) ⌝ }
+    requires { ⌜ Fits (length (now pw)) (length (now table)) how (length (now values)) ⌝ }
+    requires { ⌜ Below (how .step) (now shifts) ⌝ }
+    requires { ⌜ (length (now py) ≡ length (now px)) × (length (now shifts) ≤ length (now px)) ⌝ }
+    requires { ⌜ inversionOf two ≡ fieldOf field .inverse 2 ⌝ }
+    ensures { λ v. ⌜ kept v (now (px .exit)) (now (py .exit)) ≡ sifted field (map (sampleIn field (now (pw .entry)) (now (table .entry)) (now (xs .entry)) (now (cs .entry)) how (length (now (values .entry))) r) (now (shifts .entry))) ⌝ }
+    ensures { λ v. ⌜ Room (length (now (px .entry))) (length (now (shifts .entry))) v ⌝ }
+{
+    let mut k = px.len();
+    let mut i = shifts.len();
+    while 0 < i {
+        i -= 1;
+        let s = sample_at(
+            field,
+            pw,
+            table,
+            xs,
+            cs,
+            how,
+            wide(shifts[i]),
+            r,
+            two,
+            values,
+        );
+        let f = samples::push(px, py, k, s.x, s.y);
+        let Gathered::From(j) = f else {
+            return Gathered::Clash;
+        };
+        k = j;
+    }
+    Gathered::From(k)
 }
 
 // The samples at the shift points, without repeats, in the last places of px and py.
@@ -249,25 +317,28 @@ pub fn push_shifts(
     px: &mut [u32],
     py: &mut [u32],
 ) -> Gathered
-    requires { ⌜ (how .from ≤ length (now xs)) × (length (now xs) ≤ length (now cs)) ⌝ }
+    requires { ⌜ (how .from ≤ length (now xs)) × ((length (now xs) ≤ length (now cs)) × (Clear field (now pw) (length (now table)) (now xs) how)) ⌝ }
     requires { ⌜ Fits (length (now pw)) (length (now table)) how (length (now values)) ⌝ }
     requires { ⌜ Below (how .step) (now shifts) ⌝ }
     requires { ⌜ (length (now py) ≡ length (now px)) × (length (now shifts) ≤ length (now px)) ⌝ }
     ensures { λ v. ⌜ kept v (now (px .exit)) (now (py .exit)) ≡ sifted field (map (sampleIn field (now (pw .entry)) (now (table .entry)) (now (xs .entry)) (now (cs .entry)) how (length (now (values .entry))) r) (now (shifts .entry))) ⌝ }
     ensures { λ v. ⌜ Room (length (now (px .entry))) (length (now (shifts .entry))) v ⌝ }
 {
-    let mut k = px.len();
-    let mut i = shifts.len();
-    while 0 < i {
-        i -= 1;
-        let s = sample_at(field, pw, table, xs, cs, how, wide(shifts[i]), r, values);
-        let f = samples::push(px, py, k, s.x, s.y);
-        let Gathered::From(j) = f else {
-            return Gathered::Clash;
-        };
-        k = j;
-    }
-    Gathered::From(k)
+    let two = invert_two(field);
+    put_shifts(
+        field,
+        pw,
+        table,
+        xs,
+        cs,
+        how,
+        r,
+        two,
+        shifts,
+        values,
+        px,
+        py,
+    )
 }
 
 // G of a round in the last places of px and py: the out coins with their replies, then the shift points with the folds there.
@@ -286,7 +357,7 @@ pub fn answer(
     px: &mut [u32],
     py: &mut [u32],
 ) -> Gathered
-    requires { ⌜ (how .from ≤ length (now xs)) × (length (now xs) ≤ length (now cs)) ⌝ }
+    requires { ⌜ (how .from ≤ length (now xs)) × ((length (now xs) ≤ length (now cs)) × (Clear field (now pw) (length (now table)) (now xs) how)) ⌝ }
     requires { ⌜ Fits (length (now pw)) (length (now table)) how (length (now values)) ⌝ }
     requires { ⌜ Below (how .step) (now shifts) ⌝ }
     requires { ⌜ (length (now py) ≡ length (now px)) × ((length (now replies) ≡ length (now outs)) × (length (now outs) + length (now shifts) ≤ length (now px))) ⌝ }
@@ -298,6 +369,49 @@ pub fn answer(
         return Gathered::Clash;
     };
     samples::push_all(outs, replies, px, py, k)
+}
+
+// The first final index at whose shift point the final polynomial differs from the fold; `two` is the answer for 2.
+fn compare(
+    field: u32,
+    pw: &[u32],
+    table: &[u32],
+    xs: &[u32],
+    cs: &[u32],
+    how: Function,
+    r: u32,
+    two: Inversion,
+    coefficients: &[u32],
+    finals: &[u32],
+    values: &mut [u32],
+) -> Found
+    requires { ⌜ (how .from ≤ length (now xs)) × ((length (now xs) ≤ length (now cs)) × (Clear field (now pw) (length (now table)) (now xs) how)) ⌝ }
+    requires { ⌜ Fits (length (now pw)) (length (now table)) how (length (now values)) ⌝ }
+    requires { ⌜ Below (how .step) (now finals) ⌝ }
+    requires { ⌜ inversionOf two ≡ fieldOf field .inverse 2 ⌝ }
+    ensures { λ v. ⌜ Compared field (now (pw .entry)) (now (table .entry)) (now (xs .entry)) (now (cs .entry)) how (length (now (values .entry))) r (now (coefficients .entry)) (now (finals .entry)) (placeOf v) ⌝ }
+{
+    let mut i = 0;
+    while i < finals.len() {
+        let s = sample_at(
+            field,
+            pw,
+            table,
+            xs,
+            cs,
+            how,
+            wide(finals[i]),
+            r,
+            two,
+            values,
+        );
+        let value = polynomial::value_at(field, coefficients, s.x);
+        if value != s.y {
+            return Found::At(i);
+        }
+        i += 1;
+    }
+    Found::Nothing
 }
 
 // The first final index at whose shift point the final polynomial differs from the fold.
@@ -313,19 +427,23 @@ pub fn first_difference(
     finals: &[u32],
     values: &mut [u32],
 ) -> Found
-    requires { ⌜ (how .from ≤ length (now xs)) × (length (now xs) ≤ length (now cs)) ⌝ }
+    requires { ⌜ (how .from ≤ length (now xs)) × ((length (now xs) ≤ length (now cs)) × (Clear field (now pw) (length (now table)) (now xs) how)) ⌝ }
     requires { ⌜ Fits (length (now pw)) (length (now table)) how (length (now values)) ⌝ }
     requires { ⌜ Below (how .step) (now finals) ⌝ }
     ensures { λ v. ⌜ Compared field (now (pw .entry)) (now (table .entry)) (now (xs .entry)) (now (cs .entry)) how (length (now (values .entry))) r (now (coefficients .entry)) (now (finals .entry)) (placeOf v) ⌝ }
 {
-    let mut i = 0;
-    while i < finals.len() {
-        let s = sample_at(field, pw, table, xs, cs, how, wide(finals[i]), r, values);
-        let value = polynomial::value_at(field, coefficients, s.x);
-        if value != s.y {
-            return Found::At(i);
-        }
-        i += 1;
-    }
-    Found::Nothing
+    let two = invert_two(field);
+    compare(
+        field,
+        pw,
+        table,
+        xs,
+        cs,
+        how,
+        r,
+        two,
+        coefficients,
+        finals,
+        values,
+    )
 }

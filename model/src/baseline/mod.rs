@@ -49,17 +49,14 @@ impl<const P: u64, const TUNED: bool> Prime<P, TUNED> {
         result
     }
 
+    /// The inverse of an element other than 0.
     fn inv(self, a: u32) -> u32 {
         self.pow(a, P - 2)
     }
 
-    /// The inverses of two elements by one inversion.
+    /// The inverses of two such elements by one inversion.
     fn inverse_pair(self, a: u32, b: u32) -> (u32, u32) {
-        let product = self.mul(a, b);
-        if product == 0 {
-            return (self.inv(a), self.inv(b));
-        }
-        let inverse = self.inv(product);
+        let inverse = self.inv(self.mul(a, b));
         (self.mul(inverse, b), self.mul(inverse, a))
     }
 

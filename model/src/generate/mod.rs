@@ -157,8 +157,8 @@ impl Draw {
                 rng.pick(&[0, meeting, meeting, before.unwrap_or(meeting)])
             }
             Part::Combination(i) => {
-                let point = self.some_point(rng, i);
-                rng.pick(&[0, self.field.inv(point), self.field.inv(point), limit - 1])
+                let inverse = self.field.div(1, self.some_point(rng, i));
+                rng.pick(&[0, inverse, inverse, limit - 1])
             }
             Part::ShiftIndices(_) => {
                 let favourite = self.favourite as u64;

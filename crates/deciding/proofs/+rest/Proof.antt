@@ -6,7 +6,7 @@ use lib.ListN.{length, getD}
 use borrow.Author.Needs.{needs}
 use Rattle.outcome.specs.Meaning.{outcomeOf, verdictOf}
 use Rattle.deciding.specs.Inside.{round-inside, scale-small}
-use Rattle.deciding.proofs.Ready.{clash-ready, level-next, next-decided, next-ready, not-last, room-in}
+use Rattle.deciding.proofs.Ready.{apart-ready, clash-ready, level-next, next-decided, next-ready, not-last, room-in}
 use borrow.Fn.Kinds.{In}
 use borrow.Fn.PlainCycle.{Measures, is, falls, and}
 use Rattle.deciding.proofs.rest.Reads as rest
@@ -88,7 +88,7 @@ rest-round-at-requires t c κs =
     let w = a .w .now in
     let st = a .stand in
     let ok = s .pre .1 .0 in
-    (ok, (not-last (st .level) (getD w 4 0) (ok .place .level) (c .before .before .before .before .before .if1 .left), (c .before .before .before .room .ensures, c .before .before .room2 .ensures)))
+    (ok, (not-last (st .level) (getD w 4 0) (ok .place .level) (c .before .before .before .before .before .if1 .left), ((c .before .before .before .room .ensures, c .before .before .room2 .ensures), s .pre .1 .1 .clear)))
 
 rest-enum-known-g : (t : ℕ) → rest-lts.Need-enum-known-g (calls t) (rest-at t) rest.Post
 rest-enum-known-g t c = search needs
@@ -136,7 +136,17 @@ rest-coefficients-requires t c κs =
     let lx = q .kept .1 .1 .1 .1 .1 .1 .0 ∙ r .before .before .before .before .room .ensures in
     let ly = q .kept .1 .1 .1 .1 .1 .1 .1 .0 ∙ r .before .before .before .room2 .ensures in
     let g = c .before .before .before .before .before .before .g .given in
-    (omega (arith, lx, room-in (q .result) (g .0 .0) (g .1) (q .ensures .1)), (ly ∙ sym lx, c .before .before .before .before .room3 .ensures ∙ sym lx))
+    let s = r .before .before .before .before .before .before .before .before .before .before .before .before .before in
+    let a = s .args in
+    let w = a .w .now in
+    let st = a .stand in
+    let ok = s .pre .1 .0 in
+    let more = not-last (st .level) (getD w 4 0) (ok .place .level) (r .before .before .before .before .before .before .if1 .left) in
+    let n = r .before .before .before .before .before .next-stand in (
+      (omega (arith, lx, room-in (q .result) (g .0 .0) (g .1) (q .ensures .1)), (ly ∙ sym lx, c .before .before .before .before .room3 .ensures ∙ sym lx)),
+      apart-ready w (a .pw .now) (a .xs .now) (a .cs .now) st (a .how) ok more (n .result) (n .ensures) (q .result)
+          (q .last .1 .1 .1 .1 .1 .1 .0) (q .last .1 .1 .1 .1 .1 .1 .1 .0) (g .0 .0) (g .1) (q .ensures .0) (ly ∙ sym lx) (s .pre .1 .1),
+    )
 
 rest-next-function-requires : (t : ℕ) → rest-lts.Need-next-function-requires (calls t) (rest-at t) rest.Post
 rest-next-function-requires t c κs =

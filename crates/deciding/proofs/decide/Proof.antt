@@ -30,7 +30,7 @@ rest-requires c κs =
     let none = c .before .before .before .before .room in
     let st = c .before .before .before .first-stand in
     let how = c .before .before .first-function in
-    first-ready (a .w .now) (a .pw .now) (none .result) (s .pre .0 .0) (s .pre .0 .1) (s .pre .1 .0) (s .pre .1 .1 .0) (s .pre .1 .1 .1) (none .ensures)
+    first-ready (a .w .now) (a .pw .now) (none .result) (s .pre .0 .0) (s .pre .0 .1) (s .pre .1 .0) (s .pre .1 .1 .0 .0) (s .pre .1 .1 .0 .1) (s .pre .1 .1 .1) (none .ensures)
     (st .result) (st .ensures) (how .result) (how .ensures)
 
 returns : tie.Need-returns
@@ -40,7 +40,7 @@ returns c =
     let none = c .before .before .before .before .before .room in
     let st = c .before .before .before .before .first-stand in
     let how = c .before .before .before .first-function in
-    first-decided (a .w .now) (a .pw .now) (none .result) (s .pre .0 .0) (s .pre .0 .1) (s .pre .1 .0) (s .pre .1 .1 .0) (s .pre .1 .1 .1) (none .ensures)
+    first-decided (a .w .now) (a .pw .now) (none .result) (s .pre .0 .0) (s .pre .0 .1) (s .pre .1 .0) (s .pre .1 .1 .0 .0) (s .pre .1 .1 .0 .1) (s .pre .1 .1 .1) (none .ensures)
     (st .result) (st .ensures) (how .result) (how .ensures) (c .rest .ensures)
 
 pub decide-spec : {M : Type 1} → statement M

@@ -1,6 +1,6 @@
 -- `deciding::decide_by` meets its contract. Assumes nothing.
 use Rattle.outcome.specs.Meaning.{outcomeOf, verdictOf}
-use Rattle.deciding.proofs.Ready.{out-passed, out-refused}
+use Rattle.deciding.proofs.Ready.{out-passed, out-refused, outside-passed}
 use borrow.Author.Needs.{needs}
 use Rattle.deciding.proofs.decide_by.Statement.{statement}
 use Rattle.deciding.proofs.decide_by.Tie as tie
@@ -21,7 +21,10 @@ enum-told : tie.Need-enum-told
 enum-told c = search needs
 
 decide-requires : tie.Need-decide-requires
-decide-requires c κs = search needs
+decide-requires c κs =
+    let s = c .before .before .before .before .before in
+    let q = c .before .before .out-in-domain in
+    (s .pre .0, (s .pre .1 .0, (s .pre .1 .1, outside-passed (s .args .w .now) (q .result) (q .ensures) (c .enum-told .given .1))))
 
 returns-2 : tie.Need-returns-2
 returns-2 c =

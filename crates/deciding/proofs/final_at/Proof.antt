@@ -3,7 +3,7 @@ use Prim.Native.Nat.{_+_}
 use native.Mathlib.Omega.{arith}
 use Rattle.deciding.specs.Inside.{final-inside}
 use Rattle.deciding.specs.Stand.{coefficientsOf, finalsOf, tableOf}
-use Rattle.deciding.proofs.Ready.{differing-parts, final-ready}
+use Rattle.deciding.proofs.Ready.{clear-table, differing-parts, final-ready}
 use borrow.Author.Needs.{needs}
 use Rattle.deciding.proofs.final_at.Statement.{statement}
 use Rattle.deciding.proofs.final_at.Tie as tie
@@ -38,19 +38,19 @@ part-requires c κs = search needs
 part-requires-2 : tie.Need-part-requires-2
 part-requires-2 c κs =
     let s = c .before .before .before .before .before .before .before .before .before .before in
-    let i = final-inside (s .args .w .now) (s .args .stand) (s .pre .0 .place) (s .pre .1) in
+    let i = final-inside (s .args .w .now) (s .args .stand) (s .pre .0 .place) (s .pre .1 .0) in
     omega (arith, i .there)
 
 add-part : tie.Need-add-part
 add-part c =
     let s = c .before .before .before .before .before .before .before .before .before .before .before .before in
-    let i = final-inside (s .args .w .now) (s .args .stand) (s .pre .0 .place) (s .pre .1) in
+    let i = final-inside (s .args .w .now) (s .args .stand) (s .pre .0 .place) (s .pre .1 .0) in
     omega (arith, i .there)
 
 part-requires-3 : tie.Need-part-requires-3
 part-requires-3 c κs =
     let s = c .before .before .before .before .before .before .before .before .before .before .before .before in
-    let i = final-inside (s .args .w .now) (s .args .stand) (s .pre .0 .place) (s .pre .1) in
+    let i = final-inside (s .args .w .now) (s .args .stand) (s .pre .0 .place) (s .pre .1 .0) in
     omega (arith, i .there)
 
 difference-requires : tie.Need-difference-requires
@@ -59,8 +59,9 @@ difference-requires c κs =
     let s = c .before .before .before .before .before .before .before .before .before .before .before .before .before in
     let a = s .args in
     let ok = s .pre .0 in
-    let r = final-ready (a .w .now) (a .stand) (a .how) ok (s .pre .1) (c .before .before .before .part .result .now) (c .part3 .result .now) (c .before .before .before .part .ensures) (c .part3 .ensures) in
-    ((ok .from, ok .enough), (r .0, r .1))
+    let r = final-ready (a .w .now) (a .stand) (a .how) ok (s .pre .1 .0) (c .before .before .before .part .result .now) (c .part3 .result .now) (c .before .before .before .part .ensures) (c .part3 .ensures) in
+    let p = c .before .before .before .part in
+    ((ok .from, (ok .enough, clear-table (a .w .now) (a .stand) (a .how) ok (a .pw .now) (a .xs .now) (p .result .now) (p .ensures) (s .pre .1 .1))), (r .0, r .1))
 
 returns : tie.Need-returns
 unfolding tableOf coefficientsOf finalsOf

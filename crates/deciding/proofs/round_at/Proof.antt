@@ -4,7 +4,7 @@ use native.Mathlib.Omega.{arith}
 use lib.ListN.{length}
 use Rattle.deciding.specs.Inside.{round-inside}
 use Rattle.deciding.specs.Stand.{outsOf, repliesOf, shiftsOf, tableOf}
-use Rattle.deciding.proofs.Ready.{answer-ready, room-most, sifted-parts}
+use Rattle.deciding.proofs.Ready.{answer-ready, clear-table, room-most, sifted-parts}
 use borrow.Author.Needs.{needs}
 use Rattle.deciding.proofs.round_at.Statement.{statement}
 use Rattle.deciding.proofs.round_at.Tie as tie
@@ -81,7 +81,8 @@ answer-requires c κs =
     let p₄ = c .before .before .part4 in
     let r = answer-ready (a .w .now) (a .stand) (a .how) ok (s .pre .1 .0) (p₁ .result .now) (p₂ .result .now) (p₃ .result .now) (p₄ .result .now)
     (p₁ .ensures) (p₂ .ensures) (p₃ .ensures) (p₄ .ensures) in
-    ((ok .from, ok .enough), (r .0, (r .1 .0, (omega (arith, s .pre .1 .1), (r .1 .1 .0, omega (arith, s .pre .1 .1, r .1 .1 .1))))))
+    let clear = clear-table (a .w .now) (a .stand) (a .how) ok (a .pw .now) (a .xs .now) (p₁ .result .now) (p₁ .ensures) (s .pre .1 .1 .1) in
+    ((ok .from, (ok .enough, clear)), (r .0, (r .1 .0, (omega (arith, s .pre .1 .1 .0), (r .1 .1 .0, omega (arith, s .pre .1 .1 .0, r .1 .1 .1))))))
 
 same-length : tie.Need-same-length
 same-length c = search needs
@@ -104,7 +105,7 @@ returns c =
     (p₁ .ensures) (p₂ .ensures) (p₃ .ensures) (p₄ .ensures) in (
       sifted-parts (a .w .now) (a .pw .now) (a .xs .now) (a .cs .now) (a .stand) (a .how) (p₁ .result .now) (p₁ .ensures)
           (p₂ .result .now) (p₃ .result .now) (p₄ .result .now) (p₂ .ensures) (p₃ .ensures) (p₄ .ensures) (q .ensures .0),
-      room-most (length (a .px .now)) (length (p₃ .result .now) + length (p₂ .result .now)) (q .result) (s .pre .1 .1 .0) (r .1 .1 .1) (q .ensures .1),
+      room-most (length (a .px .now)) (length (p₃ .result .now) + length (p₂ .result .now)) (q .result) (s .pre .1 .1 .0 .0) (r .1 .1 .1) (q .ensures .1),
     )
 
 pub round-at-spec : {M : Type 1} → statement M

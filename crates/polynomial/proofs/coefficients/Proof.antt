@@ -1,8 +1,11 @@
 -- `polynomial::coefficients` meets its contract: from number i on the coefficients stand in out, and an even number is left. Assumes nothing.
 use mathlib.Core.Path.{_≡_, _∙_}
 use mathlib.Core.Logic.{⊎-elim}
+use Prim.Native.Nat.{_-_}
 use native.Mathlib.Omega.{arith}
+use lib.ListN.{length}
 use Rattle.definition.specs.Field.{fieldOf}
+use Rattle.polynomial.proofs.Divisors.{apart-from}
 use Rattle.polynomial.proofs.Walks.{step-end, Filled, filled-none, filled-one}
 use Rattle.polynomial.proofs.coefficients.Statement.{statement}
 use Rattle.polynomial.proofs.coefficients.Tie as tie
@@ -20,7 +23,8 @@ sub-if1 c = omega arith
 one-more-requires : tie.Need-one-more-requires Inv-loop μ-loop
 one-more-requires c κs =
     let a = c .before .before .before .before .before .args in
-    (omega arith, step-end (fieldOf (a .field)) (a .xs .now) _ (a .out .now) (omega arith))
+    let s = c .before .before .before .before .before in
+    (omega arith, (apart-from (fieldOf (a .field)) (a .xs .now) (a .from) (length (a .xs .now) - 1) (omega arith) (s .pre .1), step-end (fieldOf (a .field)) (a .xs .now) _ (a .out .now) (omega arith)))
 
 sub-i : tie.Need-sub-i Inv-loop μ-loop
 sub-i c = omega arith
@@ -31,12 +35,16 @@ loop-holds c =
     let a = s .args in
     let F = fieldOf (a .field) in
     ⊎-elim
-    (λ w. filled-one F (a .xs .now) (a .ys .now) (a .from) (s .pre .0) (w .2 .kept .1 .1 .1 .1 .0 ∙ s .pre .1 .1) (w .0 .taken) (w .2 .ensures) (w .5) (w .6))
-    (λ w. filled-none F (a .xs .now) (a .ys .now) (a .from) (s .pre .0) (s .pre .1 .1) (w .0 .left) (w .1) (w .2))
+    (λ w. filled-one F (a .xs .now) (a .ys .now) (a .from) (s .pre .0 .0) (w .2 .kept .1 .1 .1 .1 .0 ∙ s .pre .0 .1 .1) (w .0 .taken) (w .2 .ensures) (w .5) (w .6))
+    (λ w. filled-none F (a .xs .now) (a .ys .now) (a .from) (s .pre .0 .0) (s .pre .0 .1 .1) (w .0 .left) (w .1) (w .2))
     (c .if1 .came)
 
 two-more-requires : tie.Need-two-more-requires Inv-loop μ-loop
-two-more-requires c κs = (omega arith, c .before .before .loop .inv .1 .1 .1 .1)
+two-more-requires c κs =
+    let l = c .before .before .loop in
+    let s = c .before .before .before .before .before .before .before in
+    let a = s .args in
+    (omega arith, (apart-from (fieldOf (a .field)) (a .xs .now) (a .from) (l .i - 2) (omega arith) (s .pre .1), l .inv .1 .1 .1 .1))
 
 sub-i-2 : tie.Need-sub-i-2 Inv-loop μ-loop
 sub-i-2 c = omega arith

@@ -1,8 +1,9 @@
 -- `polynomial::inverse_two` meets its contract. Assumes nothing.
+use mathlib.Core.Path.{ap, sym, _∙_}
 use borrow.Author.Needs.{needs}
-use Rattle.definition.specs.Field.{fieldOf, primeField}
-use Rattle.algebra.specs.PrimeField.{laws}
-use Rattle.polynomial.specs.Inverses.{inverse-reduced, inverse-first, inverse-second}
+use Rattle.field.specs.Answer.{inversionOf}
+use Rattle.polynomial.specs.declared.Inversions.the-variants.{Found}
+use Rattle.polynomial.specs.Inverses.{found-both, found-none}
 use Rattle.polynomial.proofs.inverse_two.Statement.{statement}
 use Rattle.polynomial.proofs.inverse_two.Tie as tie
 
@@ -12,14 +13,16 @@ mul-requires c κs = search needs
 inv-requires : tie.Need-inv-requires
 inv-requires c κs = search needs
 
-inv-requires-2 : tie.Need-inv-requires-2
-inv-requires-2 c κs = search needs
+enum-known-inversion : tie.Need-enum-known-inversion
+enum-known-inversion c = search needs
+
+enum-told : tie.Need-enum-told
+enum-told c = search needs
 
 returns : tie.Need-returns
-returns c = search needs
-
-inv-requires-3 : tie.Need-inv-requires-3
-inv-requires-3 c κs = search needs
+returns c =
+    let a = c .before .before .before .before .args in
+    found-none (a .field) (a .a) (a .b) (c .before .before .before .mul .ensures) (ap inversionOf (sym (c .enum-told .given .1)) ∙ c .before .before .inv .ensures)
 
 mul-requires-2 : tie.Need-mul-requires-2
 mul-requires-2 c κs = search needs
@@ -28,16 +31,11 @@ mul-requires-3 : tie.Need-mul-requires-3
 mul-requires-3 c κs = search needs
 
 returns-2 : tie.Need-returns-2
-unfolding fieldOf primeField
 returns-2 c =
-    let a = c .before .before .before .before .before .args in
-    let p = c .before .before .before .before .mul .ensures in
-    let u = c .before .before .inv3 .ensures in
-    let z = c .before .before .before .if1 .left in
-    let F = fieldOf (a .field) in
-    let L = laws (a .field) in
-    let R = inverse-reduced (a .field) in
-    (inverse-first F L R (a .a) (a .b) p z u (c .before .mul2 .ensures), inverse-second F L R (a .a) (a .b) p z u (c .mul3 .ensures))
+    let v = c .before .before .before .before .before in
+    let a = v .before .before .args in
+    (λ i. Found (c .before .mul2 .ensures i) (c .mul3 .ensures i))
+    ∙ found-both (a .field) (a .a) (a .b) (v .before .mul .ensures) (ap inversionOf (sym (c .before .before .before .inversion .given .1)) ∙ v .inv .ensures)
 
 pub inverse-two-spec : {M : Type 1} → statement M
 inverse-two-spec =
@@ -45,9 +43,9 @@ inverse-two-spec =
     (tie.spec
     mul-requires
     inv-requires
-    inv-requires-2
+    enum-known-inversion
+    enum-told
     returns
-    inv-requires-3
     mul-requires-2
     mul-requires-3
     returns-2)

@@ -3,6 +3,7 @@ use native.Mathlib.Omega.{arith}
 use lib.ListN.{length-set}
 use borrow.Author.Needs.{needs}
 use Rattle.definition.specs.Field.{fieldOf}
+use Rattle.polynomial.proofs.Divisors.{two-nonzero}
 use Rattle.polynomial.proofs.Walks.{step-two}
 use Rattle.polynomial.proofs.two_more.Statement.{statement}
 use Rattle.polynomial.proofs.two_more.Tie as tie
@@ -47,7 +48,11 @@ shared-slice-read-next-two-2 : tie.Need-shared-slice-read-next-two-2
 shared-slice-read-next-two-2 c = search needs
 
 next-two-requires : tie.Need-next-two-requires
-next-two-requires c κs = search needs
+next-two-requires c κs =
+    let s = c .before .before .before .before .before .before .before .before .before in
+    let a = s .args in
+    let w = c .before .before .newton-two .ensures in
+    two-nonzero (a .field) (a .xs .now) (a .i) (omega arith) (omega arith) (s .pre .1 .0) (w .1 .0) (w .1 .1 .1)
 
 sub-out : tie.Need-sub-out
 sub-out c = search needs
@@ -76,7 +81,7 @@ returns c =
     let a = s .args in
     let w = c .before .before .before .newton-two .ensures in
     let n = c .next-two .ensures in
-    step-two (fieldOf (a .field)) (a .xs .now) (a .ys .now) (a .out .now) (a .i) (omega arith) (omega arith) (omega arith) (omega arith) (s .pre .1) (w .0, w .1 .0) (w .1 .1) (n .0) (n .1)
+    step-two (fieldOf (a .field)) (a .xs .now) (a .ys .now) (a .out .now) (a .i) (omega arith) (omega arith) (omega arith) (omega arith) (s .pre .1 .1) (w .0, w .1 .0) (w .1 .1) (n .0) (n .1)
 
 pub two-more-spec : {M : Type 1} → statement M
 two-more-spec =

@@ -16,12 +16,12 @@ gather-requires c κs = search needs
 mul-fold-values : tie.Need-mul-fold-values
 mul-fold-values c =
     let s = c .before .before .before .before .before .before .before .before .before .before in
-    omega (arith, first-point (s .pre .1 .0) (s .pre .1 .1), s .pre .1 .0 .small)
+    omega (arith, first-point (s .pre .1 .0) (s .pre .1 .1 .0), s .pre .1 .0 .small)
 
 add-fold-values : tie.Need-add-fold-values
 add-fold-values c =
     let s = c .before .before .before .before .before .before .before .before .before .before in
-    omega (arith, first-point (s .pre .1 .0) (s .pre .1 .1), s .pre .1 .0 .small)
+    omega (arith, first-point (s .pre .1 .0) (s .pre .1 .1 .0), s .pre .1 .0 .small)
 
 mul-fold-values-2 : tie.Need-mul-fold-values-2
 mul-fold-values-2 c =
@@ -32,10 +32,10 @@ fold-values-requires : tie.Need-fold-values-requires
 fold-values-requires c κs =
     let s = c .before .before .before .before .before .before .before .before .before .before .before .before in
     let fits = s .pre .1 .0 in
-    let first = first-point fits (s .pre .1 .1) in
+    let first = first-point fits (s .pre .1 .1 .0) in
     let long = c .before .before .before .before .before .gather .kept .1 .1 .1 .1 .1 .1 .1 .0 in (
       (omega (arith, first), (omega (arith, first, fits .small), omega (arith, spacing fits, fits .small))),
-      (long ∙ power-of fits ∙ ap (λ (n : ℕ). 2 ^ exponentOf n) (sym long), omega (arith, long, fits .few)),
+      ((long ∙ power-of fits ∙ ap (λ (n : ℕ). 2 ^ exponentOf n) (sym long), omega (arith, long, fits .few)), s .pre .1 .1 .1),
     )
 
 same-length : tie.Need-same-length

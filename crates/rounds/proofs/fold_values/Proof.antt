@@ -1,6 +1,6 @@
 -- `rounds::fold_values` meets its contract: what is left to fold has the value of the whole. Assumes nothing.
 use Prim.Native.Nat.{_*_, _/_, _≤_, _<_}
-use mathlib.Core.Path.{_≡_, _∙_, refl}
+use mathlib.Core.Path.{_≡_, _∙_, refl, sym, ap}
 use native.Mathlib.Nat.{mul-le-mul-left, mul-le-mul-right}
 use native.Mathlib.Omega.{arith}
 use lib.ListN.{length, getD}
@@ -9,7 +9,10 @@ use borrow.Author.Needs.{needs}
 use Rattle.definition.specs.Field.{fieldOf}
 use Rattle.rounds.specs.Halving.{halving, exponentOf}
 use Rattle.rounds.specs.PointsIn.{backIn}
+use Rattle.field.specs.Answer.{inversionOf}
+use Rattle.polynomial.specs.Inverses.{never-none}
 use Rattle.rounds.specs.Round.{halfOf}
+use Rattle.rounds.specs.RoundLaws.{half-is, two-nonzero}
 use Rattle.rounds.proofs.Turns.{Left, left-next, left-last}
 use Rattle.rounds.proofs.fold_values.Statement.{statement}
 use Rattle.rounds.proofs.fold_values.Tie as tie
@@ -26,21 +29,29 @@ Inv-loop field pw e d r values₀ half count₀ first₀ step₀ coin₀ values 
 abbrev μ-loop : tie.MeasureT-loop
 μ-loop field pw e d r values₀ half count₀ first₀ step₀ coin₀ values count first step coin = count
 
-one-half-requires : tie.Need-one-half-requires Inv-loop μ-loop
-one-half-requires c κs = search needs
+enum-known-two : tie.Need-enum-known-two Inv-loop μ-loop
+enum-known-two c = search needs
+
+enum-told : tie.Need-enum-told Inv-loop μ-loop
+enum-told c = search needs
+
+returns : tie.Need-returns Inv-loop μ-loop
+returns c =
+    let s = c .before .before .before .before in
+    absurd (never-none (s .args .field) 2 (two-nonzero (s .args .field)) (ap inversionOf (sym (c .enum-told .given .1)) ∙ s .pre .1 .1))
 
 loop-holds : tie.Need-loop-holds Inv-loop μ-loop
 loop-holds c =
-    let s = c .before .before .before in
+    let s = c .before .before .before .before .before in
     let n = length (s .args .values .now) in (
-      omega (arith, s .pre .1 .0, pow-pos (exponentOf n)),
+      omega (arith, s .pre .1 .0 .0, pow-pos (exponentOf n)),
       (
         omega arith,
         (
           refl,
           (
-            omega (arith, mul-le-mul-right n (s .pre .0 .1 .0), s .pre .1 .1),
-            (omega (arith, mul-le-mul-right n (s .pre .0 .1 .1), s .pre .1 .1), record { log = exponentOf n; two = s .pre .1 .0; same = refl }),
+            omega (arith, mul-le-mul-right n (s .pre .0 .1 .0), s .pre .1 .0 .1),
+            (omega (arith, mul-le-mul-right n (s .pre .0 .1 .1), s .pre .1 .0 .1), record { log = exponentOf n; two = s .pre .1 .0 .0; same = refl }),
           ),
         ),
       ),
@@ -49,9 +60,9 @@ loop-holds c =
 turn-requires : tie.Need-turn-requires Inv-loop μ-loop
 turn-requires c κs =
     let l = c .before .before .loop in
-    let s = c .before .before .before .before .before .before in
+    let s = c .before .before .before .before .before .before .before .before in
     let n = l .inv in (
-      (s .pre .0 .0, (omega (arith, n .1 .0, n .1 .1 .0), omega (arith, n .1 .1 .0, s .pre .1 .1))),
+      (s .pre .0 .0, (omega (arith, n .1 .0, n .1 .1 .0), omega (arith, n .1 .1 .0, s .pre .1 .0 .1))),
       (omega (arith, mul-le-mul-left (l .first) (n .0), n .1 .1 .1 .0), omega (arith, mul-le-mul-left (l .step) (n .0), n .1 .1 .1 .1 .0)),
     )
 
@@ -78,7 +89,8 @@ loop-again c =
     let t = c .before .before .before .turn in
     let l = c .before .before .before .before .before .before .loop in
     let u = c .before .before .before .before .before .before .before in
-    let a = u .before .before .before .args in
+    let v = u .before .before .before .before .before in
+    let a = v .args in
     let F = fieldOf (a .field) in
     let n = l .inv in
     let many : 1 < l .count = omega arith in
@@ -92,7 +104,7 @@ loop-again c =
             omega (arith, mul-le-mul-left (l .first) halves, n .1 .1 .1 .0),
             (
               omega (arith, mul-le-mul-left (l .step) halves, n .1 .1 .1 .1 .0),
-              left-next F (halfOf (a .field)) (backIn (a .pw .now)) _ many (n .1 .1 .1 .1 .1) (u .one-half .ensures) (t .ensures) (c .mul .ensures),
+              left-next F (halfOf (a .field)) (backIn (a .pw .now)) _ many (n .1 .1 .1 .1 .1) (half-is (a .field) (ap inversionOf (sym (u .before .two .given .1)) ∙ v .pre .1 .1)) (t .ensures) (c .mul .ensures),
             ),
           ),
         ),
@@ -105,10 +117,10 @@ slice-read-result c = omega arith
 same-length : tie.Need-same-length Inv-loop μ-loop
 same-length c = omega arith
 
-returns : tie.Need-returns Inv-loop μ-loop
-returns c =
+returns-2 : tie.Need-returns-2 Inv-loop μ-loop
+returns-2 c =
     let l = c .before .before .loop in
-    let a = c .before .before .before .before .before .before .args in
+    let a = c .before .before .before .before .before .before .before .before .args in
     left-last (fieldOf (a .field)) (halfOf (a .field)) (backIn (a .pw .now)) _ (omega arith) (l .inv .1 .1 .1 .1 .1)
 
 pub fold-values-spec : {M : Type 1} → statement M
@@ -117,7 +129,9 @@ fold-values-spec =
     (tie.spec
     Inv-loop
     μ-loop
-    one-half-requires
+    enum-known-two
+    enum-told
+    returns
     loop-holds
     turn-requires
     mul-first
@@ -127,4 +141,4 @@ fold-values-spec =
     loop-again
     slice-read-result
     same-length
-    returns)
+    returns-2)

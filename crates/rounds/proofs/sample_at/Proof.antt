@@ -11,7 +11,7 @@ shift-point-requires : tie.Need-shift-point-requires
 shift-point-requires c κs =
     let s = c .before .before .before .before .before in
     let fits = s .pre .1 .0 in
-    (first-point fits (s .pre .1 .1), (fits .small, (omega (arith, folded fits), fits .few)))
+    (first-point fits (s .pre .1 .1 .0), (fits .small, (omega (arith, folded fits), fits .few)))
 
 fold-at-requires : tie.Need-fold-at-requires
 fold-at-requires c κs = c .before .before .before .before .before .before .before .pre

@@ -45,7 +45,11 @@ shared-slice-read-x2 : tie.Need-shared-slice-read-x2
 shared-slice-read-x2 c = search needs
 
 corrected-two-requires : tie.Need-corrected-two-requires
-corrected-two-requires c κs = search needs
+corrected-two-requires c κs =
+    let s = c .before .before .before .before .before .before .before .before .before .before .before .before in
+    let a = s .args in
+    let clear = s .pre .0 .1 .1 in
+    ((s .pre .0 .0, s .pre .0 .1 .0), (clear (a .m) (s .pre .1 .0 .0), clear (a .o) (s .pre .1 .0 .1)))
 
 returns-2 : tie.Need-returns-2
 returns-2 c =

@@ -1,0 +1,150 @@
+-- After refusal 7 nothing is divided by 0: in each round the points of G are different, and none is a point of the round's domain.
+use Prim.Native.Nat.{ℕ, zero, suc, _+_, _*_, _/_, _^_, _≤_, _<_}
+use native.Mathlib.Nat
+use native.Mathlib.Nat.{pow-suc}
+use native.Mathlib.Numerals.{add-one}
+use native.Mathlib.Omega.{arith}
+use mathlib.Core.Path.{_≡_, refl, sym, ap, _∙_, subst}
+use mathlib.Core.Bool.{Bool, true, false, cond}
+use mathlib.Core.List.{List, _++_, map}
+use mathlib.Core.Option.{Option, none, some}
+use lib.ListN.{length, getD, take, drop, replicate, length-drop, length-replicate}
+use lib.Seq.{drop-cons, drop-drop}
+use Rattle.definition.specs.Deciding.{answers}
+use Rattle.definition.specs.Domain.{inDomain, point, shiftPoint}
+use Rattle.definition.specs.Field.{Field, fieldOf, power, primeOf}
+use Rattle.definition.specs.Layout.{limit, message, out, restLayout, roundLayout}
+use Rattle.definition.specs.Polynomial.{Sample, distinct, pair, points}
+use Rattle.definition.specs.Sheet.{Level, rootOfUnity, sheetOf}
+use Rattle.algebra.specs.Different.{Apart, Differ}
+use Rattle.algebra.specs.Laws.{FieldLaws}
+use Rattle.algebra.specs.ListFacts.{All, all-append, all-map, all-map₂, all-of-map, everywhere}
+use Rattle.algebra.specs.PrimeField.{laws}
+use Rattle.algebra.specs.RootsOfUnity.{odd-even-differ, power-mul}
+use Rattle.completeness.specs.Divisors as completeness
+use Rattle.completeness.specs.FairCoins.{outside-differs, reduced}
+use Rattle.domain.specs.OutCoins.{firstInside, orElse}
+use Rattle.polynomial.specs.Pairs.{points-pair}
+use Rattle.samples.specs.SampleLaws.{sifted-some}
+use Rattle.rounds.specs.declared.Function.{Function}
+use Rattle.rounds.specs.PointsIn.{pointIn, point-in}
+use Rattle.rounds.specs.Round.{Clear, point-room}
+use Rattle.rounds.specs.RoundLaws.{opposite-signs}
+use Rattle.deciding.specs.declared.Stand.{Stand}
+use Rattle.deciding.specs.Begins.{begins-after, begins-front, begins-run}
+use Rattle.deciding.specs.Inside.{round-inside, whole}
+use Rattle.deciding.specs.Outs.{outs-next}
+use Rattle.deciding.specs.Stand.{levelOf, levelsOf, nextFunction, nextSize, nextStand, outsAt, outsFrom, outsOf, roundOf, shiftsOf}
+use Rattle.deciding.specs.Standing.{Served, Sifted, Standing}
+
+-- ---- test 7 found nothing
+
+-- the first of two places is none, and so is the second
+or-else-none : (a b : Option ℕ) → orElse a b ≡ none → (a ≡ none) × (b ≡ none)
+or-else-none none b e = (refl, e)
+or-else-none (some x) b e = let z : _≡_ {A = ℕ} 0 1 = cc in absurd (omega arith)
+
+-- no word of a run lies in the domain
+none-inside : (field ω : ℕ) (l : Level) (w : List ℕ) (at count : ℕ) → at + count ≤ length w → firstInside field ω l w at count ≡ none →
+    All (λ x. inDomain (fieldOf field) ω l x ≡ false) (take count (drop at w))
+unfolding firstInside
+none-inside field ω l w at zero h e = tt
+none-inside field ω l w at (suc count) h e =
+    rw (drop-cons w at 0 (omega arith)) (go (inDomain (fieldOf field) ω l (getD w at 0)) refl e (none-inside field ω l w (suc at) count (omega arith)))
+  where
+    go : (b : Bool) → inDomain (fieldOf field) ω l (getD w at 0) ≡ b → cond b (some at) (firstInside field ω l w (suc at) count) ≡ none →
+        (firstInside field ω l w (suc at) count ≡ none → All (λ x. inDomain (fieldOf field) ω l x ≡ false) (take count (drop (suc at) w))) →
+        (inDomain (fieldOf field) ω l (getD w at 0) ≡ false) × All (λ x. inDomain (fieldOf field) ω l x ≡ false) (take count (drop (suc at) w))
+    go true q k r = let z : _≡_ {A = ℕ} 0 1 = cc in absurd (omega arith)
+    go false q k r = (q, r k)
+
+-- ---- a round from a place
+
+module _ (w pw xs cs : List ℕ) (st : Stand) (how : Function) (ok : Standing w (length pw) (length xs) (length cs) st how) (more : st .level < getD w 4 0)
+    (s : Served w pw xs cs st how) where
+  abbrev field : ℕ
+  field = getD w 0 0
+
+  abbrev F : Field ℕ
+  F = fieldOf field
+
+  abbrev L : FieldLaws F
+  L = laws field
+
+  abbrev b : Level
+  b = levelOf w st
+
+  abbrev l : Level
+  l = levelOf w (nextStand w st)
+
+  both : (firstInside field (rootOfUnity (sheetOf w)) l w (outsAt st) (getD w 5 0) ≡ none) × (outsFrom w (nextStand w st) ≡ none)
+  both = or-else-none _ _ (sym (outs-next w st (ok .place) more) ∙ s .outside)
+
+  -- no out coin still to come lies in its domain
+  pub outside-next : outsFrom w (nextStand w st) ≡ none
+  outside-next = both .1
+
+  out-words : All (λ x. x < primeOf field) (outsOf w st)
+  unfolding outsOf roundLayout limit levelOf nextStand
+  out-words =
+      let p = primeOf field in
+      let n = nextSize st in
+      let c = getD w 5 0 in
+      subst (λ (t : List ℕ). All (λ x. x < p) (take c t)) (drop-drop n (st .at) w)
+      (begins-run p c (out l) (drop n (drop (st .at) w))
+      (begins-front p (replicate c (out l)) _ (drop n (drop (st .at) w))
+      (begins-after p n (replicate n message) _ (drop (st .at) w) (length-replicate n message)
+      (begins-front p (roundLayout c b l) (restLayout c l (levelsOf w (nextStand w st))) (drop (st .at) w) (whole w st (ok .place) more)))))
+
+  out-elements : All (λ x. L .reduce x ≡ x) (outsOf w st)
+  unfolding fieldOf
+  out-elements = all-map (outsOf w st) out-words (λ x h. reduced (primeOf field) L x h)
+
+  outs-outside : All (λ x. inDomain F (s .ω) l x ≡ false) (outsOf w st)
+  unfolding outsOf
+  outs-outside =
+      subst (λ (ω : ℕ). All (λ x. inDomain F ω l x ≡ false) (take (getD w 5 0) (drop (outsAt st) w))) (sym (s .root))
+      (none-inside field (rootOfUnity (sheetOf w)) l w (outsAt st) (getD w 5 0) (omega (arith, round-inside w st (ok .place) more .there)) (both .0))
+
+  -- a shift point is an even power of ω, a point of the next domain an odd one (000, Remark 5.3)
+  shift-off : (m j : ℕ) → Differ F (point F (s .ω) l m) (shiftPoint F (s .ω) b j)
+  unfolding point shiftPoint levelOf nextStand
+  shift-off m j =
+      let ω = s .ω in
+      let a = 1 + 2 ^ st .level * j in
+      let q = a * 2 ^ ok .exponents .c in
+      let d = 2 ^ st .level * m in
+      let two : 2 ^ (st .level + 1) ≡ 2 ^ st .level * 2 = ap (λ (n : ℕ). 2 ^ n) (add-one (st .level)) ∙ pow-suc 2 (st .level) in
+      let odd : 1 + 2 ^ (st .level + 1) * m ≡ suc (d + d) = ap (λ (n : ℕ). 1 + n * m) two ∙ omega arith in
+      let even : a * getD w 3 0 ≡ q + q = ap (λ (n : ℕ). a * n) (ok .exponents .fold ∙ pow-suc 2 (ok .exponents .c)) ∙ omega arith in
+      subst (λ (x : ℕ). Differ F (power F ω (1 + 2 ^ (st .level + 1) * m)) x) (sym (power-mul F L ω a (getD w 3 0) ∙ ap (power F ω) even))
+      (subst (λ (n : ℕ). Differ F (power F ω n) (power F ω (q + q))) (sym odd)
+      (odd-even-differ F L (opposite-signs field) ω (length pw / 2) d q (s .serves .powers .half)))
+
+  -- no point of the next domain is an out coin or a shift point of the round
+  coins-off : (m : ℕ) → m < l .size → All (λ a. Differ F (point F (s .ω) l m) a) (outsOf w st ++ map (shiftPoint F (s .ω) b) (shiftsOf w st))
+  coins-off m h =
+      all-append _ (outsOf w st) _ (all-map₂ (outsOf w st) out-elements outs-outside (λ x e o. outside-differs F L (s .ω) l x e o m h))
+      (all-of-map _ (shiftPoint F (s .ω) b) (shiftsOf w st) (everywhere (shiftsOf w st) (λ j. shift-off m j)))
+
+  module _ (px py : List ℕ) (j : ℕ) (long : length py ≡ length px) (a : Sifted w pw xs cs st how (some (pair (drop j px) (drop j py)))) where
+    kept-is : pair (drop j px) (drop j py) ≡ distinct F (answers F (s .ω) b (s .f) (st .fold) (roundOf w st))
+    unfolding roundOf
+    kept-is = sifted-some field (answers F (s .ω) b (s .f) (st .fold) (roundOf w st)) (pair (drop j px) (drop j py)) (a (s .ω) b (s .f) (roundOf w st) refl refl refl (s .serves)) .1
+
+    points-are : points (distinct F (answers F (s .ω) b (s .f) (st .fold) (roundOf w st))) ≡ drop j px
+    points-are = ap (λ (g : List (Sample ℕ)). points g) (sym kept-is) ∙ points-pair (drop j px) (drop j py) (omega (arith, length-drop j px, length-drop j py))
+
+    -- interpolation: the points of the samples are different
+    pub samples-apart : Apart F (drop j px)
+    unfolding roundOf
+    samples-apart = subst (Apart F) points-are (completeness.samples-apart F L (s .ω) b (s .f) (st .fold) (roundOf w st) out-elements)
+
+    -- quotient: no point of the next domain is one of them
+    pub clear-next : (pc : List ℕ) → Standing w (length pw) (length px) (length pc) (nextStand w st) (nextFunction w st (how .scale) j) →
+        Clear field pw (nextStand w st .size) px (nextFunction w st (how .scale) j)
+    unfolding pointIn levelOf nextFunction roundOf
+    clear-next pc next m h =
+        let off = completeness.samples-off F L (s .ω) b (s .f) (st .fold) (roundOf w st) (point F (s .ω) l m) (coins-off m h) in
+        subst (λ (x : ℕ). All (λ a. Differ F x a) (drop j px)) (sym (point-in (s .serves .powers) l (next .scale) m (point-room (next .fits) m h)))
+        (subst (All (λ a. Differ F (point F (s .ω) l m) a)) points-are off)
