@@ -1,7 +1,8 @@
 //! An independent model of the STIR transcript verifier and prover.
 //!
 //! Everything here is written straight from document 01 ("STIR transcripts:
-//! their words, their prover and their judge") and by plain means: whole tables
+//! their words, their prover and their judge"), the load and the counts from the
+//! requests of document 02, and by plain means: whole tables
 //! instead of single points, Lagrange sums, long division, extended Euclid. It
 //! is the thing other code is compared with, so it prefers being obvious to
 //! being fast.
@@ -11,6 +12,7 @@ pub mod domain;
 pub mod field;
 pub mod generate;
 pub mod layout;
+pub mod load;
 pub mod polynomial;
 pub mod prove;
 pub mod sheet;

@@ -1,4 +1,4 @@
-//! The two programs, run as their users run them.
+//! The programs, run as their users run them.
 
 mod common;
 
@@ -6,6 +6,7 @@ use common::*;
 use std::collections::BTreeMap;
 use std::io::Write;
 use std::process::{Command, Stdio};
+use tevrolig_model::load::{Generator, WORKED_SHEET};
 
 /// What model-check prints for an input.
 fn check(input: &[u8]) -> String {
@@ -83,4 +84,27 @@ fn definition_cases_are_small_and_of_every_kind() {
     assert!(kinds.values().all(|&count| count >= 15), "{kinds:?}");
     assert!((200..=350).contains(&kinds["0"]), "{kinds:?}");
     assert_eq!(cases(&["9", "64", "wide"]).lines().count(), 64);
+}
+
+#[test]
+fn drawn_orders_are_short_and_of_every_kind() {
+    let text = cases(&["9", "400", "orders"]);
+    assert_eq!(text.lines().count(), 400);
+    let (mut worked, mut rounds, mut fields) = (0, 0, [0; 3]);
+    for case in text.lines() {
+        let (v, rest) = case.split_once(" | ").unwrap();
+        let (next, order) = rest.split_once(" | ").unwrap();
+        let mut generator = Generator {
+            v: v.parse().unwrap(),
+        };
+        let drawn = generator.order();
+        assert_eq!(drawn.to_string(), order);
+        assert_eq!(generator.v.to_string(), next);
+        assert!(drawn.coefficients.len() + drawn.coins.len() <= 100);
+        worked += usize::from(drawn.sheet == WORKED_SHEET);
+        rounds += usize::from(drawn.sheet[4] > 0);
+        fields[drawn.sheet[0] as usize] += 1;
+    }
+    assert!(worked >= 50 && rounds >= 200, "{worked}, {rounds}");
+    assert!(fields.iter().all(|&count| count >= 20), "{fields:?}");
 }

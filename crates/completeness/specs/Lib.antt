@@ -26,6 +26,7 @@ pub mod FileTrip
 pub mod Passed
 pub mod EachWord
 pub mod LayoutFacts
+pub mod CoinsAfter
 pub mod FairCoins
 pub mod Allowed
 -- nothing is divided by 0
@@ -38,6 +39,7 @@ pub mod Completeness
 pub mod ProveAccepted
 pub mod Premises
 pub mod FileSize
+pub mod LoadAllowed
 -- rounds, messages and domains by number
 pub mod CoinsByNumber
 pub mod LayoutByNumber

@@ -32,7 +32,7 @@ each-zeros : (R : Kind → ℕ → Type 0) (ks : List Kind) → All (λ k. R k 0
 each-zeros R [] h = tt
 each-zeros R (k ∷ ks) h = (h .0, each-zeros R ks (h .1))
 
-coins-of : (P : Kind → Type 0) (ks : List Kind) → All P ks → All P (coinKinds ks)
+pub coins-of : (P : Kind → Type 0) (ks : List Kind) → All P ks → All P (coinKinds ks)
 unfolding coinKinds
 coins-of P [] h = tt
 coins-of P (message ∷ ks) h = coins-of P ks (h .1)
@@ -48,13 +48,13 @@ module _ (h : Sheet) (r : Ready h) where
   ω = rootOfUnity h
 
   -- 0 is a word that passes refusals 5 and 7, of its kind
-  abbrev Zero : Kind → Type 0
+  abbrev pub Zero : Kind → Type 0
   Zero k = (outOfRange h k 0 ≡ false) × (outInDomain h k 0 ≡ false)
 
   positive : 0 < h .prime
   positive = omega (arith, r .large)
 
-  message-zero : Zero message
+  pub message-zero : Zero message
   unfolding outOfRange outInDomain limit
   message-zero = (lt-leb (h .prime) 0 positive, refl)
 
@@ -76,7 +76,7 @@ module _ (h : Sheet) (r : Ready h) where
   unfolding outOfRange outInDomain limit inDomain domain
   out-zero l = (lt-leb (h .prime) 0 positive, not-listed l (range 0 (l .size)))
 
-  layout-zeros : All Zero (layout h)
+  pub layout-zeros : All Zero (layout h)
   layout-zeros = layout-all Zero (suc (r .e)) message-zero coin-zero out-zero index-zero h (r .chain)
 
   ks : List Kind

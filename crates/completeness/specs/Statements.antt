@@ -4,7 +4,8 @@
 -- field with the laws and any fitting root: DecidingAccepts.deciding-accepts (any list of levels), RoundPolynomials, Domains, and Causal (any party that sends and asks).
 use Prim.Native.Nat.{ℕ, suc, _+_, _-_, _*_, _/_, _%_, _^_, _≤_, _<_}
 use native.Mathlib.Omega.{arith}
-use mathlib.Core.List.{List, [], _++_, map}
+use mathlib.Core.Bool.{true}
+use mathlib.Core.List.{List, [], _∷_, _++_, map}
 use mathlib.Core.Logic.{_↔_}
 use mathlib.Core.Path.{_≡_}
 use lib.ListN.{length, getD, take, drop, replicate}
@@ -13,7 +14,8 @@ use Rattle.definition.specs.Deciding.{answers, outTest}
 use Rattle.definition.specs.Domain.{foldAt, point, rootNumbers, shiftPoint}
 use Rattle.definition.specs.Field.{Field, element, found, inverseOf, noInverse, power, primeField, primeOf, product, reciprocal, unknownField}
 use Rattle.definition.specs.Layout.{coinKinds, layout, message, readTranscript, wordsDue}
-use Rattle.definition.specs.Lists.{range}
+use Rattle.definition.specs.Lists.{member, range}
+use Rattle.definition.specs.Load.{candidates, drawOrder, loadLines, permits, verdictOn}
 use Rattle.definition.specs.Polynomial.{addPoly, evaluate, foldPoly, geometric, mulPoly, points}
 use Rattle.definition.specs.Prove.{coefficientsTest, done, inputRangeTest, prove, refusal, sheetLengthTest}
 use Rattle.definition.specs.Prover.{honest, honestStream}
@@ -33,6 +35,7 @@ use Rattle.completeness.specs.FileSize
 use Rattle.completeness.specs.FileTrip
 use Rattle.completeness.specs.FunctionsByNumber
 use Rattle.completeness.specs.LayoutByNumber
+use Rattle.completeness.specs.LoadAllowed
 use Rattle.completeness.specs.NonAnticipation
 use Rattle.completeness.specs.Numbered.{Allowed, Copy, Due, Message, Nonzero, Room, answerPoly, coinsOf, combinationCoin, correctedOf, decidingDivisors, divisors, final, finalIndices, foldCoin, functionOf, lengthOf, levelOf, outCoinsOf, outsOf, pairAt, pairsOf, quotientPoly, read, readsDue, replies, roundOf, roundPoly, roundsOf, samplesAt, sentBefore, sheetField, sheetRoot, startOf, streamOn, table, total, vanishingPoly, wordsIn}
 use Rattle.completeness.specs.Premises
@@ -247,6 +250,28 @@ some-coins-allowed w f words sheet coefficients elements = (replicate (length (c
 -- 10. NO ACCEPTED FILE IS SO LONG as 65,536 bytes (01, A transcript by hand), so what `check` reads is enough.
 pub accepted-short : (bytes : List ℕ) → verify bytes .outcome ≡ accepted → length bytes < 65536
 accepted-short = FileSize.accepted-short
+
+-- 11. THE STATED LOAD (02, CR 2). Whatever the generator holds, a run draws a sheet, coefficients and coins that are allowed, and verify accepts its honest file.
+pub draws-allowed : (v : ℕ) → Allowed (drawOrder v .value .sheet) (drawOrder v .value .coefficients) (drawOrder v .value .coins)
+draws-allowed = LoadAllowed.draws-allowed
+
+pub draws-accepted : (v : ℕ) → verdictOn (drawOrder v .value) ≡ record { outcome = accepted; reads = readsDue (drawOrder v .value .sheet) }
+draws-accepted = LoadAllowed.draws-accepted
+
+-- So for every seed other than 0 there are a thousand lines, and each begins with `accepted`.
+pub load-lines : (seed : ℕ) → (seed ≡ 0 → ⊥) → length (loadLines seed) ≡ 1000
+load-lines seed h = LoadAllowed.load-accepted seed h .0
+
+pub load-accepted : (seed : ℕ) → (seed ≡ 0 → ⊥) → (i : ℕ) → i < length (loadLines seed) → take 8 (getD (loadLines seed) i []) ≡ 97 ∷ 99 ∷ 99 ∷ 101 ∷ 112 ∷ 116 ∷ 101 ∷ 100 ∷ []
+load-accepted seed h = at-place LoadAllowed.BeginsAccepted (loadLines seed) [] (LoadAllowed.load-accepted seed h .1)
+
+-- Seed 0 gives one line, `refused 12 0 0`.
+pub load-refused : loadLines 0 ≡ (114 ∷ 101 ∷ 102 ∷ 117 ∷ 115 ∷ 101 ∷ 100 ∷ 32 ∷ 49 ∷ 50 ∷ 32 ∷ 48 ∷ 32 ∷ 48 ∷ 10 ∷ []) ∷ []
+load-refused = LoadAllowed.load-refused
+
+-- Every value that the rule of a sheet word permits is among those that the load draws from.
+pub none-missing : (w : List ℕ) (x : ℕ) → permits w x ≡ true → member x candidates ≡ true
+none-missing = LoadAllowed.none-missing
 
 -- 12. NO INVERSE FOR ZERO (02, CR 3). The public inverse is none exactly for 0, that is, for each multiple of p;
 pub inverse-none-exactly : (field x : ℕ) → field < 3 → (inverseOf field x ≡ noInverse) ↔ (x % primeOf field ≡ 0)

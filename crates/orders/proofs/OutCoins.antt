@@ -1,31 +1,26 @@
 -- The walk over the rounds of a coin list for the first out coin that lies in its domain.
-use Prim.Native.Nat.{ℕ, suc, _+_, _-_, _*_, _/_, _^_, _≤_, _<_}
-use native.Mathlib.Nat.{pow-suc, sub-zero}
+use Prim.Native.Nat.{ℕ, _+_, _-_, _*_, _/_, _^_, _≤_, _<_}
+use native.Mathlib.Nat.{pow-suc}
 use native.Mathlib.Numerals.{add-one}
 use native.Mathlib.Omega.{arith}
 use mathlib.Core.Path.{_≡_, refl, sym, ap, _∙_}
-use mathlib.Core.List.{List, [], _∷_, _++_, map, zipWith}
+use mathlib.Core.List.{List, [], _∷_, _++_, zipWith}
 use mathlib.Core.Option.{Option, none, some}
-use lib.ListN.{length, getD, drop, replicate, length-append, length-replicate}
+use lib.ListN.{length, getD, drop, replicate}
 use lib.Pow.{pow-mono, pow-pos}
-use Rattle.completeness.specs.LayoutFacts.{coins-append, coins-final, coins-messages, coins-round}
-use Rattle.completeness.specs.LevelsByNumber.{as-listed}
-use Rattle.completeness.specs.Numbered.{levelOf, outsOf, roundsOf}
+use Rattle.completeness.specs.CoinsAfter.{kinds-all, kinds-count, kinds-last, kinds-next, kindsAfter, later-count, laterKinds}
+use Rattle.completeness.specs.Numbered.{levelOf}
 use Rattle.definition.specs.Deciding.{outInDomain}
 use Rattle.definition.specs.Field.{fieldOf}
-use Rattle.definition.specs.Layout.{Kind, coin, coinKinds, index, layout, message, out, restLayout}
-use Rattle.definition.specs.Lists.{firstTrue, range}
+use Rattle.definition.specs.Layout.{Kind, coin, coinKinds, index, layout, out}
+use Rattle.definition.specs.Lists.{firstTrue}
 use Rattle.definition.specs.Prove.{coinDomainTest}
 use Rattle.definition.specs.Reading.{sheetTest}
-use Rattle.definition.specs.Sheet.{firstLevel, laterLevels, rootOfUnity, sheetOf, shiftCount}
+use Rattle.definition.specs.Sheet.{rootOfUnity, sheetOf, shiftCount}
 use Rattle.definition.specs.Verdict.{accepted, refuseAt}
 use Rattle.domain.specs.OutCoins.{FirstInside, all-quiet, coin-quiet, firstInside, indices-quiet, orElse, outs-run, quiet}
 use Rattle.domain.specs.Powers.{Powers}
 use Rattle.sheet.specs.Bounds.{coins-most, ranges}
-
--- the kinds of the coins after the fold coin of level i
-abbrev coinsAfter : List ℕ → ℕ → List Kind
-coinsAfter w i = coinKinds (restLayout (outsOf w) (levelOf w i) (map (levelOf w) (range (suc i) (roundsOf w - i))))
 
 -- the place of the first out coin in its domain, of the coins from number `at` on, which are of these kinds
 abbrev firstOf : List ℕ → List Kind → List ℕ → ℕ → Option ℕ
@@ -33,48 +28,6 @@ firstOf w ks coins at = firstTrue at (zipWith (outInDomain (sheetOf w)) ks (drop
 
 abbrev pub firstCoin : List ℕ → List ℕ → Option ℕ
 firstCoin w coins = firstOf w (coinKinds (layout (sheetOf w))) coins 0
-
-module _ (w : List ℕ) where
-  all-coins : 7 + roundsOf w ≤ length w → coinKinds (layout (sheetOf w)) ≡ coin ∷ coinsAfter w 0
-  unfolding coinKinds layout sheetOf
-  all-coins long =
-      let rest = restLayout (outsOf w) (firstLevel (sheetOf w)) (laterLevels (sheetOf w)) in
-      coins-append (replicate (getD w 1 0) message) (coin ∷ rest)
-      ∙ ap {B = List Kind} (λ ks. ks ++ coinKinds (coin ∷ rest)) (coins-messages (getD w 1 0))
-      ∙ ap {B = List Kind} (λ ks. coin ∷ ks) (as-listed w (λ b ls. coinKinds (restLayout (outsOf w) b ls) ≡ coinsAfter w 0) long (rw (sub-zero (roundsOf w))))
-
-  -- those of a round but its out coins
-  abbrev laterCoins : ℕ → List Kind
-  laterCoins i = coin ∷ coin ∷ replicate (getD w (6 + i) 0) (index (shiftCount (levelOf w i)))
-
-  next-coins : (i : ℕ) → i < roundsOf w → coinsAfter w i ≡ replicate (outsOf w) (out (levelOf w (i + 1))) ++ (laterCoins i ++ coinsAfter w (i + 1))
-  unfolding range
-  next-coins i h =
-      let e : roundsOf w - i ≡ suc (roundsOf w - suc i) = omega arith in
-      rw (add-one i)
-      (ap (λ (n : ℕ). coinKinds (restLayout (outsOf w) (levelOf w i) (map (levelOf w) (range (suc i) n)))) e
-      ∙ coins-round (outsOf w) (levelOf w i) (levelOf w (suc i)) (map (levelOf w) (range (suc (suc i)) (roundsOf w - suc i))))
-
-  last-coins : (i : ℕ) → roundsOf w ≤ i → coinsAfter w i ≡ replicate (getD w (6 + i) 0) (index (shiftCount (levelOf w i)))
-  unfolding range
-  last-coins i h =
-      let e : roundsOf w - i ≡ 0 = omega arith in
-      ap (λ (n : ℕ). coinKinds (restLayout (outsOf w) (levelOf w i) (map (levelOf w) (range (suc i) n)))) e ∙ coins-final (outsOf w) (levelOf w i)
-
-  later-length : (i : ℕ) → length (laterCoins i) ≡ 2 + getD w (6 + i) 0
-  later-length i = omega (arith, length-replicate (getD w (6 + i) 0) (index (shiftCount (levelOf w i))))
-
-  round-length : (i : ℕ) → i < roundsOf w → length (coinsAfter w i) ≡ outsOf w + 2 + getD w (6 + i) 0 + length (coinsAfter w (i + 1))
-  round-length i h =
-      let o = replicate (outsOf w) (out (levelOf w (i + 1))) in
-      omega (
-        arith,
-        ap length (next-coins i h),
-        length-append o (laterCoins i ++ coinsAfter w (i + 1)),
-        length-append (laterCoins i) (coinsAfter w (i + 1)),
-        length-replicate (outsOf w) (out (levelOf w (i + 1))),
-        later-length i,
-      )
 
 -- i rounds are behind, and the next coin is number `at`
 pub record AtRound (w coins : List ℕ) (points rounds s at scale i : ℕ) : Type 0 where
@@ -85,14 +38,14 @@ pub record AtRound (w coins : List ℕ) (points rounds s at scale i : ℕ) : Typ
   pub within : i ≤ rounds
   pub scaled : scale ≡ 2 ^ i
   pub table : points ≡ getD w 1 0
-  pub same : firstOf w (coinsAfter w i) coins at ≡ firstCoin w coins
-  pub there : at + length (coinsAfter w i) ≡ length coins
+  pub same : firstOf w (kindsAfter w i) coins at ≡ firstCoin w coins
+  pub there : at + length (kindsAfter w i) ≡ length coins
 
 pub start : (w coins : List ℕ) (points : ℕ) → 12 ≤ length w → sheetTest w ≡ accepted → length coins ≡ length (coinKinds (layout (sheetOf w))) → points ≡ getD w 1 0 →
     AtRound w coins points (getD w 4 0) (getD w 5 0) 1 1 0
 start w coins points long passed full size =
     let few = ranges w passed .rounds in
-    let e = all-coins w (omega arith) in
+    let e = kinds-all w (omega arith) in
     record {
       all = refl;
       few = few;
@@ -102,7 +55,7 @@ start w coins points long passed full size =
       scaled = refl;
       table = size;
       same = sym (ap (λ (ks : List Kind). firstOf w ks coins 0) e
-          ∙ quiet (outInDomain (sheetOf w)) (coin ∷ []) (coinsAfter w 0) coins 0 1 refl (coin-quiet (sheetOf w), tt) (omega (arith, ap length e)));
+          ∙ quiet (outInDomain (sheetOf w)) (coin ∷ []) (kindsAfter w 0) coins 0 1 refl (coin-quiet (sheetOf w), tt) (omega (arith, ap length e)));
       there = omega (arith, ap length e);
     }
 
@@ -112,7 +65,7 @@ module _ {w coins : List ℕ} {points rounds s at scale i : ℕ} (r : AtRound w 
   ended h =
       let t = getD w (6 + i) 0 in
       ap (refuseAt 7) (sym (sym (r .same)
-      ∙ ap (λ (ks : List Kind). firstOf w ks coins at) (last-coins w i (omega (arith, r .all)))
+      ∙ ap (λ (ks : List Kind). firstOf w ks coins at) (kinds-last w i (omega (arith, r .all)))
       ∙ all-quiet (outInDomain (sheetOf w)) (replicate t (index (shiftCount (levelOf w i)))) (drop at coins) at (indices-quiet (sheetOf w) t (shiftCount (levelOf w i)))))
 
   module _ (more : i < rounds) where
@@ -125,8 +78,8 @@ module _ {w coins : List ℕ} {points rounds s at scale i : ℕ} (r : AtRound w 
     pub some-scale : 0 < scale * 2
     some-scale = omega (arith, r .scaled, pow-pos i)
 
-    round-left : length (coinsAfter w i) ≡ s + 2 + t + length (coinsAfter w (i + 1))
-    round-left = omega (arith, round-length w i (omega (arith, r .all)), r .outs)
+    round-left : length (kindsAfter w i) ≡ s + 2 + t + length (kindsAfter w (i + 1))
+    round-left = omega (arith, kinds-count w i (omega (arith, r .all)), r .outs)
 
     -- the coins of the round are there
     pub round-there : at + (s + 2 + t) ≤ length coins
@@ -135,21 +88,21 @@ module _ {w coins : List ℕ} {points rounds s at scale i : ℕ} (r : AtRound w 
     pub round-small : at + (s + 2 + t) ≤ 309
     round-small = omega (arith, round-there, r .most)
 
-    by-rounds : firstOf w (coinsAfter w i) coins at
-        ≡ orElse (firstInside (getD w 0 0) (rootOfUnity (sheetOf w)) (levelOf w (i + 1)) coins at s) (firstOf w (coinsAfter w (i + 1)) coins (at + (s + 2 + t)))
+    by-rounds : firstOf w (kindsAfter w i) coins at
+        ≡ orElse (firstInside (getD w 0 0) (rootOfUnity (sheetOf w)) (levelOf w (i + 1)) coins at s) (firstOf w (kindsAfter w (i + 1)) coins (at + (s + 2 + t)))
     unfolding sheetOf fieldOf
     by-rounds =
         let test = outInDomain (sheetOf w) in
         let l = levelOf w (i + 1) in
         let c = shiftCount (levelOf w i) in
         let e : at + s + (2 + t) ≡ at + (s + 2 + t) = omega arith in
-        ap (λ (ks : List Kind). firstOf w ks coins at) (next-coins w i (omega (arith, r .all)))
-        ∙ ap (λ (n : ℕ). firstOf w (replicate n (out l) ++ (laterCoins w i ++ coinsAfter w (i + 1))) coins at) (sym (r .outs))
-        ∙ outs-run (sheetOf w) (getD w 0 0) refl l (laterCoins w i ++ coinsAfter w (i + 1)) coins s at (omega (arith, round-there))
+        ap (λ (ks : List Kind). firstOf w ks coins at) (kinds-next w i (omega (arith, r .all)))
+        ∙ ap (λ (n : ℕ). firstOf w (replicate n (out l) ++ (laterKinds w i ++ kindsAfter w (i + 1))) coins at) (sym (r .outs))
+        ∙ outs-run (sheetOf w) (getD w 0 0) refl l (laterKinds w i ++ kindsAfter w (i + 1)) coins s at (omega (arith, round-there))
         ∙ ap (orElse (firstInside (getD w 0 0) (rootOfUnity (sheetOf w)) l coins at s))
-        (quiet test (laterCoins w i) (coinsAfter w (i + 1)) coins (at + s) (2 + t) (later-length w i)
+        (quiet test (laterKinds w i) (kindsAfter w (i + 1)) coins (at + s) (2 + t) (later-count w i)
         (coin-quiet (sheetOf w), (coin-quiet (sheetOf w), indices-quiet (sheetOf w) t c)) (omega (arith, round-there))
-        ∙ ap (λ (n : ℕ). firstOf w (coinsAfter w (i + 1)) coins n) e)
+        ∙ ap (λ (n : ℕ). firstOf w (kindsAfter w (i + 1)) coins n) e)
 
     scale-next : scale * 2 ≡ 2 ^ (i + 1)
     scale-next = omega (arith, r .scaled, pow-suc 2 i, ap (λ (n : ℕ). 2 ^ n) (add-one i))
@@ -161,12 +114,12 @@ module _ {w coins : List ℕ} {points rounds s at scale i : ℕ} (r : AtRound w 
           first (getD w 0 0) (rootOfUnity (sheetOf w)) (levelOf w (i + 1)) points-are (sym scale-next)
           (λ j. sym (same-table ∙ r .table) j / sym scale-next j)
 
-      found-as : orElse o (firstOf w (coinsAfter w (i + 1)) coins (at + (s + 2 + t))) ≡ firstCoin w coins
-      found-as = ap (λ (x : Option ℕ). orElse x (firstOf w (coinsAfter w (i + 1)) coins (at + (s + 2 + t)))) of-round ∙ sym by-rounds ∙ r .same
+      found-as : orElse o (firstOf w (kindsAfter w (i + 1)) coins (at + (s + 2 + t))) ≡ firstCoin w coins
+      found-as = ap (λ (x : Option ℕ). orElse x (firstOf w (kindsAfter w (i + 1)) coins (at + (s + 2 + t)))) of-round ∙ sym by-rounds ∙ r .same
 
       pub found : {place : ℕ} → some place ≡ o → refuseAt 7 (some place) ≡ coinDomainTest (sheetOf w) coins
       unfolding coinDomainTest
-      found e = ap (refuseAt 7) (ap (λ (x : Option ℕ). orElse x (firstOf w (coinsAfter w (i + 1)) coins (at + (s + 2 + t)))) e ∙ found-as)
+      found e = ap (refuseAt 7) (ap (λ (x : Option ℕ). orElse x (firstOf w (kindsAfter w (i + 1)) coins (at + (s + 2 + t)))) e ∙ found-as)
 
       pub turned : none ≡ o → AtRound w coins points rounds s (at + (s + 2 + t)) (scale * 2) (i + 1)
       turned e = record {
@@ -177,6 +130,6 @@ module _ {w coins : List ℕ} {points rounds s at scale i : ℕ} (r : AtRound w 
         within = omega arith;
         scaled = scale-next;
         table = r .table;
-        same = ap (λ (x : Option ℕ). orElse x (firstOf w (coinsAfter w (i + 1)) coins (at + (s + 2 + t)))) e ∙ found-as;
+        same = ap (λ (x : Option ℕ). orElse x (firstOf w (kindsAfter w (i + 1)) coins (at + (s + 2 + t)))) e ∙ found-as;
         there = omega (arith, r .there, round-left);
       }

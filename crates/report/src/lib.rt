@@ -1,34 +1,26 @@
 // Verdicts as lines on standard output.
 use libc::STDOUT_FILENO;
-use outcome::Outcome;
+use line::Line;
 use outcome::Verdict;
+ghost use Prim.Native.Nat.{_≤_};
 
-// One line: the outcome, its number and place, and the reads.
+// A verdict as a line: the outcome, its number and place, and the reads.
 pub fn print(v: Verdict) {
-    let o = v.outcome;
-    match o {
-        Outcome::Accepted => {
-            io::write_all(STDOUT_FILENO, b"accepted 0 0 ");
-        }
-        Outcome::Refused(number, place) => {
-            io::write_all(STDOUT_FILENO, b"refused ");
-            io::print_decimal(STDOUT_FILENO, number as u64);
-            io::write_all(STDOUT_FILENO, b" ");
-            io::print_decimal(STDOUT_FILENO, place as u64);
-            io::write_all(STDOUT_FILENO, b" ");
-        }
-    }
-    io::print_decimal(STDOUT_FILENO, v.reads as u64);
-    io::write_all(STDOUT_FILENO, b"\n");
+    send(STDOUT_FILENO, line::of_verdict(v));
 }
 
 // A refusal as a line: its number and place.
 pub fn refuse(fd: i32, number: u32, place: usize) {
-    io::write_all(fd, b"refused ");
-    io::print_decimal(fd, number as u64);
-    io::write_all(fd, b" ");
-    io::print_decimal(fd, place as u64);
-    io::write_all(fd, b"\n");
+    send(fd, line::of_refusal(number, place));
+}
+
+// Writes the bytes of a line.
+fn send(fd: i32, line: Line)
+    requires { ⌜ line .length ≤ 64 ⌝ }
+{
+    let bytes = line.bytes;
+    let length = line.length;
+    io::write_all(fd, &bytes[..length]);
 }
 
 // Judges what a descriptor gives, at most its first 65,536 bytes. No accepted file is so long.

@@ -2,12 +2,15 @@
 //! for the empty file), then outcome, number, place and reads.
 //!
 //! Arguments: seed, count, and optionally the word `wide`, which adds some
-//! two-block files of field 1 that are refused before any arithmetic.
+//! two-block files of field 1 that are refused before any arithmetic, or the word
+//! `orders`: then each line is a state of the load's generator, the state after one
+//! run, and the run's sheet, coefficients and coins, with bars between them.
 
 use std::env;
 use std::io::{self, BufWriter, Write};
 use std::process::ExitCode;
 use tevrolig_model::generate::{aim, coefficients, coins, damage, honest_file, sheet_over, Rng};
+use tevrolig_model::load::{Generator, WORKED_SHEET};
 use tevrolig_model::sheet::MOST_COINS;
 use tevrolig_model::{line, verify, Outcome};
 
@@ -15,13 +18,22 @@ fn main() -> ExitCode {
     let arguments: Vec<String> = env::args().skip(1).collect();
     let number = |at: usize| arguments.get(at).and_then(|text| text.parse::<u64>().ok());
     let (Some(seed), Some(count)) = (number(0), number(1)) else {
-        eprintln!("usage: definition-cases SEED COUNT [wide]");
+        eprintln!("usage: definition-cases SEED COUNT [wide | orders]");
         return ExitCode::FAILURE;
     };
-    let wide = arguments.get(2).is_some_and(|word| word == "wide");
+    let asked = |name: &str| arguments.get(2).is_some_and(|word| word == name);
+    let wide = asked("wide");
 
     let mut rng = Rng::new(seed);
     let mut out = BufWriter::new(io::stdout().lock());
+    if asked("orders") {
+        for case in 0..count {
+            if writeln!(out, "{}", drawn_order(&mut rng, case)).is_err() {
+                return ExitCode::FAILURE;
+            }
+        }
+        return ExitCode::SUCCESS;
+    }
     for case in 0..count {
         let file = match case % 16 {
             _ if case == 0 => Vec::new(),
@@ -38,6 +50,27 @@ fn main() -> ExitCode {
         }
     }
     ExitCode::SUCCESS
+}
+
+/// A run of the load that is short to compute: half of them have rounds, and so out
+/// coins, and one in eight falls back to the worked sheet. Those with rounds are not of
+/// field 2, whose domains come from a power that the checker cannot compute.
+fn drawn_order(rng: &mut Rng, case: u64) -> String {
+    loop {
+        let before = Generator { v: rng.word() };
+        let mut after = before.clone();
+        let order = after.order();
+        let words = order.coefficients.len() + order.coins.len();
+        let wanted = match case % 8 {
+            0 => order.sheet == WORKED_SHEET,
+            1..=4 => order.sheet[4] > 0 && order.sheet != WORKED_SHEET,
+            _ => true,
+        };
+        let domains = order.sheet[0] < 2 && order.sheet[1] <= 128;
+        if wanted && words <= 100 && (domains || order.sheet[4] == 0) {
+            return format!("{} | {} | {order}", before.v, after.v);
+        }
+    }
 }
 
 /// A file of field 0: about a third honest, the rest damaged, not empty.

@@ -1,0 +1,96 @@
+-- The draws of each function, joined: the coins of a round from its out coins and the others, those after a fold coin from a round and those after it.
+-- Assumes nothing.
+use Prim.Native.Nat.{ℕ, _+_, _-_, _≤_, _<_}
+use native.Mathlib.Omega.{arith}
+use mathlib.Core.List.{List, [], _∷_, _++_, append-assoc}
+use mathlib.Core.Path.{_≡_, sym, ap, _∙_}
+use lib.ListN.{length, getD, replicate, length-replicate}
+use Rattle.definition.specs.Field.{primeOf}
+use Rattle.definition.specs.Layout.{Kind, coin, coinKinds, index, layout, message, out}
+use Rattle.definition.specs.Load.{Drawn, drawKinds}
+use Rattle.definition.specs.Sheet.{Sheet, sheetOf, shiftCount}
+use Rattle.completeness.specs.CoinsAfter.{kinds-all, kinds-count, kinds-last, kinds-next, kindsAfter, laterKinds, outKinds}
+use Rattle.completeness.specs.Numbered.{levelOf, outsOf, roundsOf}
+use Rattle.completeness.specs.SheetLevels.{enough-words}
+use Rattle.generator.specs.Draws.{drawMany, indices-drawn, messages-drawn}
+use Rattle.draws.specs.AtLevel.{AtLevel}
+use Rattle.draws.specs.Kinds.{drawn-both, one-coin, two-coins}
+
+-- what is drawn and the generator as it then is, against what the definition draws
+abbrev pub Is : List ℕ → ℕ → Drawn (List ℕ) → Type 0
+Is words next d = _≡_ {A = Drawn (List ℕ)} (record { value = words; next = next }) d
+
+module _ (field v : ℕ) {p : ℕ} (ep : p ≡ primeOf field) (h : Sheet) (eh : h .prime ≡ primeOf field) where
+  -- the field's prime is the sheet's
+  below-prime : (n : ℕ) → drawMany p n v ≡ drawMany (h .prime) n v
+  below-prime n = ap (λ (q : ℕ). drawMany q n v) (ep ∙ sym eh)
+
+  pub elements : (n : ℕ) {words : List ℕ} {next : ℕ} → Is words next (drawMany p n v) → Is words next (drawKinds h (replicate n message) v)
+  elements n d = d ∙ below-prime n ∙ sym (messages-drawn h n v)
+
+  pub one-element : {n : ℕ} {words : List ℕ} {next : ℕ} → n ≡ 1 → Is words next (drawMany p n v) → Is words next (drawKinds h (coin ∷ []) v)
+  one-element {n} e d = d ∙ below-prime n ∙ ap (λ (m : ℕ). drawMany (h .prime) m v) e ∙ one-coin h v
+
+  two-elements : {n : ℕ} {words : List ℕ} {next : ℕ} → n ≡ 2 → Is words next (drawMany p n v) → Is words next (drawKinds h (coin ∷ coin ∷ []) v)
+  two-elements {n} e d = d ∙ below-prime n ∙ ap (λ (m : ℕ). drawMany (h .prime) m v) e ∙ two-coins h v
+
+  -- the coins of a round but its out coins
+  pub later-coins : (limit : ℕ) {n m count : ℕ} {words front back : List ℕ} {next last : ℕ} → words ≡ front ++ back → n ≡ 2 → m ≡ count →
+      Is front next (drawMany p n v) → Is back last (drawMany limit m next) → Is words last (drawKinds h (coin ∷ coin ∷ replicate count (index limit)) v)
+  later-coins limit {m = m} {count} {next = next} e en em first second =
+      drawn-both h (coin ∷ coin ∷ []) (replicate count (index limit)) v e (two-elements en first)
+      (second ∙ ap (λ (j : ℕ). drawMany limit j next) em ∙ sym (indices-drawn h limit count next))
+
+module _ (w : List ℕ) (i v : ℕ) where
+  -- the coins of round i + 1
+  pub round-coins : {n m all limit : ℕ} {words front back : List ℕ} {next last : ℕ} → words ≡ front ++ back → all ≡ outsOf w + 2 + getD w (6 + i) 0 →
+      n ≡ outsOf w → m ≡ all - outsOf w → limit ≡ shiftCount (levelOf w i) →
+      Is front next (drawKinds (sheetOf w) (replicate n (out (levelOf w (i + 1)))) v) →
+      Is back last (drawKinds (sheetOf w) (coin ∷ coin ∷ replicate (m - 2) (index limit)) next) →
+      Is words last (drawKinds (sheetOf w) (outKinds w i ++ laterKinds w i) v)
+  round-coins {m = m} {next = next} e ea en em el first second =
+      let et : m - 2 ≡ getD w (6 + i) 0 = omega arith in
+      drawn-both (sheetOf w) (outKinds w i) (laterKinds w i) v e
+      (first ∙ ap (λ (j : ℕ). drawKinds (sheetOf w) (replicate j (out (levelOf w (i + 1)))) v) en)
+      (second ∙ (λ x. drawKinds (sheetOf w) (coin ∷ coin ∷ replicate (et x) (index (el x))) next))
+
+  -- those after fold coin i: a round's and those after it,
+  pub coins-more : {words front back : List ℕ} {next last : ℕ} → i < roundsOf w → words ≡ front ++ back →
+      Is front next (drawKinds (sheetOf w) (outKinds w i ++ laterKinds w i) v) → Is back last (drawKinds (sheetOf w) (kindsAfter w (i + 1)) next) →
+      Is words last (drawKinds (sheetOf w) (kindsAfter w i) v)
+  coins-more more e first second =
+      drawn-both (sheetOf w) (outKinds w i ++ laterKinds w i) (kindsAfter w (i + 1)) v e first second
+      ∙ ap (λ (ks : List Kind). drawKinds (sheetOf w) ks v) (append-assoc (outKinds w i) (laterKinds w i) (kindsAfter w (i + 1)) ∙ sym (kinds-next w i more))
+
+  -- or the final indices
+  pub coins-last : {n limit : ℕ} {words : List ℕ} {last : ℕ} → i ≡ roundsOf w → n ≡ length (kindsAfter w i) → limit ≡ shiftCount (levelOf w i) →
+      Is words last (drawMany limit n v) → Is words last (drawKinds (sheetOf w) (kindsAfter w i) v)
+  coins-last {n} {limit} e en el d =
+      let t = getD w (6 + i) 0 in
+      let c = shiftCount (levelOf w i) in
+      let k = kinds-last w i (omega arith) in
+      let et : n ≡ t = en ∙ ap length k ∙ length-replicate t (index c) in
+      d ∙ (λ x. drawMany (el x) (et x) v) ∙ sym (indices-drawn (sheetOf w) c t v) ∙ ap (λ (ks : List Kind). drawKinds (sheetOf w) ks v) (sym k)
+
+-- before round i + 1, which has `count` of the n coins still to be drawn
+pub record Onward (w : List ℕ) (i n count : ℕ) : Type 0 where
+  pub more : i < roundsOf w
+  pub within : count ≤ n
+  pub left : n - count ≡ length (kindsAfter w (i + 1))
+
+pub not-last : (i m : ℕ) → i ≤ m → (i ≡ m → ⊥) → i < m
+not-last i m h e = omega arith
+
+pub onward : (w : List ℕ) (i : ℕ) {n count : ℕ} → i < roundsOf w → n ≡ length (kindsAfter w i) → count ≡ outsOf w + 2 + getD w (6 + i) 0 → Onward w i n count
+onward w i more en ec = let c = kinds-count w i more in record { more = more; within = omega (arith, c); left = omega (arith, c) }
+
+-- all coins: fold coin 0, and those after it
+pub all-counted : {w pw : List ℕ} {n : ℕ} → AtLevel w pw 0 1 → n ≡ length (coinKinds (layout (sheetOf w))) → n ≡ 1 + length (kindsAfter w 0)
+all-counted {w} a e = omega (arith, ap length (kinds-all w (enough-words w (a .long) (a .passed))))
+
+pub coins-all : (w pw : List ℕ) (v : ℕ) {words front back : List ℕ} {next last : ℕ} → AtLevel w pw 0 1 → words ≡ front ++ back →
+    Is front next (drawKinds (sheetOf w) (coin ∷ []) v) → Is back last (drawKinds (sheetOf w) (kindsAfter w 0) next) →
+    Is words last (drawKinds (sheetOf w) (coinKinds (layout (sheetOf w))) v)
+coins-all w pw v a e first second =
+    drawn-both (sheetOf w) (coin ∷ []) (kindsAfter w 0) v e first second
+    ∙ ap (λ (ks : List Kind). drawKinds (sheetOf w) ks v) (sym (kinds-all w (enough-words w (a .long) (a .passed))))

@@ -1,0 +1,3 @@
+pub mod OutCoin
+pub mod Kinds
+pub mod AtLevel

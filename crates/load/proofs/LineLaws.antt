@@ -1,0 +1,92 @@
+-- The lines of several runs, one after the other; a run's line is short.
+use Prim.Native.Nat.{ℕ, zero, suc, _+_, _-_, _*_, _^_, _≤_, _<_}
+use native.Mathlib.Nat.{mul-le-mul}
+use native.Mathlib.Omega.{arith}
+use mathlib.Core.List.{List, [], _∷_, _++_, append-assoc, append-nil, flatMap}
+use mathlib.Core.Path.{_≡_, refl, sym, ap, subst, _∙_}
+use lib.ListN.{length, getD, take, drop, length-append, length-take}
+use lib.Seq.{getD-drop, getD-take}
+use borrow.Author.Tests.{eq-eqb, ne-eqb}
+use Rattle.definition.specs.Block.{wordOf}
+use Rattle.definition.specs.Line.{decimal, lineOf, outcomeText}
+use Rattle.definition.specs.Load.{drawOrder, drawSheet, loadLines, loadRuns, orders, seedOf, verdictOn}
+use Rattle.definition.specs.Sheet.{sheetOf}
+use Rattle.definition.specs.Verdict.{Verdict, accepted, refused}
+use Rattle.completeness.specs.LoadAllowed.{draws-accepted, sheet-faultless}
+use Rattle.completeness.specs.Numbered.{readsDue, total}
+use Rattle.line.specs.Decimal.{long-64}
+use Rattle.sheet.specs.Bounds.{ranges}
+use Rattle.load.specs.Runs.{linesFrom}
+
+pub lines-none : (v : ℕ) → linesFrom zero v ≡ []
+unfolding linesFrom orders flatMap
+lines-none v = refl
+
+pub lines-next : (runs v : ℕ) → linesFrom (suc runs) v ≡ lineOf (verdictOn (drawOrder v .value)) ++ linesFrom runs (drawOrder v .next)
+unfolding linesFrom orders flatMap
+lines-next runs v = refl
+
+-- ---- the reads of a sheet are few
+
+total-most : (most : ℕ) (xs : List ℕ) → ((i : ℕ) → i < length xs → getD xs i 0 ≤ most) → total xs ≤ length xs * most
+unfolding total
+total-most most [] h = omega arith
+total-most most (x ∷ xs) h = omega (arith, h 0 (omega arith), total-most most xs (λ i l. h (suc i) (omega arith)))
+
+few-small : (w : List ℕ) → ((i : ℕ) → i < 6 → getD w (6 + i) 0 ≤ 48) → (i : ℕ) → i < 6 → i < suc (getD w 4 0) → getD (take (suc (getD w 4 0)) (drop 6 w)) i 0 ≤ 48
+few-small w h i l k = subst (λ (n : ℕ). n ≤ 48) (sym (getD-take (suc (getD w 4 0)) (drop 6 w) i 0 k ∙ getD-drop 6 w i 0)) (h i l)
+
+reads-most : (v : ℕ) → readsDue (drawOrder v .value .sheet) ≤ 4608
+unfolding readsDue drawOrder sheetOf
+reads-most v =
+    let w = drawSheet v .value in
+    let s = sheet-faultless v in
+    let r = ranges w (s .1) in
+    let few = take (suc (getD w 4 0)) (drop 6 w) in
+    let long : length few ≤ 6 = simp length-take (omega (arith, r .rounds)) in
+    let most : total few ≤ 288 = omega (arith, total-most 48 few (λ i l. few-small w (r .repetitions) i (omega arith) (omega (arith, length-take (suc (getD w 4 0)) (drop 6 w))))) in
+    mul-le-mul (r .folds) most
+
+line-accepted : (v : Verdict) (reads : ℕ) → reads < 2 ^ 64 → v ≡ record { outcome = accepted; reads = reads } → length (lineOf v) ≤ 34
+unfolding lineOf outcomeText
+line-accepted v reads h e = rw e (omega (arith, length-append (decimal reads) (10 ∷ []), long-64 reads h))
+
+line-short : (v : ℕ) → length (lineOf (verdictOn (drawOrder v .value))) ≤ 34
+line-short v = line-accepted _ _ (omega (arith, reads-most v)) (draws-accepted v)
+
+pub verdict-short : (v : ℕ) {verdict : Verdict} {long : ℕ} → verdict ≡ verdictOn (drawOrder v .value) → long ≡ length (lineOf verdict) → long ≤ 34
+verdict-short v e h = subst (λ (n : ℕ). n ≤ 34) (sym (h ∙ ap (λ (u : Verdict). length (lineOf u)) e)) (line-short v)
+
+-- ---- one run more
+
+pub lines-step : (left v : ℕ) (before : List ℕ) {next : ℕ} {verdict : Verdict} {line after whole : List ℕ} → 0 < left →
+    verdict ≡ verdictOn (drawOrder v .value) → next ≡ drawOrder v .next → line ≡ lineOf verdict → after ≡ before ++ line →
+    before ++ linesFrom left v ≡ whole → after ++ linesFrom (left - 1) next ≡ whole
+lines-step left v before {next} {verdict} {line} h e n l a w =
+    let one : suc (left - 1) ≡ left = omega arith in
+    ap (λ (xs : List ℕ). xs ++ linesFrom (left - 1) next) a
+    ∙ append-assoc before line (linesFrom (left - 1) next)
+    ∙ (λ t. before ++ ((l ∙ ap lineOf e) t ++ linesFrom (left - 1) (n t)))
+    ∙ ap (λ (xs : List ℕ). before ++ xs) (sym (lines-next (left - 1) v))
+    ∙ ap (λ (m : ℕ). before ++ linesFrom m v) one
+    ∙ w
+
+-- ---- a load's lines
+
+pub lines-refused : (seed : ℕ) → seed ≡ 0 → lineOf (record { outcome = refused 12 0; reads = 0 }) ≡ flatMap (λ line. line) (loadLines seed)
+unfolding loadLines flatMap
+lines-refused seed h = rw (eq-eqb seed 0 h) (sym (append-nil _))
+
+pub lines-run : (seed : ℕ) → (seed ≡ 0 → ⊥) → linesFrom loadRuns seed ≡ flatMap (λ line. line) (loadLines seed)
+unfolding loadLines linesFrom
+lines-run seed h = rw (ne-eqb seed 0 h)
+
+-- ---- the seed
+
+pub seed-bytes : (bytes : List ℕ) → getD bytes 0 0 + 256 * getD bytes 1 0 + 65536 * getD bytes 2 0 + 16777216 * getD bytes 3 0 ≡ seedOf bytes
+unfolding seedOf wordOf
+seed-bytes [] = refl
+seed-bytes (a ∷ []) = omega arith
+seed-bytes (a ∷ b ∷ []) = omega arith
+seed-bytes (a ∷ b ∷ c ∷ []) = omega arith
+seed-bytes (a ∷ b ∷ c ∷ d ∷ bytes) = omega arith

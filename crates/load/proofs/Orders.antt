@@ -1,0 +1,77 @@
+-- What is drawn in three parts is the definition's order, it is allowed, and so prove answers done and the verdict is the definition's.
+use Prim.Native.Nat.{ℕ, _*_, _≤_}
+use native.Mathlib.Omega.{arith}
+use mathlib.Core.List.{List}
+use mathlib.Core.Path.{_≡_, sym, ap, subst, _∙_}
+use lib.ListN.{length, getD, replicate}
+use borrow.Author.Tests.{le-ltb}
+use Rattle.definition.specs.Block.{blockCount}
+use Rattle.definition.specs.Layout.{coinKinds, layout, message, wordsDue}
+use Rattle.definition.specs.Load.{Drawn, Order, drawKinds, drawOrder, drawSheet, verdictOn}
+use Rattle.definition.specs.Prove.{Answer, done, outputTest, prove}
+use Rattle.definition.specs.Reading.{sheetTest}
+use Rattle.definition.specs.Sheet.{sheetOf}
+use Rattle.definition.specs.Verdict.{Verdict, accepted}
+use Rattle.completeness.specs.LoadAllowed.{draws-accepted, draws-allowed, sheet-faultless}
+use Rattle.completeness.specs.Numbered.{Allowed, Room, readsDue}
+use Rattle.completeness.specs.ProveAccepted.{done-exactly}
+use Rattle.completeness.specs.Tests.{if-false}
+use Rattle.sheet.specs.Bounds.{blocks-most, coins-most, ranges}
+
+-- ---- the drawn sheet
+
+module _ (v : ℕ) {next : ℕ} {w : List ℕ} (e : _≡_ {A = Drawn (List ℕ)} (record { value = w; next = next }) (drawSheet v)) where
+  pub drawn-sheet : (length w ≡ 12) × (sheetTest w ≡ accepted)
+  drawn-sheet = subst (λ (l : List ℕ). (length l ≡ 12) × (sheetTest l ≡ accepted)) (sym (ap (λ (d : Drawn (List ℕ)). d .value) e)) (sheet-faultless v)
+
+  pub drawn-degree : getD w 2 0 ≤ 2048
+  drawn-degree = let r = ranges w (drawn-sheet .1) in omega (arith, r .degree, r .size)
+
+  pub drawn-coins : length (coinKinds (layout (sheetOf w))) ≤ 309
+  drawn-coins = coins-most w (omega (arith, drawn-sheet .0)) (drawn-sheet .1)
+
+-- ---- the three parts
+
+coinsAfter : List ℕ → List ℕ → Drawn (List ℕ) → Drawn Order
+coinsAfter w f c = record { value = record { sheet = w; coefficients = f; coins = c .value }; next = c .next }
+
+restAfter : List ℕ → Drawn (List ℕ) → Drawn Order
+restAfter w f = coinsAfter w (f .value) (drawKinds (sheetOf w) (coinKinds (layout (sheetOf w))) (f .next))
+
+orderAfter : Drawn (List ℕ) → Drawn Order
+orderAfter w = restAfter (w .value) (drawKinds (sheetOf (w .value)) (replicate (sheetOf (w .value) .degree) message) (w .next))
+
+module _
+    (v : ℕ)
+    {generator mid next : ℕ}
+    {w f c : List ℕ}
+    (sheet : _≡_ {A = Drawn (List ℕ)} (record { value = w; next = generator }) (drawSheet v))
+    (coefficients : _≡_ {A = Drawn (List ℕ)} (record { value = f; next = mid }) (drawKinds (sheetOf w) (replicate (sheetOf w .degree) message) generator))
+    (coins : _≡_ {A = Drawn (List ℕ)} (record { value = c; next = next }) (drawKinds (sheetOf w) (coinKinds (layout (sheetOf w))) mid))
+  where
+    drawn-order : _≡_ {A = Drawn Order} (record { value = record { sheet = w; coefficients = f; coins = c }; next = next }) (drawOrder v)
+    unfolding drawOrder coinsAfter restAfter orderAfter
+    drawn-order = ap (coinsAfter w f) coins ∙ ap (restAfter w) coefficients ∙ ap orderAfter sheet
+
+    pub drawn-next : next ≡ drawOrder v .next
+    drawn-next = ap (λ (d : Drawn Order). d .next) drawn-order
+
+    drawn-value : _≡_ {A = Order} (record { sheet = w; coefficients = f; coins = c }) (drawOrder v .value)
+    drawn-value = ap (λ (d : Drawn Order). d .value) drawn-order
+
+    drawn-allowed : Allowed w f c
+    drawn-allowed = subst (λ (o : Order). Allowed (o .sheet) (o .coefficients) (o .coins)) (sym drawn-value) (draws-allowed v)
+
+    -- 67 blocks are room for every file
+    has-room : (output : List ℕ) → length output ≡ 34304 → Room w output
+    unfolding outputTest
+    has-room output size =
+        let s = drawn-sheet v sheet in
+        if-false 11 _ _ (le-ltb (length output) (512 * blockCount (wordsDue (sheetOf w))) (omega (arith, blocks-most w (omega (arith, s .0)) (s .1))))
+
+    pub drawn-verdict : (output : List ℕ) {answer : Answer} {verdict : Verdict} → length output ≡ 34304 → answer ≡ prove w f c output .answer →
+        ((count : ℕ) → answer ≡ done count → verdict ≡ record { outcome = accepted; reads = readsDue w }) → verdict ≡ verdictOn (drawOrder v .value)
+    drawn-verdict output {answer} size e given =
+        given (blockCount (wordsDue (sheetOf w))) (e ∙ done-exactly w f c output .1 (drawn-allowed, has-room output size))
+        ∙ ap (λ (o : Order). record { outcome = accepted; reads = readsDue (o .sheet) }) drawn-value
+        ∙ sym (draws-accepted v)

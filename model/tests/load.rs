@@ -1,0 +1,255 @@
+//! The stated load (document 02, CR 2).
+
+mod common;
+
+use common::SHEET;
+use std::collections::BTreeSet;
+use std::process::Command;
+use tevrolig_model::domain::Subgroup;
+use tevrolig_model::generate::Rng;
+use tevrolig_model::load::*;
+use tevrolig_model::sheet::Sheet;
+
+fn from(v: u32) -> Generator {
+    Generator { v }
+}
+
+/// The first draws of seed 1 are the published ones of xorshift32 with 13, 17, 5.
+#[test]
+fn steps() {
+    let mut generator = from(1);
+    let first: Vec<u32> = (0..4).map(|_| generator.step()).collect();
+    assert_eq!(first, [270369, 67634689, 2647435461, 307599695]);
+    assert_eq!(from(u32::MAX).step(), 253983);
+    assert_eq!(from(0).step(), 0);
+}
+
+/// The remainder of the new v picks, lowest first.
+#[test]
+fn a_draw_uses_the_new_v() {
+    let mut generator = from(1);
+    assert_eq!(generator.below(1000), 369);
+    assert_eq!(generator.below(1 << 40), 67634689);
+    assert_eq!(generator.below(1), 0);
+    assert_eq!(
+        generator.v, 2647435461,
+        "a single choice takes its step too"
+    );
+}
+
+#[test]
+fn seeds() {
+    assert_eq!(seed(&[]), 0);
+    assert_eq!(seed(&[1]), 1);
+    assert_eq!(seed(&[1, 2]), 513);
+    assert_eq!(seed(&[0, 0, 1]), 65536);
+    assert_eq!(seed(&[4, 3, 2, 1]), 0x01020304);
+    assert_eq!(seed(&[1, 0, 0, 1, 9]), 16777217);
+    assert_eq!(seed(&[0, 0, 0, 0, 9, 9]), 0);
+    assert_eq!(lines(0), ["refused 12 0 0"]);
+}
+
+#[test]
+fn permitted_values() {
+    let powers: Vec<u32> = (1..=12).map(|bit| 1 << bit).collect();
+    assert_eq!(permitted(&[]), [0, 1, 2]);
+    assert_eq!(permitted(&[0]), [4, 8, 16]);
+    assert_eq!(permitted(&[1]), powers[1..]);
+    assert_eq!(permitted(&[2]), powers[1..]);
+    assert_eq!(permitted(&[2, 4096]), powers[..11]);
+    assert_eq!(permitted(&[2, 4]), [2]);
+    assert_eq!(permitted(&[2, 4096, 2048]), [2, 4, 8, 16]);
+    assert_eq!(permitted(&[2, 4096, 8]), [2, 4, 8]);
+    assert_eq!(permitted(&[2, 4096, 2048, 2]), [0, 1, 2, 3, 4, 5]);
+    assert_eq!(permitted(&[2, 4096, 2048, 16]), [0, 1]);
+    assert_eq!(permitted(&[2, 4096, 2, 2]), [0]);
+    assert_eq!(permitted(&[2, 4096, 2048, 2, 5]), [1, 2]);
+    let counts: Vec<u32> = (1..=48).collect();
+    let five = [2, 4096, 2048, 2, 5, 2, 48, 48, 48, 48];
+    assert_eq!(permitted(&five), counts, "48 + 2 < d_5 = 64");
+    assert_eq!(
+        permitted(&[2, 4096, 1024, 2, 5, 2, 1, 1, 1, 1]),
+        counts[..29]
+    );
+    assert_eq!(
+        permitted(&[0, 4, 2, 2, 0, 1]),
+        counts,
+        "t_M has no other bound"
+    );
+    assert_eq!(permitted(&[0, 4, 2, 2, 0, 1, 1]), [0]);
+    assert_eq!(permitted(&[0, 16, 4, 2, 1, 1]), [], "t_0 + 1 < 2");
+    assert_eq!(permitted(&[0, 16, 8, 2, 1, 2]), [1]);
+}
+
+/// Written out here, the rules are those by which sheets are read.
+#[test]
+fn permitted_values_are_those_that_sheets_keep() {
+    let mut rng = Rng::new(12);
+    let mut ends = 0;
+    for _ in 0..300 {
+        let mut words = Vec::new();
+        while words.len() < 12 {
+            let at = words.len();
+            let mut sheet = [0; 12];
+            sheet[..at].copy_from_slice(&words);
+            let keeps = |value: &u32| {
+                sheet[at] = *value;
+                Sheet::read(&sheet).map_or_else(|place| place > at, |_| true)
+            };
+            let values: Vec<u32> = (0..=8192).chain([u32::MAX]).filter(keeps).collect();
+            assert_eq!(permitted(&words), values, "after {words:?}");
+            if values.is_empty() {
+                ends += 1;
+                break;
+            }
+            words.push(rng.pick(&values));
+        }
+    }
+    assert!(ends > 5);
+}
+
+/// The runs from the states 849 and 6, worked out by the written definition too.
+#[test]
+fn two_orders() {
+    let mut generator = from(849);
+    let order = generator.order();
+    assert_eq!(order.sheet, [0, 16, 8, 2, 1, 1, 1, 10, 0, 0, 0, 0]);
+    assert_eq!(order.coefficients, [2, 14, 2, 11, 15, 7, 15, 4]);
+    let coins = [0, 2, 1, 16, 0, 1, 0, 3, 1, 1, 0, 0, 1, 0, 3];
+    assert_eq!(order.coins, coins);
+    assert_eq!(generator.v, 2168865843);
+
+    let mut generator = from(6);
+    let order = generator.order();
+    assert_eq!(order.sheet, WORKED_SHEET);
+    assert_eq!(order.coefficients, [0, 9, 0, 0, 0, 3, 9, 3]);
+    assert_eq!(order.coins, [11, 9, 8, 12, 0, 3]);
+    assert_eq!(generator.v, 509620375);
+}
+
+/// From 6 the words 0 to 6 are drawn, and then no t_1 is left: seven steps, the worked
+/// sheet, and no step for word 7 or a later one. From 849 a sheet takes twelve steps.
+#[test]
+fn steps_of_a_sheet() {
+    let after = |v: u32, steps: usize| {
+        let mut generator = from(v);
+        for _ in 0..steps {
+            generator.step();
+        }
+        generator.v
+    };
+    assert_eq!(WORKED_SHEET, SHEET);
+    let mut generator = from(6);
+    assert_eq!(generator.sheet(), WORKED_SHEET);
+    let mut words = Vec::new();
+    let mut drawing = from(6);
+    while !permitted(&words).is_empty() {
+        let values = permitted(&words);
+        words.push(values[drawing.step() as usize % values.len()]);
+    }
+    assert_eq!(words, [0, 16, 8, 2, 2, 1, 1], "d_2 = 2");
+    assert_eq!(generator.v, after(6, 7));
+
+    let mut generator = from(849);
+    generator.sheet();
+    assert_eq!(generator.v, after(849, 12));
+}
+
+/// An out coin inside its domain is drawn again, one step each.
+#[test]
+fn out_coins_drawn_again() {
+    let mut generator = from(1);
+    let drawn: Vec<u32> = (0..4).map(|_| generator.below(17)).collect();
+    assert_eq!(
+        drawn,
+        [270369 % 17, 67634689 % 17, 2647435461 % 17, 307599695 % 17]
+    );
+    let inside: Vec<u64> = drawn[..2].iter().map(|&coin| coin.into()).collect();
+    assert!(!inside.contains(&drawn[2].into()));
+    let mut generator = from(1);
+    assert_eq!(generator.out_coin(17, &inside), drawn[2]);
+    assert_eq!(generator.v, 2647435461);
+
+    // One draw and 64 more, then 0 without a step.
+    let everything: Vec<u64> = (0..17).collect();
+    let (mut generator, mut steps) = (from(1), from(1));
+    assert_eq!(generator.out_coin(17, &everything), 0);
+    for _ in 0..65 {
+        steps.step();
+    }
+    assert_eq!(generator, steps);
+
+    // The sixty-fifth draw still counts.
+    let mut draws = from(1);
+    let drawn: Vec<u32> = (0..65).map(|_| draws.below(65537)).collect();
+    let inside: Vec<u64> = drawn[..64].iter().map(|&coin| coin.into()).collect();
+    assert!(drawn[64] != 0 && !inside.contains(&drawn[64].into()));
+    assert_eq!(from(1).out_coin(65537, &inside), drawn[64]);
+}
+
+/// In field 0 nearly half of the elements lie in domain 1, so that coins are drawn
+/// again in many runs; what is taken lies outside.
+#[test]
+fn drawn_coins_are_allowed() {
+    let (mut again, mut rounds, mut sheets) = (0, 0, BTreeSet::new());
+    for v in 1..3000 {
+        let mut generator = from(v);
+        let order = generator.order();
+        let sheet = Sheet::read(&order.sheet).unwrap();
+        sheets.insert(order.sheet);
+        if order.sheet[..5] != [0, 16, 8, 2, 1] {
+            continue;
+        }
+        rounds += 1;
+        let domain = Subgroup::of(&sheet).domain(1);
+        let outs = &order.coins[1..1 + sheet.outs];
+        assert!(outs.iter().all(|&coin| !domain.contains(&coin.into())));
+        let mut least = from(v);
+        least.sheet();
+        for _ in 0..8 + order.coins.len() {
+            least.step();
+        }
+        again += usize::from(least != generator);
+    }
+    assert!(sheets.len() > 2000, "{}", sheets.len());
+    assert!(again > 50 && rounds > again + 50, "{again} of {rounds}");
+}
+
+#[test]
+fn every_line_is_accepted() {
+    let mut kinds = BTreeSet::new();
+    for seed in [1, 6, 1 << 31, u32::MAX] {
+        let lines = lines(seed);
+        assert_eq!(lines.len(), 1000);
+        assert!(lines.iter().all(|line| line.starts_with("accepted 0 0 ")));
+        assert_eq!(lines, lines_by(seed, Order::promised), "seed {seed}");
+        kinds.extend(lines);
+    }
+    assert!(kinds.len() > 150, "{}", kinds.len());
+}
+
+/// The runs follow on one generator.
+#[test]
+fn one_generator() {
+    let mut generator = from(77);
+    let mut orders = orders(77);
+    for _ in 0..1000 {
+        assert_eq!(orders.next(), Some(generator.order()));
+    }
+    assert_eq!(orders.next(), None);
+}
+
+#[test]
+fn the_program_prints_lines_and_orders() {
+    let printed = |arguments: &[&str]| {
+        let program = env!("CARGO_BIN_EXE_load");
+        let output = Command::new(program).args(arguments).output().unwrap();
+        String::from_utf8(output.stdout).unwrap()
+    };
+    assert_eq!(printed(&["0"]), "refused 12 0 0\n");
+    assert_eq!(printed(&["1"]), lines(1).join("\n") + "\n");
+    let orders = printed(&["6", "orders"]);
+    assert_eq!(orders.lines().count(), 1000);
+    let first = "0 16 8 2 1 1 1 1 0 0 0 0 | 0 9 0 0 0 3 9 3 | 11 9 8 12 0 3";
+    assert_eq!(orders.lines().next(), Some(first));
+}
