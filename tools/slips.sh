@@ -76,4 +76,13 @@ slip 'one read for each coin' Deciding.antt 'flatMap (λ j. flatMap places (root
 slip 'every check tested as that of block 0' Block.antt '∷ wrongChecks (suc b) xs' '∷ wrongChecks b xs'
 slip 'fill of ones' Block.antt 'replicate (127 * blockCount (length w) - length w) 0' 'replicate (127 * blockCount (length w) - length w) 1'
 
+# what verify tests, whole, and the places that a coin leads to
+slip 'a length that is a multiple of 4' Reading.antt 'length bytes % 512' 'length bytes % 4'
+slip 'the checks of the first three blocks alone' \
+    Reading.antt 'use lib.ListN.{length, drop}' 'use lib.ListN.{length, drop, take}' \
+    Reading.antt 'wrongChecks 0 (fileBlocks bytes)' 'wrongChecks 0 (take 3 (fileBlocks bytes))'
+slip 'a clash among the first four pairs alone' Deciding.antt 'cond (clash F g) clashed next' 'cond (clash F (take 4 g)) clashed next'
+slip 'the first three final coins alone' Deciding.antt '(foldAt F ω b f r j))) js' '(foldAt F ω b f r j))) (take 3 js)'
+slip 'every place point 0 of table 9' Deciding.antt 'record { table = l .number; number = j } ∷ []' 'record { table = 9; number = 0 } ∷ []'
+
 exit $missed

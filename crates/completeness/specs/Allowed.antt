@@ -1,17 +1,19 @@
 -- What the premises say, word by word: a sheet of 12 words, d0 coefficients, and coins each of which passes refusals 5 and 7.
-use Prim.Native.Nat.{ℕ, _+_}
+use Prim.Native.Nat.{ℕ, _+_, _<_}
 use mathlib.Core.Bool.{false}
 use mathlib.Core.List.{List, [], _∷_, _++_}
 use mathlib.Core.Path.{_≡_, sym, ap, _∙_, subst}
 use lib.ListN.{length, getD, drop, replicate, length-append, length-replicate}
-use lib.Seq.{drop-at}
+use lib.Seq.{drop-at, take-at}
+use borrow.Author.Tests.{leb-false}
 use Rattle.definition.specs.Deciding.{outInDomain}
-use Rattle.definition.specs.Layout.{Kind, coin, coinKinds, layout, message, restLayout}
+use Rattle.definition.specs.Layout.{Kind, coin, coinKinds, layout, limit, message, restLayout}
 use Rattle.definition.specs.Prove.{coefficientsTest, coinDomainTest, coinsTest, inputRangeTest, sheetLengthTest}
 use Rattle.definition.specs.Reading.{outOfRange}
 use Rattle.definition.specs.Sheet.{Sheet, firstLevel, laterLevels, sheetOf}
 use Rattle.definition.specs.Verdict.{accepted}
-use Rattle.completeness.specs.EachWord.{Each, each-append-at, each-false, each-pair}
+use Rattle.algebra.specs.ListFacts.{All, all-map}
+use Rattle.completeness.specs.EachWord.{Each, each-append-at, each-false, each-pair, each-replicate}
 use Rattle.completeness.specs.FairCoins.{Passes}
 use Rattle.completeness.specs.LayoutFacts.{Dealt, coins-append, coins-messages, dealt}
 use Rattle.completeness.specs.Numbered.{Allowed}
@@ -42,21 +44,35 @@ module _ {w f coins : List ℕ} (ok : Allowed w f coins) where
   unfolding coinsTest
   allowed-count = equal-passes 10 2 (length coins) (length (coinKinds (layout (sheetOf w)))) (ok .full)
 
-  -- each coin passes refusals 5 and 7
-  allowed-coins : Each (Passes (sheetOf w)) (coinKinds (layout (sheetOf w))) coins
-  unfolding inputRangeTest coinDomainTest
-  allowed-coins =
+  -- each coefficient and each coin is in range
+  allowed-inside : Each (λ k x. outOfRange (sheetOf w) k x ≡ false) (replicate (sheetOf w .degree) message) f
+      × Each (λ k x. outOfRange (sheetOf w) k x ≡ false) (coinKinds (layout (sheetOf w))) coins
+  unfolding inputRangeTest
+  allowed-inside =
       let h = sheetOf w in
       let ks = coinKinds (layout h) in
+      let R : Kind → ℕ → Type 0 = λ k x. outOfRange h k x ≡ false in
       let count : length (f ++ coins) ≡ length (replicate (h .degree) message ++ ks) =
       length-append f coins ∙ (λ i. allowed-degree i + allowed-count i)
       ∙ sym (length-append (replicate (h .degree) message) ks ∙ ap (λ (n : ℕ). n + length ks) (length-replicate (h .degree) message)) in
       let inside = each-false (outOfRange h) 0 (replicate (h .degree) message ++ ks) (f ++ coins) count (at-passes 5 _ (ok .range)) in
-      let apart = each-false (outInDomain h) 0 ks coins allowed-count (at-passes 7 _ (ok .outside)) in
-      each-pair (λ k x. outOfRange h k x ≡ false) (λ k x. outInDomain h k x ≡ false) ks coins
-      (subst (Each (λ k x. outOfRange h k x ≡ false) ks) (drop-at f coins (h .degree) allowed-degree)
-      (each-append-at (λ k x. outOfRange h k x ≡ false) (h .degree) (replicate (h .degree) message) ks (f ++ coins) (length-replicate (h .degree) message) inside .1))
-      apart
+      let both = each-append-at R (h .degree) (replicate (h .degree) message) ks (f ++ coins) (length-replicate (h .degree) message) inside in
+      (subst (Each R (replicate (h .degree) message)) (take-at f coins (h .degree) allowed-degree) (both .0), subst (Each R ks) (drop-at f coins (h .degree) allowed-degree) (both .1))
+
+  -- each coefficient is an element
+  pub allowed-elements : All (λ c. c < sheetOf w .prime) f
+  unfolding outOfRange limit
+  allowed-elements =
+      all-map f (each-replicate (λ k x. outOfRange (sheetOf w) k x ≡ false) (sheetOf w .degree) message f (allowed-inside .0) .1) (λ c e. leb-false (sheetOf w .prime) c e)
+
+  -- each coin passes refusals 5 and 7
+  allowed-coins : Each (Passes (sheetOf w)) (coinKinds (layout (sheetOf w))) coins
+  unfolding coinDomainTest
+  allowed-coins =
+      let h = sheetOf w in
+      let ks = coinKinds (layout h) in
+      each-pair (λ k x. outOfRange h k x ≡ false) (λ k x. outInDomain h k x ≡ false) ks coins (allowed-inside .1)
+      (each-false (outInDomain h) 0 ks coins allowed-count (at-passes 7 _ (ok .outside)))
 
   split-coins : Passes (sheetOf w) coin (getD coins 0 0) × Each (Passes (sheetOf w)) (coinKinds (restLayout (sheetOf w .outCoins) (firstLevel (sheetOf w)) (laterLevels (sheetOf w)))) (drop 1 coins)
   split-coins =

@@ -25,7 +25,7 @@ filled-length : (w : List ℕ) → length (filled w) ≡ blockCount (length w) *
 unfolding filled fillCount blockCount
 filled-length w = length-append w _ ∙ rw length-replicate (omega arith)
 
-chunks-length : {A : Type 0} (n size : ℕ) (xs : List A) → length (chunks n size xs) ≡ n
+pub chunks-length : {A : Type 0} (n size : ℕ) (xs : List A) → length (chunks n size xs) ≡ n
 unfolding chunks
 chunks-length zero size xs = refl
 chunks-length (suc n) size xs = ap suc (chunks-length n size (drop size xs))

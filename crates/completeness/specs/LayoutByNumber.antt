@@ -6,7 +6,7 @@ use mathlib.Core.List.{List, [], _∷_, _++_, map, append-assoc}
 use mathlib.Core.Path.{_≡_, refl, sym, ap, _∙_}
 use lib.ListN.{length, getD, take, drop, replicate, length-append, length-replicate}
 use lib.Seq.{take-at, drop-at, take-append-add, drop-append-add}
-use Rattle.definition.specs.Layout.{Kind, coin, coinKinds, index, laterCount, layout, message, out, restLayout, roundLayout}
+use Rattle.definition.specs.Layout.{Kind, coin, coinKinds, index, laterCount, layout, message, out, restLayout, roundLayout, wordsDue}
 use Rattle.definition.specs.Lists.{range}
 use Rattle.definition.specs.Sheet.{Level, finalCount, firstLevel, sheetOf, shiftCount}
 use Rattle.completeness.specs.LayoutFacts.{coins-append, coins-final, coins-messages, coins-outs, round-coins, round-length}
@@ -23,14 +23,14 @@ no-coins n = ap length (coins-messages n)
 
 module _ (w : List ℕ) where
   -- what follows table i in its round
-  afterKinds : ℕ → List Kind
+  unfoldable pub afterKinds : ℕ → List Kind
   afterKinds zero = coin ∷ []
   afterKinds (suc i) = replicate (outsOf w) (out (levelOf w (suc i))) ++ (replicate (outsOf w) message ++ (coin ∷ coin ∷ replicate (levelOf w i .repetitions) (index (shiftCount (levelOf w i)))))
 
-  roundKinds : ℕ → List Kind
+  unfoldable pub roundKinds : ℕ → List Kind
   roundKinds i = replicate (levelOf w i .size) message ++ afterKinds i
 
-  lastKinds : List Kind
+  unfoldable pub lastKinds : List Kind
   lastKinds = restLayout (outsOf w) (levelOf w (roundsOf w)) []
 
   rest-parts : (m i : ℕ) → i + m ≡ roundsOf w → restLayout (outsOf w) (levelOf w i) (map (levelOf w) (range (suc i) m)) ≡ joined roundKinds lastKinds (suc i) m
@@ -46,7 +46,7 @@ module _ (w : List ℕ) where
       ∙ ap (λ (t : List Kind). replicate (levelOf w 0 .size) message ++ (coin ∷ t)) (rest-parts (roundsOf w) 0 (omega arith))
       ∙ sym (append-assoc (replicate (levelOf w 0 .size) message) (coin ∷ []) _)
 
-  kinds-length : (i : ℕ) → length (roundKinds i) ≡ wordCount w i
+  pub kinds-length : (i : ℕ) → length (roundKinds i) ≡ wordCount w i
   unfolding roundKinds afterKinds wordCount roundLayout
   kinds-length zero = length-append (replicate (levelOf w 0 .size) message) (coin ∷ []) ∙ ap (λ (n : ℕ). n + 1) (length-replicate (levelOf w 0 .size) message)
   kinds-length (suc i) = round-length (outsOf w) (levelOf w i) (levelOf w (suc i))
@@ -74,6 +74,23 @@ module _ (w : List ℕ) where
     cut : (j r : ℕ) → j + r ≡ suc (roundsOf w) → layout (sheetOf w) ≡ firsts roundKinds j ++ joined roundKinds lastKinds j r
     cut j r e = layout-parts l ∙ split-joined roundKinds lastKinds j r (suc (roundsOf w)) e
 
+    -- the number of words due: those before the final coefficients, the coefficients and the t_M final indices
+    pub words-due : wordsDue (sheetOf w) ≡ roundStart w (suc (roundsOf w)) + (finalCount (levelOf w (roundsOf w)) + levelOf w (roundsOf w) .repetitions)
+    unfolding wordsDue joined lastKinds restLayout
+    words-due =
+        let M = roundsOf w in
+        let p = replicate (finalCount (levelOf w M)) message in
+        let q = replicate (levelOf w M .repetitions) (index (shiftCount (levelOf w M))) in
+        omega (
+          arith,
+          ap length (cut (suc M) 0 (omega arith)),
+          length-append (firsts roundKinds (suc M)) (p ++ q),
+          firsts-words (suc M),
+          length-append p q,
+          length-replicate (finalCount (levelOf w M)) message,
+          length-replicate (levelOf w M .repetitions) (index (shiftCount (levelOf w M))),
+        )
+
     -- the due number of coins: those before the final coefficients, and the t_M final indices
     pub coins-due : length (coinKinds (layout (sheetOf w))) ≡ coinsBefore w (suc (roundsOf w)) + levelOf w (roundsOf w) .repetitions
     unfolding joined lastKinds
@@ -83,7 +100,7 @@ module _ (w : List ℕ) where
         ∙ (λ x. firsts-coins (suc M) x + (ap length (coins-final (outsOf w) (levelOf w M)) ∙ length-replicate (levelOf w M .repetitions) (index (shiftCount (levelOf w M)))) x)
 
     -- x words into round j
-    after-start : (j r x : ℕ) → j + r ≡ suc (roundsOf w) → drop (roundStart w j + x - 12) (layout (sheetOf w)) ≡ drop x (joined roundKinds lastKinds j r)
+    pub after-start : (j r x : ℕ) → j + r ≡ suc (roundsOf w) → drop (roundStart w j + x - 12) (layout (sheetOf w)) ≡ drop x (joined roundKinds lastKinds j r)
     after-start j r x e =
         let n : roundStart w j + x - 12 ≡ length (firsts roundKinds j) + x = omega (arith, firsts-words j) in
         (λ y. drop (n y) (cut j r e y)) ∙ drop-append-add (firsts roundKinds j) (joined roundKinds lastKinds j r) x

@@ -1,8 +1,11 @@
--- COMPLETENESS over the written definition. A reader needs two files: Numbered, the vocabulary, and Statements, the page of theorems. The others are their proofs.
+-- THEOREMS over the written definition, on two pages: Statements, on completeness, over the vocabulary Numbered; and Verdicts, on verify, over Numbered and Faults.
+-- A reader needs these four files. The others are their proofs.
 
--- the vocabulary, and the page
+-- the vocabularies, and the pages
 pub mod Numbered
 pub mod Statements
+pub mod Faults
+pub mod Verdicts
 -- lists and tests
 pub mod ListLaws
 pub mod ByPlace
@@ -48,3 +51,19 @@ pub mod RunByNumber
 pub mod StreamByNumber
 pub mod FunctionsByNumber
 pub mod NonAnticipation
+-- verify exactly: the first fault; a file's words, parts and pairs by number; the tests one by one
+pub mod FirstFaults
+pub mod FileByNumber
+pub mod PartsByNumber
+pub mod PairsByNumber
+pub mod DecidedByNumber
+pub mod TestsByNumber
+pub mod VerifyExactly
+pub mod AcceptedExactly
+-- the answers that exist; encode; and what a verdict depends on
+pub mod Answers
+pub mod EncodeExactly
+pub mod Dependence
+pub mod SameVerdict
+pub mod Places
+pub mod ReadsByNumber

@@ -21,10 +21,10 @@ getD-map-range f d from zero j h = absurd (not-suc-le-zero h)
 getD-map-range f d from (suc n) zero h = ap f (sym (add-zero from))
 getD-map-range f d from (suc n) (suc j) h = getD-map-range f d (suc from) n j (le-of-suc-le-suc h) ∙ ap f (suc-add from j ∙ sym (add-suc from j))
 
-pub getD-map : (f : ℕ → ℕ) (xs : List ℕ) (j : ℕ) → j < length xs → getD (map f xs) j 0 ≡ f (getD xs j 0)
-getD-map f [] j h = absurd (omega arith)
-getD-map f (x ∷ xs) zero h = refl
-getD-map f (x ∷ xs) (suc j) h = getD-map f xs j (omega arith)
+pub getD-map : {A B : Type 0} (f : A → B) (xs : List A) (d : A) (e : B) (j : ℕ) → j < length xs → getD (map f xs) j e ≡ f (getD xs j d)
+getD-map f [] d e j h = absurd (omega arith)
+getD-map f (x ∷ xs) d e zero h = refl
+getD-map f (x ∷ xs) d e (suc j) h = getD-map f xs d e j (omega arith)
 
 pub drop-take : {A : Type 0} (n m : ℕ) (l : List A) → drop n (take (n + m) l) ≡ take m (drop n l)
 drop-take zero m l = ap (λ (k : ℕ). take k l) (zero-add m)

@@ -18,12 +18,12 @@ use Rattle.completeness.specs.Completeness.{completeness, file-size}
 use Rattle.completeness.specs.Numbered.{Allowed, Room, readsDue}
 use Rattle.completeness.specs.Tests.{then-passes}
 
-finish-done : (o : Outcome) (count n : ℕ) (written output : List ℕ) → finish o count written output .answer ≡ done n → (o ≡ accepted) × (count ≡ n)
+pub finish-done : (o : Outcome) (count n : ℕ) (written output : List ℕ) → finish o count written output .answer ≡ done n → (o ≡ accepted) × (count ≡ n)
 unfolding finish
 finish-done accepted count n written output e = (refl, cc)
 finish-done (refused a b) count n written output e = let z : _≡_ {A = ℕ} 0 1 = cc in absurd (omega arith)
 
-finish-failed : (o : Outcome) (count n p : ℕ) (written output : List ℕ) → finish o count written output .answer ≡ refusal n p → finish o count written output .output ≡ output
+pub finish-failed : (o : Outcome) (count n p : ℕ) (written output : List ℕ) → finish o count written output .answer ≡ refusal n p → finish o count written output .output ≡ output
 unfolding finish
 finish-failed accepted count n p written output e = let z : _≡_ {A = ℕ} 0 1 = cc in absurd (omega arith)
 finish-failed (refused a b) count n p written output e = refl

@@ -31,7 +31,7 @@ unfolding flatMap
 flat-length f n [] h = sym (zero-mul n)
 flat-length f n (x ∷ xs) h = length-append (f x) (flatMap f xs) ∙ omega (arith, h x, flat-length f n xs h, suc-mul (length xs) n)
 
-places-length : (b : Level) (js : List ℕ) → length (placesOf b (ownPlace b) js) ≡ length js * b .fold
+pub places-length : (b : Level) (js : List ℕ) → length (placesOf b (ownPlace b) js) ≡ length js * b .fold
 unfolding placesOf ownPlace
 places-length b js =
     flat-length (λ j. flatMap (ownPlace b) (rootNumbers b j)) (b .fold) js

@@ -21,7 +21,7 @@ use Rattle.algebra.specs.Laws.{FieldLaws}
 use Rattle.algebra.specs.Lengths
 use Rattle.algebra.specs.ListFacts.{all-map}
 use Rattle.algebra.specs.PrimeField.{signs-differ}
-use Rattle.completeness.specs.Allowed.{allowed-degree, allowed-long}
+use Rattle.completeness.specs.Allowed.{allowed-degree, allowed-elements, allowed-long}
 use Rattle.completeness.specs.ByPlace.{all-places, at-place, same-place}
 use Rattle.completeness.specs.CoinsByNumber.{coins-read}
 use Rattle.completeness.specs.Completeness.{fair-coins, sheetReady}
@@ -29,7 +29,7 @@ use Rattle.completeness.specs.DecidingAccepts
 use Rattle.completeness.specs.DecidingAccepts.{Fair, FairRound, Foldable}
 use Rattle.completeness.specs.DistinctPoints.{all-distinct, kept-places}
 use Rattle.completeness.specs.Domains.{domain-apart, foldable}
-use Rattle.completeness.specs.FairCoins.{reduced}
+use Rattle.completeness.specs.FairCoins.{element-below, reduced}
 use Rattle.completeness.specs.LevelsByNumber.{level-first, undivided}
 use Rattle.completeness.specs.ListLaws.{range-length}
 use Rattle.completeness.specs.Numbered.{Allowed, answerPoly, coinsOf, combinationCoin, correctedOf, finalIndices, foldCoin, levelOf, pairAt, pairsOf, quotientPoly, roundPoly, roundsOf, samplesAt, sheetField, sheetRoot, vanishingPoly}
@@ -104,6 +104,22 @@ module _ {w f coins : List ℕ} (ok : Allowed w f coins) where
   round-length zero l = first-length w f ok
   round-length (suc i) l = folded-length i (omega arith) ∙ sym (fair-round i (omega arith) .degree)
 
+  -- the coefficients of every g_i and f_i are elements
+  element-at : (g : List ℕ) → Elements F L g → (j : ℕ) → j < length g → getD g j 0 < sheetOf w .prime
+  element-at g e =
+      at-place (λ c. c < sheetOf w .prime) g 0 (all-map g e (λ c r. element-below (sheetOf w .prime) L (omega (arith, sheetReady ok .large)) c r))
+
+  pub round-elements : (i j : ℕ) → j < length (roundPoly w f coins i) → getD (roundPoly w f coins i) j 0 < sheetOf w .prime
+  unfolding roundPoly
+  round-elements zero = at-place (λ c. c < sheetOf w .prime) f 0 (allowed-elements ok)
+  round-elements (suc i) =
+      element-at (roundPoly w f coins (suc i)) (Coefficients.elements-fold F L (levelOf w i .fold) (foldCoin w coins i) (correctedOf w f coins i))
+
+  pub corrected-elements : (i j : ℕ) → j < length (correctedOf w f coins i) → getD (correctedOf w f coins i) j 0 < sheetOf w .prime
+  unfolding correctedOf nextPoly correctedPoly
+  corrected-elements zero = at-place (λ c. c < sheetOf w .prime) f 0 (allowed-elements ok)
+  corrected-elements (suc i) = element-at (correctedOf w f coins (suc i)) (Coefficients.elements-mul F L _ _)
+
   -- Round i + 1, of the round's facts in any field.
   module _ (i : ℕ) (l : i < roundsOf w) where
     abbrev g : List ℕ
@@ -130,9 +146,9 @@ module _ {w f coins : List ℕ} (ok : Allowed w f coins) where
     unfolding quotientPoly vanishingPoly answerPoly samplesAt pairsOf
     values-divide = RoundPolynomials.values-divide F L ω (levelOf w i) g (coinsOf w coins (suc i)) (fair-round i l)
 
-    round-elements : Elements F L g
+    g-elements : Elements F L g
     unfolding roundPoly
-    round-elements = Coefficients.elements-fold F L (levelOf w i .fold) (foldCoin w coins i) (correctedOf w f coins i)
+    g-elements = Coefficients.elements-fold F L (levelOf w i .fold) (foldCoin w coins i) (correctedOf w f coins i)
 
     -- domain 0 has as many points as g has coefficients
     enough : length g ≤ length (domain F ω (levelOf w 0))
@@ -149,7 +165,7 @@ module _ {w f coins : List ℕ} (ok : Allowed w f coins) where
     coefficients-divide =
         RoundPolynomials.coefficients-divide F L ω (levelOf w i) g (coinsOf w coins (suc i)) (fair-round i l) (round-length (suc i) (omega arith)) (domain F ω (levelOf w 0))
         (domain-apart F L ω (signs-differ (sheetOf w .prime) (sheetReady ok .large)) (sheetReady ok .e) (sheetReady ok .root) (levelOf w 0) (ready-sized w long (ok .sheet) 0 (omega arith)))
-        enough round-elements
+        enough g-elements
 
     -- A passes through pair j of G's list, and is the only polynomial with e coefficients, all elements, that passes through all pairs
     pub passes-through : (j : ℕ) → j < length (pairsOf w f coins (suc i)) → evaluate F (answerPoly w f coins (suc i)) (pairAt w f coins (suc i) j .point) ≡ pairAt w f coins (suc i) j .value

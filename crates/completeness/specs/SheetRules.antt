@@ -6,9 +6,10 @@ use native.Mathlib.Nat.{pow-suc, pow-zero}
 use native.Mathlib.Omega.{arith}
 use mathlib.Core.Bool.{Bool, true, false, not, cond, _&&_, _||_, true≢false}
 use mathlib.Core.List.{List, [], _∷_, map}
+use mathlib.Core.Logic.{_↔_}
 use mathlib.Core.Path.{_≡_, refl, sym, ap, _∙_, subst}
 use lib.Dec.{eqb, ltb, leb}
-use lib.ListN.{length, getD, drop, drop-of-length-le}
+use lib.ListN.{length, getD, drop, drop-of-length-le, length-map}
 use lib.Pow.{pow-mono, pow-pos}
 use lib.Seq.{drop-cons}
 use borrow.Author.Tests.{ltb-true, leb-true, eqb-true, not-false, lt-ltb}
@@ -19,9 +20,11 @@ use Rattle.definition.specs.Sheet.{between, degreeRule, fieldRule, foldRule, ou
 use Rattle.definition.specs.Verdict.{accepted}
 use Rattle.algebra.specs.ListFacts.{All, all-in-map, all-map}
 use Rattle.algebra.specs.ModularArithmetic.{pow-pow}
+use Rattle.completeness.specs.ByPlace.{all-places, at-place}
+use Rattle.completeness.specs.Faults.{KeepsRule}
 use Rattle.completeness.specs.FileTrip.{Word}
-use Rattle.completeness.specs.ListLaws.{all-at}
-use Rattle.completeness.specs.Tests.{all-false, and-true}
+use Rattle.completeness.specs.ListLaws.{all-at, getD-map}
+use Rattle.completeness.specs.Tests.{all-false, and-true, at-none, none-true}
 
 -- one of the powers of two
 member-range : (f : ℕ → ℕ) (from n x : ℕ) → member x (map f (range from n)) ≡ true → (a : ℕ) × (from ≤ a) × (a < from + n) × (x ≡ f a)
@@ -47,6 +50,26 @@ between-true l u x e = let h = and-true (leb l x) (leb x u) e in (leb-true l x (
 pub rules-hold : (w : List ℕ) → sheetTest w ≡ accepted → All (λ (b : Bool). b ≡ true) (sheetRules w)
 unfolding sheetTest
 rules-hold w e = all-map (sheetRules w) (all-in-map (λ (b : Bool). b ≡ false) not (sheetRules w) (all-false 3 0 (map not (sheetRules w)) e)) not-false
+
+-- the rules by number: none is broken exactly when each of the 12 holds
+module _ (w : List ℕ) where
+  rules-count : length (sheetRules w) ≡ 12
+  unfolding sheetRules range
+  rules-count = refl
+
+  pub rules-length : length (map not (sheetRules w)) ≡ 12
+  rules-length = length-map (sheetRules w) not ∙ rules-count
+
+  pub rule-at : (i : ℕ) → i < 12 → getD (map not (sheetRules w)) i false ≡ not (getD (sheetRules w) i false)
+  rule-at i l = getD-map not (sheetRules w) false false i (omega (arith, rules-count))
+
+  pub sheet-exactly : (sheetTest w ≡ accepted) ↔ ((i : ℕ) → i < 12 → KeepsRule w i)
+  unfolding sheetTest
+  sheet-exactly = (
+    λ e i l. at-place (λ (b : Bool). b ≡ true) (sheetRules w) false (rules-hold w e) i (omega (arith, rules-count)),
+    λ h. at-none 3 _ (none-true 0 (map not (sheetRules w)) (all-places (λ (b : Bool). b ≡ false) (map not (sheetRules w)) false
+        (λ i l. let u : i < 12 = omega (arith, rules-length) in rule-at i u ∙ ap not (h i u)))),
+  )
 
 -- order of exponents
 pow-below : (i j : ℕ) → 2 ^ i < 2 ^ j → i < j

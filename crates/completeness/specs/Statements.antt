@@ -113,6 +113,13 @@ module _ (w f coins : List ℕ) (ok : Allowed w f coins) where
   pub corrected-degree : (i : ℕ) → i ≤ roundsOf w → length (correctedOf w f coins i) ≡ getD w 2 0 / getD w 3 0 ^ i
   corrected-degree = RunByNumber.corrected-length ok
 
+  -- all coefficients of both are elements,
+  pub round-elements : (i j : ℕ) → j < length (roundPoly w f coins i) → getD (roundPoly w f coins i) j 0 < sheetOf w .prime
+  round-elements = RunByNumber.round-elements ok
+
+  pub corrected-elements : (i j : ℕ) → j < length (correctedOf w f coins i) → getD (correctedOf w f coins i) j 0 < sheetOf w .prime
+  corrected-elements = RunByNumber.corrected-elements ok
+
   -- and with e = |G_i|, which is below d_i, the quotient has d_i - e.
   pub quotient-degree : (i : ℕ) → i < roundsOf w →
       length (quotientPoly w f coins (suc i)) ≡ getD w 2 0 / getD w 3 0 ^ suc i - length (samplesAt w f coins (suc i))

@@ -183,7 +183,7 @@ module _ {w f coins : List ℕ} (ok : Allowed w f coins) where
     unfolding messageOf lengthOf
     reply-entry zero j a d l = absurd (omega arith)
     reply-entry (suc i) j a d l =
-        entry (replies (suc i)) j (a, d) l ∙ getD-map (evaluate (sheetField w) (roundPoly w f coins (suc i))) (outCoinsOf w coins (suc i)) j (omega (arith, outs-length i d))
+        entry (replies (suc i)) j (a, d) l ∙ getD-map (evaluate (sheetField w) (roundPoly w f coins (suc i))) (outCoinsOf w coins (suc i)) 0 0 j (omega (arith, outs-length i d))
 
     pub final-entry : (j : ℕ) → j < lengthOf w final → getD (honestStream w f coins ++ z) (startOf w final + j) 0 ≡ getD (roundPoly w f coins (suc M)) j 0
     unfolding messageOf

@@ -1,10 +1,20 @@
 -- Verify, accepted and refusals 7 to 9 (01, Verify, prove, encode): places, reads and the order of the tests, on whole files, by computation.
 use Prim.Native.Nat.{ℕ}
 use mathlib.Core.Path.{_≡_, refl}
+use mathlib.Core.List.{[], _∷_}
 use lib.ListN.{set}
 use Rattle.definition.specs.Block.{fileOf}
+use Rattle.definition.specs.Transcript.{Round}
+use Rattle.definition.specs.Deciding.{Place, placesOf, tableFunction, nextFunction}
 use Rattle.definition.specs.Verify.{verify}
-use Rattle.definition.specs.WorkedTranscript.{stream, doubled, twoOuts, smallest, folded4, twoRounds, accept, refuse, definitions}
+use Rattle.definition.specs.WorkedTranscript.{F₁₇, level0, level1, stream, doubled, twoOuts, smallest, folded4, fourFinals, twoRounds, accept, refuse, definitions}
+
+abbrev pub place : ℕ → ℕ → Place
+place table number = record { table = table; number = number }
+
+-- a round of level 1 with nothing in it
+abbrev pub round1 : Round ℕ
+round1 = record { coins = record { level = level1; outs = []; combination = 0; fold = 0; shifts = [] }; table = []; replies = [] }
 
 -- `fileOf` makes the checks right.
 pub record DecidingCases : Type 0 where
@@ -25,6 +35,9 @@ pub record DecidingCases : Type 0 where
   pub k·4 : verify (fileOf folded4) ≡ accept 8
   pub k·4·first·wrong : verify (fileOf (set folded4 29 9)) ≡ refuse 9 0 4
   pub k·4·second·wrong : verify (fileOf (set (set folded4 29 9) 30 4)) ≡ refuse 9 1 8
+  -- four final coins; a final polynomial that differs at the fourth alone
+  pub four·finals : verify (fileOf fourFinals) ≡ accept 8
+  pub fourth·final·wrong : verify (fileOf (set (set (set (set fourFinals 29 7) 30 11) 31 15) 32 14)) ≡ refuse 9 3 8
   -- 7: the last point of domain 1; the second of two out coins; a point of domain 0 alone and 0 are outside
   pub last·point : verify (fileOf (set stream 37 6)) ≡ refuse 7 37 0
   pub second·out·coin : verify (fileOf (set twoOuts 38 3)) ≡ refuse 7 38 0
@@ -50,6 +63,9 @@ pub record DecidingCases : Type 0 where
   pub table·0·not·read : verify (fileOf (set doubled 13 6)) ≡ accept 8
   pub table·1·read : verify (fileOf (set doubled 34 6)) ≡ refuse 9 0 6
   pub table·1·not·read : verify (fileOf (set doubled 29 6)) ≡ accept 8
+  -- the places of a coin are its roots in the level's own table: of coins 0 and 3 in table 0, of coin 1 in table 1
+  pub places·of·table·0 : placesOf level0 (tableFunction F₁₇ 3 level0 [] .places) (0 ∷ 3 ∷ []) ≡ place 0 0 ∷ place 0 8 ∷ place 0 3 ∷ place 0 11 ∷ []
+  pub places·of·table·1 : placesOf level1 (nextFunction F₁₇ 3 [] round1 .places) (1 ∷ []) ≡ place 1 1 ∷ place 1 5 ∷ []
   -- two rounds, out coins 61 62 and 77 78, replies 63 64 and 79 80: 8 in round 1, in round 2, in both; the place is the round, and the
   -- reads are those of the rounds up to it
   pub clash·in·round·1 : verify (fileOf (set twoRounds 63 1)) ≡ refuse 8 1 4
@@ -77,6 +93,8 @@ decidingCases = record {
   k·4 = refl;
   k·4·first·wrong = refl;
   k·4·second·wrong = refl;
+  four·finals = refl;
+  fourth·final·wrong = refl;
   last·point = refl;
   second·out·coin = refl;
   first·out·coin = refl;
@@ -95,6 +113,8 @@ decidingCases = record {
   table·0·not·read = refl;
   table·1·read = refl;
   table·1·not·read = refl;
+  places·of·table·0 = refl;
+  places·of·table·1 = refl;
   clash·in·round·1 = refl;
   clash·in·round·2 = refl;
   clash·in·both = refl;

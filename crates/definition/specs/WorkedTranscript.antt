@@ -106,6 +106,10 @@ smallest = 0 ∷ 4 ∷ 2 ∷ 2 ∷ 0 ∷ 1 ∷ 1 ∷ 0 ∷ 0 ∷ 0 ∷ 0 ∷ 0 �
 abbrev pub folded4 : List ℕ
 folded4 = 0 ∷ 16 ∷ 8 ∷ 4 ∷ 0 ∷ 1 ∷ 2 ∷ 0 ∷ 0 ∷ 0 ∷ 0 ∷ 0 ∷ (take 16 tables ++ (5 ∷ 8 ∷ 3 ∷ 1 ∷ 3 ∷ []))
 
+-- M = 0 and four final coins: table 0, fold coin 28, final coefficients 29 to 32, final indices 33 to 36.
+abbrev pub fourFinals : List ℕ
+fourFinals = 0 ∷ 16 ∷ 8 ∷ 2 ∷ 0 ∷ 1 ∷ 4 ∷ 0 ∷ 0 ∷ 0 ∷ 0 ∷ 0 ∷ (take 16 tables ++ (5 ∷ 11 ∷ 6 ∷ 1 ∷ 13 ∷ 0 ∷ 1 ∷ 2 ∷ 3 ∷ []))
+
 -- M = 2 in field 1, with t_0 = 2 and s = 2: 87 words, after the sheet all 0 but the second shift index of round 1.
 abbrev pub twoRounds : List ℕ
 twoRounds = 1 ∷ 32 ∷ 16 ∷ 2 ∷ 2 ∷ 2 ∷ 2 ∷ 1 ∷ 1 ∷ 0 ∷ 0 ∷ 0 ∷ (replicate 56 0 ++ (1 ∷ replicate 18 0))

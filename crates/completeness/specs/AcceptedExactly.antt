@@ -1,0 +1,71 @@
+-- A file without a fault keeps every condition, and one that keeps every condition has no fault; so verify's outcome is exactly what the faults say.
+use Prim.Native.Nat.{ℕ, zero, suc, _≤_, _<_, _%_}
+use native.Mathlib.Decide.{decLt}
+use native.Mathlib.Omega.{arith}
+use mathlib.Core.List.{List}
+use mathlib.Core.Logic.{_↔_}
+use mathlib.Core.Path.{_≡_, refl, sym, ap, _∙_}
+use lib.Dec.{eqb}
+use lib.ListN.{length, getD}
+use borrow.Author.Tests.{eq-eqb, eqb-true}
+use Rattle.definition.specs.Block.{streamOf}
+use Rattle.definition.specs.Verdict.{accepted, refused}
+use Rattle.definition.specs.Verify.{verify}
+use Rattle.completeness.specs.Faults.{Fault, FirstFault, Kept}
+use Rattle.completeness.specs.FirstFaults.{accepted-then, first-then, none-then, refused-then}
+use Rattle.completeness.specs.VerifyExactly.{exact, is-true, numbered}
+
+stable : (a b : ℕ) → ((a ≡ b → ⊥) → ⊥) → a ≡ b
+stable a b h = eqb-true a b (is-true (eqb a b) (λ k. h (λ e. k (eq-eqb a b e))))
+
+stable-less : (a b : ℕ) → (b ≤ a → ⊥) → a < b
+stable-less a b h = go (decLt a b)
+  where
+    go : Dec (a < b) → a < b
+    go (yes l) = l
+    go (no l) = absurd (h (omega arith))
+
+module _ (file : List ℕ) where
+  no-fault-kept : ((n q : ℕ) → Fault file n q → ⊥) → Kept file
+  no-fault-kept clear = record {
+    length·positive = stable-less 0 (length file) (λ l. clear 1 0 (refl, λ g. omega (arith, g .0)));
+    length·whole = stable (length file % 512) 0 (λ k. clear 1 0 (refl, λ g. k (g .1)));
+    checks = λ b l. stable _ _ (λ k. clear 2 b (l, k));
+    rules = λ i l. is-true _ (λ k. clear 3 i (l, k));
+    blocks = stable _ _ (λ k. clear 4 _ (refl, k));
+    range = λ x d j l. stable-less _ _ (λ k. clear 5 _ (x, d, (j, l, refl, k)));
+    fill = λ n l u. stable _ _ (λ k. clear 6 n (l, u, k));
+    outside = λ i l j u m v e. clear 7 _ (i, l, (j, u, refl, (m, v, e)));
+    agree = λ i l a b la lb e. stable _ _ (λ k. clear 8 (suc i) (i, l, refl, (a, b, la, lb, λ g. k (g e))));
+    match = λ j l. stable _ _ (λ k. clear 9 j (l, k));
+  }
+
+  kept-no-fault : Kept file → (n q : ℕ) → Fault file n q → ⊥
+  kept-no-fault k zero q p = p
+  kept-no-fault k (suc zero) q p = p .1 (k .length·positive, k .length·whole)
+  kept-no-fault k (suc (suc zero)) q p = p .1 (k .checks q (p .0))
+  kept-no-fault k (suc (suc (suc zero))) q p = p .1 (k .rules q (p .0))
+  kept-no-fault k (suc (suc (suc (suc zero)))) q p = p .1 (k .blocks ∙ sym (p .0))
+  kept-no-fault k (suc (suc (suc (suc (suc zero))))) q p =
+      let r = p .2 in
+      omega (arith, r .3, k .range (p .0) (p .1) (r .0) (r .1), ap (λ (n : ℕ). getD (streamOf file) n 0) (r .2))
+  kept-no-fault k (suc (suc (suc (suc (suc (suc zero)))))) q p = p .2 (k .fill q (p .0) (p .1))
+  kept-no-fault k (suc (suc (suc (suc (suc (suc (suc zero))))))) q p =
+      let r = p .2 in k .outside (p .0) (p .1) (r .0) (r .1) (r .3 .0) (r .3 .1) (ap (λ (n : ℕ). getD (streamOf file) n 0) (sym (r .2)) ∙ r .3 .2)
+  kept-no-fault k (suc (suc (suc (suc (suc (suc (suc (suc zero)))))))) q p =
+      let r = p .3 in r .4 (k .agree (p .0) (p .1) (r .0) (r .1) (r .2) (r .3))
+  kept-no-fault k (suc (suc (suc (suc (suc (suc (suc (suc (suc zero))))))))) q p = p .1 (k .match q (p .0))
+  kept-no-fault k (suc (suc (suc (suc (suc (suc (suc (suc (suc (suc n)))))))))) q p = p
+
+  pub accepted-exactly : (verify file .outcome ≡ accepted) ↔ Kept file
+  accepted-exactly = (
+    λ e. no-fault-kept (accepted-then (Fault file) (verify file .outcome) (exact file) (numbered file) e),
+    λ k. none-then (Fault file) (verify file .outcome) (exact file) (numbered file) (kept-no-fault k),
+  )
+
+  pub refused-exactly : (n q : ℕ) → (verify file .outcome ≡ refused n q) ↔ FirstFault file n q
+  refused-exactly n q = (
+    λ e. let r = refused-then (Fault file) (verify file .outcome) (exact file) (numbered file) n q e in
+        record { there = r .0; place·first = r .1; number·first = r .2 },
+    λ f. first-then (Fault file) (verify file .outcome) (exact file) (numbered file) n q (f .there) (f .place·first) (f .number·first),
+  )

@@ -1,0 +1,123 @@
+-- The answers of verify, prove and encode that exist, with the range of each place.
+use Prim.Native.Nat.{ℕ, zero, suc, _+_, _≤_, _<_}
+use native.Mathlib.Nat.{zero-add}
+use native.Mathlib.Omega.{arith}
+use mathlib.Core.Bool.{Bool, true, false, not}
+use mathlib.Core.List.{List, [], _∷_, _++_, map, zipWith}
+use mathlib.Core.Option.{Option, none, some}
+use mathlib.Core.Path.{_≡_, sym, subst}
+use lib.ListN.{length, replicate, length-append, length-map}
+use Rattle.definition.specs.Block.{streamOf}
+use Rattle.definition.specs.Layout.{coinKinds, layout, message}
+use Rattle.definition.specs.Lists.{firstTrue, range}
+use Rattle.definition.specs.Prove.{coefficientsTest, coinDomainTest, coinsTest, encode, encodeTests, finish, inputRangeTest, outputTest, prove, proveTests, refusal, sheetLengthTest}
+use Rattle.definition.specs.Deciding.{outInDomain}
+use Rattle.definition.specs.Reading.{outOfRange, sheetTest}
+use Rattle.definition.specs.Sheet.{sheetOf, sheetRules}
+use Rattle.definition.specs.Verdict.{Outcome, _then_, accepted, refuseAt, refuseIf, refused}
+use Rattle.definition.specs.Verify.{verify}
+use Rattle.completeness.specs.AcceptedExactly.{refused-exactly}
+use Rattle.completeness.specs.Faults
+use Rattle.completeness.specs.Faults.{EncodeRefusal, Fault, ProveRefusal, VerifyRefusal, outs, partLength}
+use Rattle.completeness.specs.Numbered.{outsOf}
+use Rattle.completeness.specs.FirstFaults.{FirstTrue, first-true}
+use Rattle.completeness.specs.PartsByNumber.{part-below}
+
+-- what holds of every refusal of an outcome
+module _ (Q : ℕ → ℕ → Type 0) where
+  abbrev pub Refuses : Outcome → Type 0
+  Refuses accepted = Unit {0}
+  Refuses (refused n q) = Q n q
+
+  pub then-refuses : (a b : Outcome) → Refuses a → Refuses b → Refuses (a then b)
+  unfolding _then_
+  then-refuses accepted b h k = k
+  then-refuses (refused n q) b h k = h
+
+  pub if-refuses : (n q : ℕ) (b : Bool) → Q n q → Refuses (refuseIf n q b)
+  unfolding refuseIf
+  if-refuses n q true h = h
+  if-refuses n q false h = tt
+
+  pub at-refuses : (n start : ℕ) (bs : List Bool) → ((j : ℕ) → j < length bs → Q n (start + j)) → Refuses (refuseAt n (firstTrue start bs))
+  unfolding refuseAt
+  at-refuses n start bs h = go (firstTrue start bs) (first-true start bs)
+    where
+      go : (o : Option ℕ) → FirstTrue start bs o → Refuses (refuseAt n o)
+      go none k = tt
+      go (some q) k = subst (Q n) (sym (k .1)) (h (k .0) (k .2))
+
+  pub refuses-sheet : (w : List ℕ) → ((i : ℕ) → i < 12 → Q 3 i) → Refuses (sheetTest w)
+  unfolding sheetTest sheetRules range
+  refuses-sheet w h =
+      at-refuses 3 0 (map not (sheetRules w)) (λ j l. subst (Q 3) (sym (zero-add j)) (h j (omega (arith, length-map (sheetRules w) not))))
+
+-- a test of the words of one list is no longer than it
+zip-most : {A : Type 0} (t : A → ℕ → Bool) (ks : List A) (v : List ℕ) → length (zipWith t ks v) ≤ length v
+unfolding zipWith
+zip-most t [] v = omega arith
+zip-most t (k ∷ ks) [] = omega arith
+zip-most t (k ∷ ks) (x ∷ v) = omega (arith, zip-most t ks v)
+
+-- the refusal of an answer is that of its tests
+finish-refusal : (Q : ℕ → ℕ → Type 0) (o : Outcome) (count n q : ℕ) (written output : List ℕ) → Refuses Q o → finish o count written output .answer ≡ refusal n q → Q n q
+unfolding finish
+finish-refusal Q accepted count n q written output h e = let z : _≡_ {A = ℕ} 0 1 = cc in absurd (omega arith)
+finish-refusal Q (refused m r) count n q written output h e =
+    let a : m ≡ n = cc in
+    let b : r ≡ q = cc in
+    subst (λ (x : ℕ). Q x q) a (subst (Q m) b h)
+
+module _ (w f coins output : List ℕ) where
+  pub prove-refusals : (n q : ℕ) → prove w f coins output .answer ≡ refusal n q → ProveRefusal w f coins n q
+  unfolding prove proveTests sheetLengthTest coefficientsTest coinsTest inputRangeTest coinDomainTest outputTest
+  prove-refusals n q e =
+      let Q = ProveRefusal w f coins in
+      finish-refusal Q _ _ n q _ output
+      (then-refuses Q (sheetLengthTest w) _ (if-refuses Q 10 0 _ Faults.ProveRefusal.sheet·length)
+      (then-refuses Q (sheetTest w) _ (refuses-sheet Q w Faults.ProveRefusal.rule·broken)
+      (then-refuses Q (coefficientsTest (sheetOf w) f) _ (if-refuses Q 10 1 _ Faults.ProveRefusal.coefficient·count)
+      (then-refuses Q (coinsTest (sheetOf w) coins) _ (if-refuses Q 10 2 _ Faults.ProveRefusal.coin·count)
+      (then-refuses Q (inputRangeTest (sheetOf w) (coinKinds (layout (sheetOf w))) (f ++ coins)) _
+      (at-refuses Q 5 0 _ (λ j l. Faults.ProveRefusal.word·over (0 + j) (omega (arith, zip-most (outOfRange (sheetOf w)) (replicate (sheetOf w .degree) message ++ coinKinds (layout (sheetOf w))) (f ++ coins), length-append f coins))))
+      (then-refuses Q (coinDomainTest (sheetOf w) coins) _
+      (at-refuses Q 7 0 _ (λ j l. Faults.ProveRefusal.coin·inside (0 + j) (omega (arith, zip-most (outInDomain (sheetOf w)) (coinKinds (layout (sheetOf w))) coins))))
+      (if-refuses Q 11 _ _ Faults.ProveRefusal.output·short))))))) e
+
+module _ (w f output : List ℕ) where
+  pub encode-refusals : (n q : ℕ) → encode w f output .answer ≡ refusal n q → EncodeRefusal w f n q
+  unfolding encode encodeTests sheetLengthTest coefficientsTest inputRangeTest outputTest sheetOf
+  encode-refusals n q e =
+      let Q = EncodeRefusal w f in
+      finish-refusal Q _ _ n q _ output
+      (then-refuses Q (sheetLengthTest w) _ (if-refuses Q 10 0 _ Faults.EncodeRefusal.sheet·length)
+      (then-refuses Q (sheetTest w) _ (refuses-sheet Q w Faults.EncodeRefusal.rule·broken)
+      (then-refuses Q (coefficientsTest (sheetOf w) f) _ (if-refuses Q 10 1 _ Faults.EncodeRefusal.coefficient·count)
+      (then-refuses Q (inputRangeTest (sheetOf w) [] f) _
+      (at-refuses Q 5 0 _ (λ j l. Faults.EncodeRefusal.word·over (0 + j) (omega (arith, zip-most (outOfRange (sheetOf w)) (replicate (sheetOf w .degree) message ++ []) f))))
+      (if-refuses Q 11 _ _ Faults.EncodeRefusal.output·short))))) e
+
+-- A refusal of verify is a fault, and each fault has its range.
+module _ (file : List ℕ) where
+  fault-placed : (n q : ℕ) → Fault file n q → VerifyRefusal file n q
+  unfolding partLength
+  fault-placed zero q p = absurd p
+  fault-placed (suc zero) q p = subst (VerifyRefusal file 1) (sym (p .0)) Faults.VerifyRefusal.length·wrong
+  fault-placed (suc (suc zero)) q p = Faults.VerifyRefusal.check·wrong q (p .0)
+  fault-placed (suc (suc (suc zero))) q p = Faults.VerifyRefusal.rule·broken q (p .0)
+  fault-placed (suc (suc (suc (suc zero)))) q p = subst (VerifyRefusal file 4) (sym (p .0)) Faults.VerifyRefusal.blocks·differ
+  fault-placed (suc (suc (suc (suc (suc zero))))) q p =
+      let r = part-below (streamOf file) (p .0) (p .1) (p .2 .0) (p .2 .1) in Faults.VerifyRefusal.word·over q (omega (arith, p .2 .2, r .0)) (omega (arith, p .2 .2, r .1))
+  fault-placed (suc (suc (suc (suc (suc (suc zero)))))) q p = Faults.VerifyRefusal.fill·set q (p .0) (p .1)
+  fault-placed (suc (suc (suc (suc (suc (suc (suc zero))))))) q p =
+      let r = part-below (streamOf file) (outs (p .0)) (p .1) (p .2 .0) (outs-many (streamOf file) (p .0) (p .2 .0) (p .2 .1)) in
+      Faults.VerifyRefusal.coin·inside q (omega (arith, p .2 .2, r .0)) (omega (arith, p .2 .2, r .1))
+    where
+      outs-many : (w : List ℕ) (i j : ℕ) → j < outsOf w → j < partLength w (outs i)
+      outs-many w i j l = l
+  fault-placed (suc (suc (suc (suc (suc (suc (suc (suc zero)))))))) q p = Faults.VerifyRefusal.pairs·clash q (omega (arith, p .2)) (omega (arith, p .1, p .2))
+  fault-placed (suc (suc (suc (suc (suc (suc (suc (suc (suc zero))))))))) q p = Faults.VerifyRefusal.final·differs q (p .0)
+  fault-placed (suc (suc (suc (suc (suc (suc (suc (suc (suc (suc n)))))))))) q p = absurd p
+
+  pub verify-refusals : (n q : ℕ) → verify file .outcome ≡ refused n q → VerifyRefusal file n q
+  verify-refusals n q e = fault-placed n q (refused-exactly file n q .0 e .there)

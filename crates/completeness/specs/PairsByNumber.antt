@@ -1,0 +1,101 @@
+-- The verifier's functions and pairs by number, of any stream that has the words due: each pair of a round's list, and each value of f_i, from single words.
+use Prim.Native.Nat.{ℕ, zero, suc, _+_, _≤_, _<_, min}
+use native.Mathlib.Omega.{arith}
+use mathlib.Core.List.{List, [], _∷_, _++_, map, zipWith}
+use mathlib.Core.Path.{_≡_, refl, sym, ap, _∙_}
+use lib.ListN.{length, getD, drop, length-append, length-drop, length-map, length-take, List·getD-append}
+use lib.Seq.{getD-append-add, getD-drop, getD-take}
+use Rattle.definition.specs.Deciding.{answers, nextFunction, tableFunction}
+use Rattle.definition.specs.Domain.{foldAt, point, shiftPoint}
+use Rattle.definition.specs.Field.{Field, primeField}
+use Rattle.definition.specs.Polynomial.{Sample, correctedValue, distinct, pair}
+use Rattle.completeness.specs.Faults.{Part, PartDue, combination, dueOf, fold, functionIn, outs, pairIn, pairsIn, partLength, partStart, partWord, partWords, shifts, words}
+use Rattle.completeness.specs.ListLaws.{getD-map}
+use Rattle.completeness.specs.Numbered.{levelOf, lengthOf, outsOf, replies, roundsOf, sheetField, sheetRoot, table}
+use Rattle.completeness.specs.PartsByNumber.{part-below}
+
+-- two lists of one length, paired
+pair-length : (xs ys : List ℕ) → length xs ≡ length ys → length (pair xs ys) ≡ length xs
+unfolding pair zipWith
+pair-length [] ys e = refl
+pair-length (x ∷ xs) [] e = absurd (omega arith)
+pair-length (x ∷ xs) (y ∷ ys) e = ap suc (pair-length xs ys (omega arith))
+
+pair-at : (xs ys : List ℕ) (d : Sample ℕ) (j : ℕ) → length xs ≡ length ys → j < length xs → getD (pair xs ys) j d ≡ record { point = getD xs j 0; value = getD ys j 0 }
+unfolding pair zipWith
+pair-at [] ys d j e l = absurd (omega arith)
+pair-at (x ∷ xs) [] d j e l = absurd (omega arith)
+pair-at (x ∷ xs) (y ∷ ys) d zero e l = refl
+pair-at (x ∷ xs) (y ∷ ys) d (suc j) e l = pair-at xs ys d j (omega arith) (omega arith)
+
+module _ (w : List ℕ) (full : dueOf w ≤ length w) where
+  abbrev F : Field ℕ
+  F = sheetField w
+
+  abbrev ω : ℕ
+  ω = sheetRoot w
+
+  -- the words of a part, by number
+  pub part-length : (x : Part) → PartDue w x → length (partWords w x) ≡ partLength w x
+  unfolding partWords
+  part-length x d = length-take (partLength w x) (drop (partStart w x) w) ∙ go (partLength w x) refl
+    where
+      go : (n : ℕ) → partLength w x ≡ n → min (partLength w x) (length (drop (partStart w x) w)) ≡ partLength w x
+      go zero e = omega arith
+      go (suc n) e = omega (arith, length-drop (partStart w x) w, part-below w x d n (omega arith))
+
+  pub part-word : (x : Part) (j : ℕ) → j < partLength w x → getD (partWords w x) j 0 ≡ partWord w x j
+  unfolding partWords
+  part-word x j l = getD-take (partLength w x) (drop (partStart w x) w) j 0 l ∙ getD-drop (partStart w x) w j 0
+
+  -- f_0 is table 0; f_(i+1) is worked out at each point from the entry of table i + 1 there and from the pairs
+  pub first-function : (j : ℕ) → j < levelOf w 0 .size → functionIn w 0 .value j ≡ partWord w (words (table 0)) j
+  unfolding functionIn tableFunction primeField partLength lengthOf
+  first-function j l = part-word (words (table 0)) j l
+
+  pub next-function : (i j : ℕ) → j < levelOf w (suc i) .size → functionIn w (suc i) .value j
+      ≡ correctedValue (sheetField w) (distinct (sheetField w) (pairsIn w i)) (partWord w (combination i) 0) (point (sheetField w) (sheetRoot w) (levelOf w (suc i)) j)
+      (partWord w (words (table (suc i))) j)
+  unfolding functionIn nextFunction pairsIn partLength lengthOf primeField
+  next-function i j l =
+      ap (correctedValue F (distinct F (pairsIn w i)) (partWord w (combination i) 0) (point F ω (levelOf w (suc i)) j)) (part-word (words (table (suc i))) j l)
+
+  module _ (i : ℕ) (due : i < roundsOf w) where
+    abbrev coins : List (Sample ℕ)
+    coins = pair (partWords w (outs i)) (partWords w (words (replies (suc i))))
+
+    outs-length : length (partWords w (outs i)) ≡ outsOf w
+    unfolding partLength
+    outs-length = part-length (outs i) due
+
+    same-length : length (partWords w (outs i)) ≡ length (partWords w (words (replies (suc i))))
+    unfolding partLength lengthOf
+    same-length = outs-length ∙ sym (part-length (words (replies (suc i))) (omega arith, due))
+
+    coins-length : length coins ≡ outsOf w
+    coins-length = pair-length _ _ same-length ∙ outs-length
+
+    shifts-length : length (partWords w (shifts i)) ≡ levelOf w i .repetitions
+    unfolding partLength
+    shifts-length = part-length (shifts i) due
+
+    abbrev sampled : ℕ → Sample ℕ
+    sampled y = record { point = shiftPoint (sheetField w) (sheetRoot w) (levelOf w i) y; value = foldAt (sheetField w) (sheetRoot w) (levelOf w i) (functionIn w i .value) (partWord w (fold i) 0) y }
+
+    -- a round has s + t pairs: out coin j with reply j,
+    pub pair-count : length (pairsIn w i) ≡ outsOf w + levelOf w i .repetitions
+    unfolding pairsIn answers
+    pair-count = omega (arith, length-append coins (map sampled (partWords w (shifts i))), coins-length, length-map (partWords w (shifts i)) sampled, shifts-length)
+
+    pub pair-of-out : (j : ℕ) → j < outsOf w → pairIn w i j ≡ record { point = partWord w (outs i) j; value = partWord w (words (replies (suc i))) j }
+    unfolding pairsIn answers partLength lengthOf
+    pair-of-out j l =
+        List·getD-append coins (map sampled (partWords w (shifts i))) _ j (omega (arith, coins-length)) ∙ pair-at _ _ _ j same-length (omega (arith, outs-length))
+        ∙ (λ x. record { point = part-word (outs i) j l x; value = part-word (words (replies (suc i))) j l x })
+
+    -- and the shift point of shift index j with the fold of f_i there
+    pub pair-of-shift : (j : ℕ) → j < levelOf w i .repetitions → pairIn w i (outsOf w + j) ≡ sampled (partWord w (shifts i) j)
+    unfolding pairsIn answers partLength
+    pair-of-shift j l =
+        ap (λ (m : ℕ). getD (coins ++ map sampled (partWords w (shifts i))) (m + j) (record { point = 0; value = 0 })) (sym coins-length) ∙ getD-append-add coins _ j _
+        ∙ getD-map sampled (partWords w (shifts i)) 0 _ j (omega (arith, shifts-length)) ∙ ap sampled (part-word (shifts i) j l)

@@ -1,0 +1,57 @@
+-- The places that coins lead to, by number: those of the k roots of each coin, in the level's own table.
+use Prim.Native.Nat.{ℕ, zero, suc, _+_, _*_, _<_}
+use native.Mathlib.Nat.{suc-mul, zero-mul}
+use native.Mathlib.Omega.{arith}
+use mathlib.Core.List.{List, [], _∷_, _++_, flatMap, map}
+use mathlib.Core.Path.{_≡_, refl, ap, _∙_}
+use lib.ListN.{length, getD, length-map, List·getD-append}
+use lib.Seq.{getD-append-add}
+use Rattle.definition.specs.Deciding.{Place, ownPlace, placesOf}
+use Rattle.definition.specs.Domain.{rootNumbers}
+use Rattle.definition.specs.Sheet.{Level, shiftCount}
+use Rattle.completeness.specs.DecidingAccepts.{root-number, roots-length}
+use Rattle.completeness.specs.Dependence.{own-places}
+use Rattle.completeness.specs.Faults.{functionIn}
+use Rattle.completeness.specs.ListLaws.{getD-map}
+use Rattle.completeness.specs.Numbered.{levelOf}
+use Rattle.completeness.specs.Reads.{places-length}
+
+module _ (l : Level) (d : Place) where
+  abbrev place : ℕ → Place
+  place y = record { table = l .number; number = y }
+
+  own-map : (ns : List ℕ) → flatMap (ownPlace l) ns ≡ map place ns
+  unfolding flatMap ownPlace
+  own-map [] = refl
+  own-map (n ∷ ns) = ap {B = List Place} (λ t. place n ∷ t) (own-map ns)
+
+  coin-length : (j : ℕ) → length (flatMap (ownPlace l) (rootNumbers l j)) ≡ l .fold
+  coin-length j = ap length (own-map (rootNumbers l j)) ∙ length-map (rootNumbers l j) place ∙ roots-length l j
+
+  coin-place : (j m : ℕ) → m < l .fold → getD (flatMap (ownPlace l) (rootNumbers l j)) m d ≡ place (j + m * shiftCount l)
+  coin-place j m u =
+      ap (λ (t : List Place). getD t m d) (own-map (rootNumbers l j)) ∙ getD-map place (rootNumbers l j) 0 d m (omega (arith, roots-length l j)) ∙ ap place (root-number l j m u)
+
+  places-at : (js : List ℕ) (a m : ℕ) → a < length js → m < l .fold → getD (placesOf l (ownPlace l) js) (a * l .fold + m) d ≡ place (getD js a 0 + m * shiftCount l)
+  unfolding placesOf flatMap
+  places-at [] a m h u = absurd (omega arith)
+  places-at (j ∷ js) zero m h u =
+      ap (λ (n : ℕ). getD (flatMap (ownPlace l) (rootNumbers l j) ++ placesOf l (ownPlace l) js) n d) (let e : 0 * l .fold + m ≡ m = omega (arith, zero-mul (l .fold)) in e)
+      ∙ List·getD-append (flatMap (ownPlace l) (rootNumbers l j)) (placesOf l (ownPlace l) js) d m (omega (arith, coin-length j)) ∙ coin-place j m u
+  places-at (j ∷ js) (suc a) m h u =
+      let p = flatMap (ownPlace l) (rootNumbers l j) in
+      let e : suc a * l .fold + m ≡ length p + (a * l .fold + m) = omega (arith, coin-length j, suc-mul a (l .fold)) in
+      ap (λ (n : ℕ). getD (p ++ placesOf l (ownPlace l) js) n d) e ∙ getD-append-add p (placesOf l (ownPlace l) js) (a * l .fold + m) d ∙ places-at js a m (omega arith) u
+
+-- the places that coins lead to at level i
+module _ (w : List ℕ) (i : ℕ) (js : List ℕ) where
+  same-places : placesOf (levelOf w i) (functionIn w i .places) js ≡ placesOf (levelOf w i) (ownPlace (levelOf w i)) js
+  same-places = ap (λ (f : ℕ → List Place). placesOf (levelOf w i) f js) (own-places w i)
+
+  pub coin-places-count : length (placesOf (levelOf w i) (functionIn w i .places) js) ≡ length js * levelOf w i .fold
+  coin-places-count = ap length same-places ∙ places-length (levelOf w i) js
+
+  pub coin-places : (a m : ℕ) → a < length js → m < levelOf w i .fold →
+      getD (placesOf (levelOf w i) (functionIn w i .places) js) (a * levelOf w i .fold + m) (record { table = 0; number = 0 })
+      ≡ record { table = i; number = getD js a 0 + m * shiftCount (levelOf w i) }
+  coin-places a m h u = ap (λ (t : List Place). getD t (a * levelOf w i .fold + m) (record { table = 0; number = 0 })) same-places ∙ places-at (levelOf w i) _ js a m h u

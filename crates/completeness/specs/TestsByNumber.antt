@@ -1,0 +1,130 @@
+-- What the definition's tests on lists find, by place: a word that fails its test, a point in a list, two pairs that clash.
+use Prim.Native.Nat.{ℕ, zero, suc, _+_, _≤_, _<_}
+use native.Mathlib.Decide.{decLt}
+use native.Mathlib.Omega.{arith}
+use mathlib.Core.Bool.{Bool, true, false, not, _&&_, _||_, true≢false}
+use mathlib.Core.List.{List, [], _∷_, map, zipWith}
+use mathlib.Core.Path.{_≡_, refl, sym, ap, _∙_}
+use lib.Dec.{eqb}
+use lib.ListN.{length, getD}
+use borrow.Author.Tests.{eq-eqb, eqb-false, eqb-true, ne-eqb, not-true}
+use Rattle.definition.specs.Domain.{domain, inDomain, inList, point}
+use Rattle.definition.specs.Field.{Field, primeField}
+use Rattle.definition.specs.Lists.{range}
+use Rattle.definition.specs.Polynomial.{Sample, clash, contradicts}
+use Rattle.definition.specs.Sheet.{Level}
+use Rattle.completeness.specs.Tests.{and-true}
+
+-- a comparison that fails
+pub differ : (a b : ℕ) → not (eqb a b) ≡ true → a ≡ b → ⊥
+differ a b e = eqb-false a b (not-true (eqb a b) e)
+
+pub differs : (a b : ℕ) → (a ≡ b → ⊥) → not (eqb a b) ≡ true
+differs a b h = ap not (ne-eqb a b h)
+
+-- two lists tested place by place, the second no shorter
+module _ {A : Type 0} (t : A → ℕ → Bool) (d : A) where
+  pub zip-length : (ks : List A) (v : List ℕ) → length ks ≤ length v → length (zipWith t ks v) ≡ length ks
+  unfolding zipWith
+  zip-length [] v l = refl
+  zip-length (k ∷ ks) [] l = absurd (omega arith)
+  zip-length (k ∷ ks) (x ∷ v) l = ap suc (zip-length ks v (omega arith))
+
+  pub zip-at : (ks : List A) (v : List ℕ) (j : ℕ) → j < length ks → length ks ≤ length v → getD (zipWith t ks v) j false ≡ t (getD ks j d) (getD v j 0)
+  unfolding zipWith
+  zip-at [] v j h l = absurd (omega arith)
+  zip-at (k ∷ ks) [] j h l = absurd (omega arith)
+  zip-at (k ∷ ks) (x ∷ v) zero h l = refl
+  zip-at (k ∷ ks) (x ∷ v) (suc j) h l = zip-at ks v j (omega arith) (omega arith)
+
+-- one of two tests
+either : {P : Type 0} (a b : Bool) → (a || b) ≡ true → (a ≡ true → P) → (b ≡ true → P) → P
+either true b e f g = f refl
+either false b e f g = g e
+
+left : (a b : Bool) → a ≡ true → (a || b) ≡ true
+left a b e = ap (λ (x : Bool). x || b) e
+
+right : (a b : Bool) → b ≡ true → (a || b) ≡ true
+right true b e = refl
+right false b e = e
+
+module _ (p ω : ℕ) where
+  abbrev F : Field ℕ
+  F = primeField p
+
+  -- the domain's points by number
+  listed : (f : ℕ → ℕ) (from n x : ℕ) → inList F ω x (map f (range from n)) ≡ true → (m : ℕ) × (from ≤ m) × (m < from + n) × (x ≡ f m)
+  unfolding inList range primeField
+  listed f from zero x e = absurd (true≢false (sym e))
+  listed f from (suc n) x e =
+      either (eqb x (f from)) (inList F ω x (map f (range (suc from) n))) e
+      (λ h. (from, omega arith, omega arith, eqb-true x (f from) h))
+      (λ h. let r = listed f (suc from) n x h in (r .0, omega (arith, r .1), omega (arith, r .2), r .3))
+
+  in-list : (f : ℕ → ℕ) (from n m x : ℕ) → from ≤ m → m < from + n → x ≡ f m → inList F ω x (map f (range from n)) ≡ true
+  unfolding inList range primeField
+  in-list f from zero m x l u e = absurd (omega arith)
+  in-list f from (suc n) m x l u e = go (decLt from m) (λ h. in-list f (suc from) n m x h (omega arith) e)
+    where
+      go : Dec (from < m) → (suc from ≤ m → inList F ω x (map f (range (suc from) n)) ≡ true) → (eqb x (f from) || inList F ω x (map f (range (suc from) n))) ≡ true
+      go (yes h) r = right (eqb x (f from)) _ (r (omega arith))
+      go (no h) r = let q : m ≡ from = omega arith in left (eqb x (f from)) _ (eq-eqb x (f from) (e ∙ ap f q))
+
+  pub domain-point : (l : Level) (x : ℕ) → inDomain F ω l x ≡ true → (m : ℕ) × (m < l .size) × (x ≡ point F ω l m)
+  unfolding inDomain domain
+  domain-point l x e = let r = listed (point F ω l) 0 (l .size) x e in (r .0, omega (arith, r .2), r .3)
+
+  pub point-inside : (l : Level) (m x : ℕ) → m < l .size → x ≡ point F ω l m → inDomain F ω l x ≡ true
+  unfolding inDomain domain
+  point-inside l m x h e = in-list (point F ω l) 0 (l .size) m x (omega arith) (omega arith) e
+
+  -- pairs with equal points and different values
+  abbrev Clashing : Sample ℕ → Sample ℕ → Type 0
+  Clashing s t = (s .point ≡ t .point) × (s .value ≡ t .value → ⊥)
+
+  clashing : (s t : Sample ℕ) → (eqb (s .point) (t .point) && not (eqb (s .value) (t .value))) ≡ true → Clashing s t
+  clashing s t e = let h = and-true (eqb (s .point) (t .point)) _ e in (eqb-true (s .point) (t .point) (h .0), differ (s .value) (t .value) (h .1))
+
+  clash-test : (s t : Sample ℕ) → Clashing s t → (eqb (s .point) (t .point) && not (eqb (s .value) (t .value))) ≡ true
+  clash-test s t h = λ i. eq-eqb (s .point) (t .point) (h .0) i && differs (s .value) (t .value) (h .1) i
+
+  module _ (d : Sample ℕ) where
+    contradiction : (s : Sample ℕ) (xs : List (Sample ℕ)) → contradicts F s xs ≡ true → (b : ℕ) × (b < length xs) × Clashing s (getD xs b d)
+    unfolding contradicts primeField
+    contradiction s [] e = absurd (true≢false (sym e))
+    contradiction s (t ∷ xs) e =
+        either (eqb (s .point) (t .point) && not (eqb (s .value) (t .value))) (contradicts F s xs) e
+        (λ h. (0, omega arith, clashing s t h)) (λ h. let r = contradiction s xs h in (suc (r .0), omega (arith, r .1), r .2))
+
+    contradicted : (s : Sample ℕ) (xs : List (Sample ℕ)) (b : ℕ) → b < length xs → Clashing s (getD xs b d) → contradicts F s xs ≡ true
+    unfolding contradicts primeField
+    contradicted s [] b l h = absurd (omega arith)
+    contradicted s (t ∷ xs) zero l h = left _ (contradicts F s xs) (clash-test s t h)
+    contradicted s (t ∷ xs) (suc b) l h = right (eqb (s .point) (t .point) && not (eqb (s .value) (t .value))) _ (contradicted s xs b (omega arith) h)
+
+    pub clash-found : (xs : List (Sample ℕ)) → clash F xs ≡ true → (a : ℕ) × (b : ℕ) × (a < length xs) × (b < length xs) × Clashing (getD xs a d) (getD xs b d)
+    unfolding clash
+    clash-found [] e = absurd (true≢false (sym e))
+    clash-found (s ∷ xs) e =
+        either (contradicts F s xs) (clash F xs) e (λ h. let r = contradiction s xs h in (0, suc (r .0), omega arith, omega (arith, r .1), r .2))
+        (λ h. let r = clash-found xs h in (suc (r .0), suc (r .1), omega (arith, r .2), omega (arith, r .3), r .4))
+
+    clash-later : (xs : List (Sample ℕ)) (a b : ℕ) → a < b → b < length xs → Clashing (getD xs a d) (getD xs b d) → clash F xs ≡ true
+    unfolding clash
+    clash-later [] a b l u h = absurd (omega arith)
+    clash-later (s ∷ xs) zero zero l u h = absurd (omega arith)
+    clash-later (s ∷ xs) zero (suc b) l u h = left _ (clash F xs) (contradicted s xs b (omega arith) h)
+    clash-later (s ∷ xs) (suc a) zero l u h = absurd (omega arith)
+    clash-later (s ∷ xs) (suc a) (suc b) l u h = right (contradicts F s xs) _ (clash-later xs a b (omega arith) (omega arith) h)
+
+    -- any two places at which equal points have not equal values
+    pub clash-there : (xs : List (Sample ℕ)) (a b : ℕ) → a < length xs → b < length xs →
+        ((getD xs a d .point ≡ getD xs b d .point → getD xs a d .value ≡ getD xs b d .value) → ⊥) → clash F xs ≡ true
+    clash-there xs a b la lb h = go (decLt a b) (decLt b a) (eqb (getD xs a d .point) (getD xs b d .point)) refl
+      where
+        go : Dec (a < b) → Dec (b < a) → (t : Bool) → eqb (getD xs a d .point) (getD xs b d .point) ≡ t → clash F xs ≡ true
+        go u v false e = absurd (h (λ q. absurd (eqb-false _ _ e q)))
+        go (yes u) v true e = clash-later xs a b u lb (eqb-true _ _ e, λ q. h (λ r. q))
+        go (no u) (yes v) true e = clash-later xs b a v la (sym (eqb-true _ _ e), λ q. h (λ r. sym q))
+        go (no u) (no v) true e = let q : a ≡ b = omega arith in absurd (h (λ r. ap (λ (m : ℕ). getD xs m d .value) q))
