@@ -28,7 +28,9 @@ fn order(words: &[u32]) {
     );
     match answer {
         Answer::Done(blocks) => {
-            send(&output, blocks);
+            if !send(&output, blocks) {
+                io::write_all(STDERR_FILENO, b"not written\n");
+            }
         }
         Answer::Refusal(number, place) => {
             report::refuse(STDERR_FILENO, number, place);
@@ -36,9 +38,10 @@ fn order(words: &[u32]) {
     }
 }
 
-// Writes so many blocks of the output, which has 67.
-fn send(output: &[u8], blocks: usize) {
+// Writes so many blocks of the output, which has 67. The answer is whether they were written.
+fn send(output: &[u8], blocks: usize) -> bool {
     if blocks <= output.len() / 512 {
-        io::write_all(STDOUT_FILENO, &output[..512 * blocks]);
+        return io::write_all(STDOUT_FILENO, &output[..512 * blocks]);
     }
+    false
 }
