@@ -1,6 +1,6 @@
 -- THE VOCABULARY OF THE PAGE ON VERIFY: what stands in a file, by number, and what a fault of each number is. It holds no lemma and no proof.
 -- A file is the list of its bytes; w is the word stream that it holds, with the sheet in front, so that Numbered's M, s, levels, rounds and messages are read off it.
-use Prim.Native.Nat.{ℕ, zero, suc, _+_, _*_, _/_, _%_, _≤_, _<_}
+use Prim.Native.Nat.{ℕ, zero, suc, _+_, _-_, _*_, _/_, _%_, _^_, _≤_, _<_}
 use mathlib.Core.Bool.{true, false, cond}
 use mathlib.Core.List.{List, [], _∷_, map}
 use mathlib.Core.Path.{_≡_}
@@ -9,6 +9,7 @@ use lib.ListN.{length, getD, take, drop}
 use Rattle.definition.specs.Block.{blockCount, checkWord, streamOf, wordOf}
 use Rattle.definition.specs.Deciding.{Function, answers, nextFunction, tableFunction}
 use Rattle.definition.specs.Domain.{foldAt, point, shiftPoint}
+use Rattle.definition.specs.Field.{primeOf}
 use Rattle.definition.specs.Layout.{wordsDue}
 use Rattle.definition.specs.Lists.{range}
 use Rattle.definition.specs.Polynomial.{Sample, distinct, evaluate}
@@ -30,6 +31,22 @@ RightCheck file b = blockWord file b 127 ≡ checkWord b (map (blockWord file b)
 -- THE SHEET. Rule i of the definition, which is that of word i, holds.
 abbrev pub KeepsRule : List ℕ → ℕ → Type 0
 KeepsRule w i = getD (sheetRules w) i false ≡ true
+
+-- the rules in plain numbers: the field; n0, d0 and k, powers of two; M; s; and t_0 to t_M, with zeros after them
+pub record PlainSheet (w : List ℕ) : Type 0 where
+  pub field : getD w 0 0 < 3
+  pub size·power : (a : ℕ) × (getD w 1 0 ≡ 2 ^ a)
+  pub size·range : (4 ≤ getD w 1 0) × (getD w 1 0 ≤ 4096)
+  pub size·divides : (primeOf (getD w 0 0) - 1) % getD w 1 0 ≡ 0
+  pub degree·power : (b : ℕ) × (getD w 2 0 ≡ 2 ^ b)
+  pub degree·range : (2 ≤ getD w 2 0) × (getD w 2 0 ≤ getD w 1 0 / 2)
+  pub fold·power : (c : ℕ) × (getD w 3 0 ≡ 2 ^ c)
+  pub fold·range : (2 ≤ getD w 3 0) × (getD w 3 0 ≤ 16) × (getD w 3 0 ≤ getD w 2 0)
+  pub rounds·range : (getD w 4 0 ≤ 5) × (getD w 3 0 ^ suc (getD w 4 0) ≤ getD w 2 0)
+  pub outs·range : (1 ≤ getD w 5 0) × (getD w 5 0 ≤ 2)
+  pub times·range : (i : ℕ) → i ≤ getD w 4 0 → (1 ≤ getD w (6 + i) 0) × (getD w (6 + i) 0 ≤ 48)
+  pub times·few : (i : ℕ) → i < getD w 4 0 → getD w (6 + i) 0 + getD w 5 0 < getD w 2 0 / getD w 3 0 ^ suc i
+  pub times·zero : (i : ℕ) → getD w 4 0 < i → i < 6 → getD w (6 + i) 0 ≡ 0
 
 -- THE PARTS OF THE STREAM: the messages; the out coins, the combination coin and the shift indices of round i + 1; fold coin i; and the final indices.
 pub data Part : Type 0 where

@@ -53,6 +53,7 @@ pub mod FunctionsByNumber
 pub mod NonAnticipation
 -- verify exactly: the first fault; a file's words, parts and pairs by number; the tests one by one
 pub mod FirstFaults
+pub mod PlainSheet
 pub mod FileByNumber
 pub mod PartsByNumber
 pub mod PairsByNumber

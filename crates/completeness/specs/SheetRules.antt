@@ -53,7 +53,7 @@ rules-hold w e = all-map (sheetRules w) (all-in-map (λ (b : Bool). b ≡ false)
 
 -- the rules by number: none is broken exactly when each of the 12 holds
 module _ (w : List ℕ) where
-  rules-count : length (sheetRules w) ≡ 12
+  pub rules-count : length (sheetRules w) ≡ 12
   unfolding sheetRules range
   rules-count = refl
 
@@ -79,7 +79,7 @@ pow-below i j h = go (decLt i j)
     go (yes l) = l
     go (no l) = let r : j ≤ i = omega arith in absurd (omega (arith, pow-mono r))
 
-pow-most : (i j : ℕ) → 2 ^ i ≤ 2 ^ j → i ≤ j
+pub pow-most : (i j : ℕ) → 2 ^ i ≤ 2 ^ j → i ≤ j
 pow-most i j h = let r : i < suc j = pow-below i (suc j) (omega (arith, pow-suc 2 j, pow-pos j)) in omega arith
 
 -- What the rules say of words 0 to 4, with n0 = 2^(a+1), d0 = 2^b, k = 2^(c+1).
@@ -140,7 +140,7 @@ exponents w e =
     }
 
 -- the rule of each repetition word
-repetitions-hold : (w : List ℕ) → sheetTest w ≡ accepted → (i : ℕ) → i < 6 → repetitionsRule w i ≡ true
+pub repetitions-hold : (w : List ℕ) → sheetTest w ≡ accepted → (i : ℕ) → i < 6 → repetitionsRule w i ≡ true
 unfolding sheetRules
 repetitions-hold w e i l =
     let h = rules-hold w e in

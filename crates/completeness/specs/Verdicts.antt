@@ -19,12 +19,13 @@ use Rattle.definition.specs.Verify.{verify}
 use Rattle.completeness.specs.AcceptedExactly
 use Rattle.completeness.specs.Answers
 use Rattle.completeness.specs.EncodeExactly
-use Rattle.completeness.specs.Faults.{Encodable, EncodeRefusal, ProveRefusal, VerifyRefusal, FirstFault, Kept, Part, PartDue, SameOutside, SameWhereUsed, blockWord, blocksIn, combination, dueOf, fold, functionIn, outs, pairIn, pairsIn, partLength, partStart, partWord, readsWith, shifts, words}
+use Rattle.completeness.specs.Faults.{Encodable, EncodeRefusal, ProveRefusal, VerifyRefusal, FirstFault, KeepsRule, Kept, Part, PartDue, PlainSheet, SameOutside, SameWhereUsed, blockWord, blocksIn, combination, dueOf, fold, functionIn, outs, pairIn, pairsIn, partLength, partStart, partWord, readsWith, shifts, words}
 use Rattle.completeness.specs.FileByNumber
 use Rattle.completeness.specs.Numbered.{levelOf, outsOf, replies, roundsOf, sheetField, sheetRoot, table}
 use Rattle.completeness.specs.PairsByNumber
 use Rattle.completeness.specs.PartsByNumber
 use Rattle.completeness.specs.Places
+use Rattle.completeness.specs.PlainSheet
 use Rattle.completeness.specs.ReadsByNumber
 use Rattle.completeness.specs.SameVerdict
 
@@ -36,7 +37,11 @@ accepted-exactly = AcceptedExactly.accepted-exactly
 pub refused-exactly : (file : List ℕ) (n q : ℕ) → (verify file .outcome ≡ refused n q) ↔ FirstFault file n q
 refused-exactly = AcceptedExactly.refused-exactly
 
--- 2. WHAT STANDS IN A FILE. The stream has 127 words of each block, in the blocks' order;
+-- 2. WHAT STANDS IN A FILE. The sheet's words keep their rules exactly when these plain facts hold of them.
+pub rules-exactly : (w : List ℕ) → ((i : ℕ) → i < 12 → KeepsRule w i) ↔ PlainSheet w
+rules-exactly = PlainSheet.rules-exactly
+
+-- The stream has 127 words of each block, in the blocks' order;
 pub stream-count : (file : List ℕ) → length (streamOf file) ≡ 127 * blocksIn file
 stream-count = FileByNumber.stream-length
 
