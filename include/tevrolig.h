@@ -135,6 +135,10 @@ uint32_t tevrolig_power(uint32_t field, uint32_t a, uint32_t exponent, uint32_t 
 /* The inverse likewise, except that there is none where a is 0 modulo p: it then answers 2, and `element` is 0. */
 uint32_t tevrolig_inverse(uint32_t field, uint32_t a, uint32_t *element);
 
+/* The power of tevrolig_power, and the turns that its loop made: as many as the exponent has binary digits, none for 0.
+ * Where the number names no field, `turns` is 0 too. */
+uint32_t tevrolig_power_turns(uint32_t field, uint32_t a, uint32_t exponent, uint32_t *element, uint32_t *turns);
+
 #ifdef __cplusplus
 }
 #endif

@@ -53,9 +53,9 @@ static void word(void)
 /* The field operations, one after the other. */
 static void elements(void)
 {
-    uint32_t element;
+    uint32_t element, turns;
     answer = tevrolig_sum(2, 5, 7, &element) + tevrolig_difference(2, 5, 7, &element) + tevrolig_product(2, 5, 7, &element)
-        + tevrolig_power(2, 5, 7, &element) + tevrolig_inverse(2, 5, &element);
+        + tevrolig_power(2, 5, 7, &element) + tevrolig_power_turns(2, 5, 7, &element, &turns) + tevrolig_inverse(2, 5, &element);
 }
 
 /* Bytes of the stack that a call changes. What the start of a context takes is among them. */

@@ -130,4 +130,7 @@ fn elements([number, a, b]: [u32; 3]) {
     assert_eq!(elements, model);
     let inverse = archive.map(|field| field.inverse(a));
     assert_eq!(inverse, field::inverse(number, a));
+    let turns = archive.map(|field| field.power_turns(a, b));
+    let turns = turns.map(|power| (power.element, power.turns));
+    assert_eq!(turns, field::power_turns(number, a, b));
 }

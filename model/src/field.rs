@@ -98,6 +98,13 @@ pub fn power(field: u32, a: u32, exponent: u32) -> Option<u32> {
     Some(f.pow(f.element(a), u64::from(exponent)) as u32)
 }
 
+/// The same power, and how many turns of squaring it takes: as many as the
+/// exponent has binary digits, none for 0.
+pub fn power_turns(field: u32, a: u32, exponent: u32) -> Option<(u32, u32)> {
+    let turns = u32::BITS - exponent.leading_zeros();
+    Some((power(field, a, exponent)?, turns))
+}
+
 /// The inverse of a, where there is one; for every multiple of p there is none.
 pub fn inverse(field: u32, a: u32) -> Option<Option<u32>> {
     let f = Field::numbered(field)?;

@@ -1,6 +1,6 @@
 //! The public field operations (document 01, "Fields and the sheet").
 
-use tevrolig_model::field::{difference, inverse, power, product, sum};
+use tevrolig_model::field::{difference, inverse, power, power_turns, product, sum};
 use tevrolig_model::generate::Rng;
 
 const PRIMES: [u32; 3] = [17, 65537, 2013265921];
@@ -19,6 +19,7 @@ fn no_field_above_2() {
         assert_eq!(difference(field, 1, 1), None);
         assert_eq!(product(field, 1, 1), None);
         assert_eq!(power(field, 1, 1), None);
+        assert_eq!(power_turns(field, 1, 1), None);
         assert_eq!(inverse(field, 1), None);
     }
 }
@@ -94,4 +95,21 @@ fn powers() {
     assert_eq!(power(0, 17, 0), Some(1));
     assert_eq!(power(0, 3, u32::MAX), power(0, 3, 15));
     assert_eq!(power(0, 0, u32::MAX), Some(0));
+}
+
+#[test]
+fn turns_are_binary_digits() {
+    let mut rng = Rng::new(4);
+    let mut exponents: Vec<u32> = (0..1 << 12).collect();
+    exponents.extend((0..32).flat_map(|bit| [1 << bit, (1 << bit) - 1, u32::MAX >> bit]));
+    exponents.extend((0..1000).map(|_| rng.word()));
+    for exponent in exponents {
+        let written = format!("{exponent:b}");
+        let digits = if exponent == 0 { 0 } else { written.len() };
+        for field in 0..3 {
+            let a = rng.word();
+            let expected = (power(field, a, exponent).unwrap(), digits as u32);
+            assert_eq!(power_turns(field, a, exponent), Some(expected));
+        }
+    }
 }

@@ -64,7 +64,7 @@ fn definition_cases_are_small_and_of_every_kind() {
     assert_eq!(text, cases(&["9", "800"]));
     assert_ne!(text, cases(&["10", "800"]));
     let mut kinds: BTreeMap<String, usize> = BTreeMap::new();
-    let mut empty = 0;
+    let (mut empty, mut fields) = (0, [0; 3]);
     for case in text.lines() {
         let (hexadecimal, verdict) = case.split_once(' ').unwrap();
         let file = bytes(hexadecimal);
@@ -74,8 +74,8 @@ fn definition_cases_are_small_and_of_every_kind() {
         let kind = verdict.split(' ').nth(1).unwrap();
         *kinds.entry(kind.to_string()).or_default() += 1;
         if kind == "0" {
-            assert_eq!(file[0], 0, "field 0");
-            assert!(file[4] <= 16, "n0");
+            fields[usize::from(file[0])] += 1;
+            assert!(file[4] <= 32, "n0");
         }
     }
     assert_eq!(text.lines().count(), 800);
@@ -83,7 +83,7 @@ fn definition_cases_are_small_and_of_every_kind() {
     assert_eq!(kinds.len(), 10);
     assert!(kinds.values().all(|&count| count >= 15), "{kinds:?}");
     assert!((200..=350).contains(&kinds["0"]), "{kinds:?}");
-    assert_eq!(cases(&["9", "64", "wide"]).lines().count(), 64);
+    assert!(fields.iter().all(|&count| count >= 60), "{fields:?}");
 }
 
 #[test]

@@ -13,6 +13,13 @@ extern "C" {
     pub fn tevrolig_difference(field: u32, a: u32, b: u32, element: &mut u32) -> u32;
     pub fn tevrolig_product(field: u32, a: u32, b: u32, element: &mut u32) -> u32;
     pub fn tevrolig_power(field: u32, a: u32, exponent: u32, element: &mut u32) -> u32;
+    pub fn tevrolig_power_turns(
+        field: u32,
+        a: u32,
+        exponent: u32,
+        element: &mut u32,
+        turns: &mut u32,
+    ) -> u32;
     pub fn tevrolig_inverse(field: u32, a: u32, element: &mut u32) -> u32;
 
     pub fn tevrolig_prove(

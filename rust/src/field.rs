@@ -15,12 +15,20 @@ use std::fmt::{self, Display, Formatter};
 /// assert_eq!(field.difference(0, 1), 16);
 /// assert_eq!(field.product(100, 2), 200 % 17);
 /// assert_eq!(field.power(3, 16), 1);
+/// assert_eq!(field.power_turns(3, 16).turns, 5);
 /// assert_eq!(field.inverse(5).map(|u| field.product(5, u)), Some(1));
 /// assert_eq!(field.inverse(0), None);
 /// assert_eq!(field.to_string(), "field 0 (p = 17)");
 /// ```
 #[derive(Debug, Clone, Copy, PartialEq, Eq, Hash)]
 pub struct Field(u32);
+
+/// A power, and the turns of the loop that gave it.
+#[derive(Debug, Clone, Copy, PartialEq, Eq, Hash)]
+pub struct Powered {
+    pub element: u32,
+    pub turns: u32,
+}
 
 impl Field {
     /// The field of this number; nothing where the number names none.
@@ -71,6 +79,17 @@ impl Field {
     #[must_use]
     pub fn power(self, a: u32, exponent: u32) -> u32 {
         self.apply(archive::tevrolig_power, a, exponent)
+    }
+
+    /// The same power, with the turns that it took: as many as the exponent has binary digits, none for 0.
+    #[must_use]
+    pub fn power_turns(self, a: u32, exponent: u32) -> Powered {
+        let (mut element, mut turns) = (0, 0);
+        // SAFETY: as the archive's module says.
+        let named =
+            unsafe { archive::tevrolig_power_turns(self.0, a, exponent, &mut element, &mut turns) };
+        debug_assert_eq!(named, 1);
+        Powered { element, turns }
     }
 
     /// The inverse of a; there is none exactly for 0.

@@ -25,7 +25,7 @@ mod field;
 mod order;
 mod verdict;
 
-pub use field::Field;
+pub use field::{Field, Powered};
 pub use order::{encode, prove, OrderRefusal};
 pub use verdict::{verify, word, Outcome, Refusal, Verdict};
 

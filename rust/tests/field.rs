@@ -12,6 +12,13 @@ extern "C" {
     fn tevrolig_difference(field: u32, a: u32, b: u32, element: &mut u32) -> u32;
     fn tevrolig_product(field: u32, a: u32, b: u32, element: &mut u32) -> u32;
     fn tevrolig_power(field: u32, a: u32, exponent: u32, element: &mut u32) -> u32;
+    fn tevrolig_power_turns(
+        field: u32,
+        a: u32,
+        exponent: u32,
+        element: &mut u32,
+        turns: &mut u32,
+    ) -> u32;
     fn tevrolig_inverse(field: u32, a: u32, element: &mut u32) -> u32;
 }
 
@@ -132,6 +139,57 @@ fn no_inverse_for_zero() {
     }
     for a in [0, 1, 17, u32::MAX] {
         assert_eq!(answer(3, a), (0, 0));
+    }
+}
+
+/// A power with its turns is the model's, and the element is the power's without them.
+fn turns(number: u32, a: u32, exponent: u32) {
+    let field = Field::new(number).unwrap();
+    let found = field.power_turns(a, exponent);
+    let what = format!("field {number}, {a}, {exponent}");
+    let expected = field::power_turns(number, a, exponent);
+    assert_eq!(Some((found.element, found.turns)), expected, "{what}");
+    assert_eq!(found.element, field.power(a, exponent), "{what}");
+}
+
+#[test]
+fn turns_of_every_exponent_of_12_bits() {
+    for (number, p) in (0..).zip(PRIMES) {
+        for a in words(&mut Rng::new(4), p, 4) {
+            for exponent in 0..1 << 12 {
+                turns(number, a, exponent);
+            }
+        }
+    }
+}
+
+#[test]
+fn turns_of_other_exponents() {
+    let mut rng = Rng::new(5);
+    for number in 0..3 {
+        for bit in 0..32 {
+            for exponent in [1 << bit, (1 << bit) - 1, u32::MAX >> bit, u32::MAX << bit] {
+                turns(number, rng.word(), exponent);
+            }
+        }
+    }
+    for _ in 0..300_000 {
+        // Exponents of every length alike.
+        let exponent = rng.word() >> rng.below(32);
+        turns(rng.below(3) as u32, rng.word(), exponent);
+    }
+}
+
+#[test]
+fn other_numbers_have_no_turns() {
+    for number in (3..1000).chain([17, 65537, 1 << 31, u32::MAX - 1, u32::MAX]) {
+        for exponent in [0, 1, 5, 4095, u32::MAX] {
+            let (mut element, mut turns) = (7, 7);
+            // Two words are written.
+            let named =
+                unsafe { tevrolig_power_turns(number, 5, exponent, &mut element, &mut turns) };
+            assert_eq!((named, element, turns), (0, 0, 0), "{number}, {exponent}");
+        }
     }
 }
 

@@ -9,7 +9,7 @@ use mathlib.Core.Option.{Option, none, some}
 use mathlib.Core.Path.{_≡_, refl, sym, ap, _∙_}
 use lib.Dec.{eqb}
 use borrow.Author.Tests.{eqb-true}
-use Rattle.definition.specs.Field.{Field, primeField, foundOr, reciprocal}
+use Rattle.definition.specs.Field.{Field, powerMod, primeField, foundOr, reciprocal}
 use Rattle.definition.specs.Polynomial.{evaluate, vanishing}
 use Rattle.algebra.specs.Different.{Differ}
 use Rattle.algebra.specs.Division.{vanishing-nonzero}
@@ -17,6 +17,7 @@ use Rattle.algebra.specs.Evaluation.{reduce-evaluate}
 use Rattle.algebra.specs.Laws.{FieldLaws}
 use Rattle.algebra.specs.ListFacts.{All}
 use Rattle.algebra.specs.ModularArithmetic.{pow-mod}
+use Rattle.algebra.specs.PowerBySquaring.{powerMod-is}
 
 pub some≢none : {A : Type 0} (x : A) → _≡_ {A = Option A} (some x) none → ⊥
 some≢none {A} x e = let z : _≡_ {A = Bool} true false = ap there e in true≢false z
@@ -66,7 +67,7 @@ pub as-before : (p x : ℕ) → 2 < p → reciprocal (primeField p) x ≡ x ^ (p
 unfolding primeField reciprocal foundOr
 as-before p x large = go (eqb (x % p) 0) refl
   where
-    go : (b : Bool) → eqb (x % p) 0 ≡ b → foundOr 0 (cond b none (some (x ^ (p - 2) % p))) ≡ x ^ (p - 2) % p
+    go : (b : Bool) → eqb (x % p) 0 ≡ b → foundOr 0 (cond b none (some (powerMod x (p - 2) p))) ≡ x ^ (p - 2) % p
     go true e =
         sym (sym (pow-mod p x (p - 2)) ∙ ap (λ (n : ℕ). n ^ (p - 2) % p) (eqb-true (x % p) 0 e) ∙ ap (λ (n : ℕ). n % p) (zero-power (p - 2) (omega arith)) ∙ zero-mod p)
-    go false e = refl
+    go false e = powerMod-is x (p - 2) p

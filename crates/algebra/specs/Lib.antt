@@ -21,7 +21,9 @@ pub mod RootsOfUnity
 pub mod ModularArithmetic
 pub mod Primes
 pub mod Fermat
+pub mod BinaryDigits
 pub mod PowerBySquaring
 pub mod PrimeField
+pub mod PowerLoop
 pub mod Divisors
 pub mod PublicInverse

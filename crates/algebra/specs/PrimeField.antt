@@ -6,13 +6,14 @@ use native.Mathlib.Omega.{arith}
 use mathlib.Core.Path.{_≡_, refl, sym, ap, _∙_, subst}
 use mathlib.Core.Bool.{Bool, true, false}
 use lib.Dec.{eqb, eqb→eq, eqb-refl, T, lit<}
+use mathlib.Core.Option.{some}
 use borrow.Author.Tests.{eq-eqb, ne-eqb}
-use Rattle.definition.specs.Field.{primeField, foundOr, reciprocal, power, fieldOf, primeOf, generatorOf}
+use Rattle.definition.specs.Field.{digitsWithin, binaryDigits, squaring, powerMod, primeField, foundOr, reciprocal, power, fieldOf, primeOf, generatorOf}
 use Rattle.algebra.specs.Laws.{FieldLaws}
 use Rattle.algebra.specs.ModularArithmetic.{mod-mul, mul-mod, pow-mod, pow-pow, power-is}
 use Rattle.algebra.specs.Primes.{Prime, prime₁₇, prime₆₅₅₃₇, prime₂₀₁₃₂₆₅₉₂₁}
 use Rattle.algebra.specs.Fermat.{fermat-inverse}
-use Rattle.algebra.specs.PowerBySquaring.{powerMod, half-power}
+use Rattle.algebra.specs.PowerBySquaring.{powerMod-is}
 use Rattle.algebra.specs.RootsOfUnity.{minusOne}
 
 T-true : (b : Bool) → T b → b ≡ true
@@ -22,7 +23,7 @@ T-true false t = absurd t
 -- where there is an inverse, it is x^(p-2)
 found-value : (p x : ℕ) → (x % p ≡ 0 → ⊥) → reciprocal (primeField p) x ≡ x ^ (p - 2) % p
 unfolding primeField reciprocal foundOr
-found-value p x h = simp (ne-eqb (x % p) 0 h)
+found-value p x h = rw (ne-eqb (x % p) 0 h) (powerMod-is x (p - 2) p)
 
 pub prime-field : (p : ℕ) → Prime p → FieldLaws (primeField p)
 unfolding primeField
@@ -48,7 +49,7 @@ prime-field p prime = record {
   equal-true = λ x y e. eqb→eq x y (subst (λ (b : Bool). T b) (sym e) tt);
   one≢zero = λ e. let z : _≡_ {A = ℕ} 1 0 = e in omega arith;
   mul-inverse = λ x h. ap (λ (y : ℕ). x * y % p) (found-value p x h) ∙ fermat-inverse p prime x h;
-  inverse-found = λ x h. rw (found-value p x h) (simp (ne-eqb (x % p) 0 h));
+  inverse-found = λ x h. rw (found-value p x h, ne-eqb (x % p) 0 h) (ap some (powerMod-is x (p - 2) p));
   inverse-none = λ x h. simp (eq-eqb (x % p) 0 h);
 }
   where
@@ -86,16 +87,20 @@ pub record Suited (p g : ℕ) : Type 0 where
   pub small : p < 4294967296
   pub fits : Fits p g
 
+-- by squaring, since g^((p-1)/2) itself is too large a number
+fits-by : (p g h : ℕ) → powerMod g h p ≡ p - 1 → g ^ h % p ≡ p - 1
+fits-by p g h e = sym (powerMod-is g h p) ∙ e
+
 suited₀ : Suited 17 3
 suited₀ = record { prime = prime₁₇; large = lit< tt; small = lit< tt; fits = refl }
 
 suited₁ : Suited 65537 3
-unfolding powerMod
-suited₁ = record { prime = prime₆₅₅₃₇; large = lit< tt; small = lit< tt; fits = half-power 65537 3 ((65537 - 1) / 2) (lit< tt) (lit< tt) refl }
+unfolding digitsWithin binaryDigits squaring powerMod
+suited₁ = record { prime = prime₆₅₅₃₇; large = lit< tt; small = lit< tt; fits = fits-by 65537 3 ((65537 - 1) / 2) refl }
 
 suited₂ : Suited 2013265921 31
-unfolding powerMod
-suited₂ = record { prime = prime₂₀₁₃₂₆₅₉₂₁; large = lit< tt; small = lit< tt; fits = half-power 2013265921 31 ((2013265921 - 1) / 2) (lit< tt) (lit< tt) refl }
+unfolding digitsWithin binaryDigits squaring powerMod
+suited₂ = record { prime = prime₂₀₁₃₂₆₅₉₂₁; large = lit< tt; small = lit< tt; fits = fits-by 2013265921 31 ((2013265921 - 1) / 2) refl }
 
 -- each field number has a suited prime and generator
 pub suited : (field : ℕ) → Suited (primeOf field) (generatorOf field)

@@ -1,15 +1,16 @@
 -- The public inverse of the three fields: none exactly for 0, and where it is found, an element whose product with x is 1.
-use Prim.Native.Nat.{ℕ, _-_, _*_, _%_, _^_, _≤_, _<_}
+use Prim.Native.Nat.{ℕ, _-_, _*_, _%_, _≤_, _<_}
 use native.Mathlib.Nat.{mod-lt, mod-mod}
 use native.Mathlib.Omega.{arith}
 use mathlib.Core.Bool.{Bool, true, false, cond}
 use mathlib.Core.Logic.{_↔_}
 use mathlib.Core.Option.{none, some}
-use mathlib.Core.Path.{_≡_, refl, sym, ap, _∙_}
+use mathlib.Core.Path.{_≡_, refl, sym, ap, _∙_, subst}
 use lib.Dec.{eqb}
 use borrow.Author.Tests.{eq-eqb, eqb-true, le-ltb, lt-ltb, ne-eqb}
-use Rattle.definition.specs.Field.{InverseAnswer, answerFound, element, fieldOf, found, inField, inverseOf, knownField, noInverse, primeField, primeOf, product, unknownField}
+use Rattle.definition.specs.Field.{InverseAnswer, answerFound, element, fieldOf, found, inField, inverseOf, knownField, noInverse, powerMod, primeField, primeOf, product, unknownField}
 use Rattle.algebra.specs.Fermat.{fermat-inverse}
+use Rattle.algebra.specs.PowerBySquaring.{powerMod-is, powerMod-reduced}
 use Rattle.algebra.specs.PrimeField.{suited}
 
 found≢none : (u : ℕ) → found u ≡ noInverse → ⊥
@@ -32,9 +33,9 @@ module _ (field x : ℕ) where
   none-exactly known = (λ e. go (eqb (y % p) 0) refl (sym (ap there (lt-ltb field 3 known)) ∙ e), λ z. simp (lt-ltb field 3 known, eq-eqb (y % p) 0 (mod-mod x p ∙ z)))
     where
       there : Bool → InverseAnswer
-      there b = cond b (answerFound (cond (eqb (y % p) 0) none (some (y ^ (p - 2) % p)))) unknownField
+      there b = cond b (answerFound (cond (eqb (y % p) 0) none (some (powerMod y (p - 2) p)))) unknownField
 
-      go : (b : Bool) → eqb (y % p) 0 ≡ b → answerFound (cond b none (some (y ^ (p - 2) % p))) ≡ noInverse → x % p ≡ 0
+      go : (b : Bool) → eqb (y % p) 0 ≡ b → answerFound (cond b none (some (powerMod y (p - 2) p))) ≡ noInverse → x % p ≡ 0
       go true q e = sym (mod-mod x p) ∙ eqb-true (y % p) 0 q
       go false q e = absurd (found≢none _ e)
 
@@ -42,9 +43,9 @@ module _ (field x : ℕ) where
   unfolding inverseOf product inField knownField answerFound fieldOf primeField
   inverse-there known h =
       let nonzero : y % p ≡ 0 → ⊥ = λ z. h (sym (mod-mod x p) ∙ z) in
-      let u = y ^ (p - 2) % p in
-      let one : y * (u % p) % p ≡ 1 = ap (λ (n : ℕ). y * n % p) (mod-mod (y ^ (p - 2)) p) ∙ fermat-inverse p (suited field .prime) y nonzero in
-      (u, simp (lt-ltb field 3 known, ne-eqb (y % p) 0 nonzero), mod-lt (y ^ (p - 2)) (omega (arith, suited field .large)), simp (lt-ltb field 3 known, one))
+      let u = powerMod y (p - 2) p in
+      let one : y * (u % p) % p ≡ 1 = ap (λ (n : ℕ). y * n % p) (powerMod-reduced y (p - 2) p ∙ powerMod-is y (p - 2) p) ∙ fermat-inverse p (suited field .prime) y nonzero in
+      (u, simp (lt-ltb field 3 known, ne-eqb (y % p) 0 nonzero), subst (λ (n : ℕ). n < p) (powerMod-reduced y (p - 2) p) (mod-lt u (omega (arith, suited field .large))), simp (lt-ltb field 3 known, one))
 
   pub inverse-nowhere : 3 ≤ field → inverseOf field x ≡ unknownField
   unfolding inverseOf knownField

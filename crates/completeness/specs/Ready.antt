@@ -8,13 +8,14 @@ use mathlib.Core.Path.{_≡_, sym, ap, _∙_, subst}
 use lib.ListN.{length, getD, take, drop, take-append-drop}
 use lib.Pow.{pow-pos}
 use lib.Seq.{length-take-le}
-use Rattle.definition.specs.Field.{power, primeField}
+use Rattle.definition.specs.Field.{power, powerMod, primeField}
 use Rattle.definition.specs.Layout.{layout, limit}
 use Rattle.definition.specs.Reading.{sheetTest}
 use Rattle.definition.specs.Sheet.{Level, Sheet, firstLevel, laterLevels, rootOfUnity, sheetOf, shiftCount}
 use Rattle.definition.specs.Verdict.{accepted}
 use Rattle.algebra.specs.Laws.{FieldLaws}
 use Rattle.algebra.specs.ListFacts.{All}
+use Rattle.algebra.specs.PowerBySquaring.{powerMod-is}
 use Rattle.algebra.specs.PrimeField.{Suited, fitting-root, prime-field, suited}
 use Rattle.algebra.specs.RootsOfUnity.{minusOne}
 use Rattle.completeness.specs.LayoutFacts.{layout-all}
@@ -34,10 +35,11 @@ pub record Ready (h : Sheet) : Type 0 where
   pub steps : Steps (h .outCoins) (firstLevel h) (laterLevels h)
 
 root-at : (p g a n : ℕ) (S : Suited p g) → n ≡ 2 ^ suc a → (p - 1) % n ≡ 0 →
-    power (primeField p) (g ^ ((p - 1) / n) % p) (2 ^ a) ≡ minusOne (primeField p)
+    power (primeField p) (powerMod g ((p - 1) / n) p) (2 ^ a) ≡ minusOne (primeField p)
 root-at p g a n S e h =
     let twice : n ≡ 2 ^ a + 2 ^ a = omega (arith, pow-suc 2 a) in
-    subst (λ (m : ℕ). power (primeField p) (g ^ ((p - 1) / m) % p) (2 ^ a) ≡ minusOne (primeField p)) (sym twice)
+    ap (λ (ω : ℕ). power (primeField p) ω (2 ^ a)) (powerMod-is g ((p - 1) / n) p)
+    ∙ subst (λ (m : ℕ). power (primeField p) (g ^ ((p - 1) / m) % p) (2 ^ a) ≡ minusOne (primeField p)) (sym twice)
     (fitting-root p g (2 ^ a) (S .large) (S .fits) (subst (λ (m : ℕ). (p - 1) % m ≡ 0) twice h))
 
 pub ready : (w : List ℕ) → length w ≡ 12 → sheetTest w ≡ accepted → Ready (sheetOf w)

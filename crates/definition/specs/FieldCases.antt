@@ -1,9 +1,8 @@
 -- The public field operations, ω, levels and domains (01, Fields and the sheet; Domains), by computation.
--- In fields 1 and 2 an inverse that is found is too large a power to compute here.
 use Prim.Native.Nat.{ℕ}
 use mathlib.Core.Path.{_≡_, refl}
 use mathlib.Core.List.{[], _∷_}
-use Rattle.definition.specs.Field.{element, noField, found, noInverse, unknownField, primeOf, generatorOf, sum, difference, product, powerOf, inverseOf}
+use Rattle.definition.specs.Field.{element, noField, powered, inNoField, found, noInverse, unknownField, binaryDigits, primeOf, generatorOf, sum, difference, product, powerOf, powerTurnsOf, inverseOf}
 use Rattle.definition.specs.Sheet.{sheetOf, firstLevel, laterLevels, rootOfUnity}
 use Rattle.definition.specs.Domain.{rootNumbers, domain, shiftPoint}
 use Rattle.definition.specs.Layout.{wordsDue}
@@ -38,6 +37,21 @@ pub record FieldCases : Type 0 where
   pub power·17·of·0 : powerOf 0 0 17 ≡ element 0
   pub power·17·of·3 : powerOf 0 3 17 ≡ element 3
   pub power·reduced : powerOf 0 20 2 ≡ element 9
+  -- binary digits, none of 0; they are the turns of a power (02, CR 4)
+  pub digits·0 : binaryDigits 0 ≡ 0
+  pub digits·1 : binaryDigits 1 ≡ 1
+  pub digits·2 : binaryDigits 2 ≡ 2
+  pub digits·3 : binaryDigits 3 ≡ 2
+  pub digits·4 : binaryDigits 4 ≡ 3
+  pub digits·5 : binaryDigits 5 ≡ 3
+  pub digits·2147483647 : binaryDigits 2147483647 ≡ 31
+  pub digits·2147483648 : binaryDigits 2147483648 ≡ 32
+  pub digits·4294967295 : binaryDigits 4294967295 ≡ 32
+  pub digits·2013265919 : binaryDigits 2013265919 ≡ 31
+  pub turns·0 : powerTurnsOf 0 20 0 ≡ powered 1 0
+  pub turns·1 : powerTurnsOf 1 65540 4 ≡ powered 81 3
+  pub turns·2 : powerTurnsOf 2 2 31 ≡ powered 134217727 5
+  pub turns·3 : powerTurnsOf 3 1 1 ≡ inNoField
   -- inverses: there is none of 0, of p and of 2p
   pub inverse·0·of·0 : inverseOf 0 0 ≡ noInverse
   pub inverse·0·of·p : inverseOf 0 17 ≡ noInverse
@@ -54,6 +68,7 @@ pub record FieldCases : Type 0 where
   pub product·1 : product 1 65536 65536 ≡ element 1
   pub product·1·reduced : product 1 65539 131077 ≡ element 6
   pub power·1 : powerOf 1 65539 16 ≡ element 65536
+  pub inverse·1 : inverseOf 1 105537 ≡ found 10694
   pub inverse·1·of·p : inverseOf 1 65537 ≡ noInverse
   -- field 2, with words at and above p = 2013265921
   pub sum·2 : sum 2 2013265920 2 ≡ element 1
@@ -63,6 +78,7 @@ pub record FieldCases : Type 0 where
   pub product·2 : product 2 65536 65536 ≡ element 268435454
   pub product·2·reduced : product 2 4294967295 2013265923 ≡ element 536870906
   pub power·2 : powerOf 2 2013265923 31 ≡ element 134217727
+  pub inverse·2 : inverseOf 2 4294967295 ≡ found 1113721573
   pub inverse·2·of·0 : inverseOf 2 0 ≡ noInverse
   pub inverse·2·of·2p : inverseOf 2 4026531842 ≡ noInverse
   -- a number above 2 names no field
@@ -73,13 +89,15 @@ pub record FieldCases : Type 0 where
   pub inverse·3 : inverseOf 3 1 ≡ unknownField
   pub inverse·3·of·0 : inverseOf 3 0 ≡ unknownField
   pub sum·largest : sum 4294967295 1 1 ≡ noField
-  -- ω of n0: in field 0 for 4, 8 and 16; in field 1 for 4096, 64 and 32
+  -- ω of n0: in field 0 for 4, 8 and 16; in field 1 for 4096, 64 and 32; in field 2 for 4096 and 4
   pub root·0·4 : rootOfUnity (sheetOf (0 ∷ 4 ∷ [])) ≡ 13
   pub root·0·8 : rootOfUnity (sheetOf (0 ∷ 8 ∷ [])) ≡ 9
   pub root·0·16 : rootOfUnity (sheetOf (0 ∷ 16 ∷ [])) ≡ 3
   pub root·1·4096 : rootOfUnity (sheetOf (1 ∷ 4096 ∷ [])) ≡ 54449
   pub root·1·64 : rootOfUnity (sheetOf (1 ∷ 64 ∷ [])) ≡ 8224
   pub root·1·32 : rootOfUnity (sheetOf (1 ∷ 32 ∷ [])) ≡ 65529
+  pub root·2·4096 : rootOfUnity (sheetOf (2 ∷ 4096 ∷ [])) ≡ 1282623253
+  pub root·2·4 : rootOfUnity (sheetOf (2 ∷ 4 ∷ [])) ≡ 1728404513
   -- the levels of the sheet of the transcript by hand, and those of a sheet with k = 4 and M = 2
   pub level·0 : firstLevel (sheetOf sheetWords) ≡ level0
   pub level·1 : laterLevels (sheetOf sheetWords) ≡ level1 ∷ []
@@ -127,6 +145,20 @@ fieldCases = record {
   power·17·of·0 = refl;
   power·17·of·3 = refl;
   power·reduced = refl;
+  digits·0 = refl;
+  digits·1 = refl;
+  digits·2 = refl;
+  digits·3 = refl;
+  digits·4 = refl;
+  digits·5 = refl;
+  digits·2147483647 = refl;
+  digits·2147483648 = refl;
+  digits·4294967295 = refl;
+  digits·2013265919 = refl;
+  turns·0 = refl;
+  turns·1 = refl;
+  turns·2 = refl;
+  turns·3 = refl;
   inverse·0·of·0 = refl;
   inverse·0·of·p = refl;
   inverse·0·of·2p = refl;
@@ -141,6 +173,7 @@ fieldCases = record {
   product·1 = refl;
   product·1·reduced = refl;
   power·1 = refl;
+  inverse·1 = refl;
   inverse·1·of·p = refl;
   sum·2 = refl;
   sum·2·reduced = refl;
@@ -149,6 +182,7 @@ fieldCases = record {
   product·2 = refl;
   product·2·reduced = refl;
   power·2 = refl;
+  inverse·2 = refl;
   inverse·2·of·0 = refl;
   inverse·2·of·2p = refl;
   sum·3 = refl;
@@ -164,6 +198,8 @@ fieldCases = record {
   root·1·4096 = refl;
   root·1·64 = refl;
   root·1·32 = refl;
+  root·2·4096 = refl;
+  root·2·4 = refl;
   level·0 = refl;
   level·1 = refl;
   levels·later = refl;

@@ -3,7 +3,7 @@ use Prim.Native.Nat.{ℕ}
 use mathlib.Core.List.{List, [], _∷_, _++_, zipWith, flatMap}
 use lib.ListN.{take, replicate}
 use Rattle.definition.specs.Lists.{member, range, chunks, firstTrue}
-use Rattle.definition.specs.Field.{Field, primeField, foundOr, power, reciprocal, answerFound, knownField, primeOf, generatorOf, fieldOf, inField, sum, difference, product, powerOf, inverseOf}
+use Rattle.definition.specs.Field.{Field, digitsWithin, binaryDigits, squaring, powerMod, primeField, foundOr, power, reciprocal, answerFound, knownField, primeOf, generatorOf, fieldOf, inField, sum, difference, product, powerOf, powerTurnsOf, inverseOf}
 use Rattle.definition.specs.Polynomial.{points, pair, evaluate, scale, addPoly, subPoly, mulPoly, vanishing, interpolate, horner, divide, quotient, geometric, foldPoly, sampledAt, distinct, contradicts, clash, correctedValue, correctedPoly}
 use Rattle.definition.specs.Sheet.{Level, sheetOf, between, powerOfTwo, fieldRule, sizeRule, degreeRule, foldRule, roundsRule, outCoinsRule, repetitionsRule, sheetRules, levelsFrom, firstLevel, laterLevels, shiftCount, finalCount, rootOfUnity}
 use Rattle.definition.specs.Domain.{rootNumbers, point, domain, inList, inDomain, shiftPoint, foldAt}
@@ -138,7 +138,7 @@ kept number place output = record { answer = refusal number place; output = outp
 -- all definitions, unfolded by this one name
 unfoldable pub definitions : Unit {0}
 unfolding
-    member range chunks firstTrue primeField foundOr power reciprocal answerFound knownField primeOf generatorOf fieldOf inField sum difference product powerOf inverseOf
+    member range chunks firstTrue digitsWithin binaryDigits squaring powerMod primeField foundOr power reciprocal answerFound knownField primeOf generatorOf fieldOf inField sum difference product powerOf powerTurnsOf inverseOf
     points pair evaluate scale addPoly subPoly mulPoly vanishing interpolate horner divide quotient geometric foldPoly sampledAt distinct
     contradicts clash correctedValue correctedPoly sheetOf between powerOfTwo fieldRule sizeRule degreeRule foldRule roundsRule
     outCoinsRule repetitionsRule sheetRules levelsFrom firstLevel laterLevels shiftCount finalCount rootOfUnity rootNumbers point domain

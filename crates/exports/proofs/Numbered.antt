@@ -3,13 +3,15 @@ use Prim.Native.Nat.{ℕ}
 use mathlib.Core.Path.{_≡_, sym, ap, _∙_}
 use mathlib.Core.Option.{Option}
 use Rattle.definition.specs.Verdict as definition
-use Rattle.definition.specs.Field.{FieldAnswer, InverseAnswer}
+use Rattle.definition.specs.Field.{FieldAnswer, PowerAnswer, InverseAnswer}
 use Rattle.definition.specs.Prove as prove
 use Rattle.field.specs.declared.Element.{Element}
 use Rattle.field.specs.declared.Element.the-variants as element
+use Rattle.field.specs.declared.PowerTurns.{PowerTurns}
+use Rattle.field.specs.declared.PowerTurns.the-variants as power-turns
 use Rattle.field.specs.declared.Inverted.{Inverted}
 use Rattle.field.specs.declared.Inverted.the-variants as inverted
-use Rattle.field.specs.Answer.{answerOf, invertedOf}
+use Rattle.field.specs.Answer.{answerOf, poweredOf, invertedOf}
 use Rattle.reader.specs.declared.Word.{Word}
 use Rattle.reader.specs.declared.Word.the-variants as word
 use Rattle.reader.specs.Words as words
@@ -19,7 +21,7 @@ use Rattle.outcome.specs.declared.Answer.{Answer}
 use Rattle.outcome.specs.declared.Answer.the-variants.{Done, Refusal}
 use Rattle.outcome.specs.Meaning as meaning
 use Rattle.outcome.specs.Meaning.{outcomeOf, verdictOf}
-use Rattle.exports.specs.Numbers.{numberOf, placeIn, refusalOf, valueOf, wordThere, wordOrZero, fieldNamed, elementOrZero, inverseNumber, inverseOrZero}
+use Rattle.exports.specs.Numbers.{numberOf, placeIn, refusalOf, valueOf, wordThere, wordOrZero, fieldNamed, elementOrZero, powerNamed, powerOrZero, turnsOrZero, inverseNumber, inverseOrZero}
 
 module _ (v : Verdict) {d : definition.Verdict} (e : verdictOf v ≡ d) where
   outcome-is : outcomeOf (v .outcome) ≡ d .outcome
@@ -100,6 +102,22 @@ module _ (a : Element) where
   -- what is written of an answer is what the definition's answer says
   pub as-defined : {d : FieldAnswer} {named element : ℕ} → ElementNumbers (answerOf a) named element → answerOf a ≡ d → ElementNumbers d named element
   as-defined n e = (n .0 ∙ ap fieldNamed e, n .1 ∙ ap elementOrZero e)
+
+module _ (a : PowerTurns) {d : PowerAnswer} (e : poweredOf a ≡ d) where
+  abbrev pub PowerNumbers : ℕ → ℕ → ℕ → Type 0
+  PowerNumbers named element turns = (named ≡ powerNamed d) × ((element ≡ powerOrZero d) × (turns ≡ turnsOrZero d))
+
+  pub power-numbers : (x turns : ℕ) → a ≡ power-turns.Value x turns → PowerNumbers 1 x turns
+  unfolding powerNamed powerOrZero turnsOrZero
+  power-numbers x turns h =
+      let o = ap poweredOf (sym h) ∙ e in
+      (ap powerNamed o, (ap powerOrZero o, ap turnsOrZero o))
+
+  pub no-power-numbers : a ≡ power-turns.NoField → PowerNumbers 0 0 0
+  unfolding powerNamed powerOrZero turnsOrZero
+  no-power-numbers h =
+      let o = ap poweredOf (sym h) ∙ e in
+      (ap powerNamed o, (ap powerOrZero o, ap turnsOrZero o))
 
 abbrev pub InverseNumbers : InverseAnswer → ℕ → ℕ → Type 0
 InverseNumbers d number element = (number ≡ inverseNumber d) × (element ≡ inverseOrZero d)

@@ -3,7 +3,7 @@ use Prim.Native.Nat.{ℕ}
 use mathlib.Core.Option.{Option, none, some}
 use Rattle.definition.specs.Verdict.{Outcome, accepted, refused}
 use Rattle.definition.specs.Prove.{Answer, done, refusal}
-use Rattle.definition.specs.Field.{FieldAnswer, element, noField, InverseAnswer, found, noInverse, unknownField}
+use Rattle.definition.specs.Field.{FieldAnswer, element, noField, PowerAnswer, powered, inNoField, InverseAnswer, found, noInverse, unknownField}
 
 -- an outcome: 0 and 0 for accepted, else the fault's number and place
 unfoldable pub numberOf : Outcome → ℕ
@@ -40,6 +40,19 @@ fieldNamed (element x) = 1
 unfoldable pub elementOrZero : FieldAnswer → ℕ
 elementOrZero noField = 0
 elementOrZero (element x) = x
+
+-- a power and its turns: 1, the element and the turns; else 0 and 0 and 0
+unfoldable pub powerNamed : PowerAnswer → ℕ
+powerNamed inNoField = 0
+powerNamed (powered x turns) = 1
+
+unfoldable pub powerOrZero : PowerAnswer → ℕ
+powerOrZero inNoField = 0
+powerOrZero (powered x turns) = x
+
+unfoldable pub turnsOrZero : PowerAnswer → ℕ
+turnsOrZero inNoField = 0
+turnsOrZero (powered x turns) = turns
 
 -- an inverse: 1 and the value found, 2 and 0 where there is none, 0 and 0 where the number names no field
 unfoldable pub inverseNumber : InverseAnswer → ℕ

@@ -1,6 +1,7 @@
 // The operations as C functions. Nothing is allocated and no state is kept; what is lent is lent for the call alone.
 use field::Element;
 use field::Inverted;
+use field::PowerTurns;
 use outcome::Answer;
 use outcome::Outcome;
 use reader::Word;
@@ -8,11 +9,11 @@ ghost use mathlib.Core.Path.{_≡_};
 ghost use Rattle.definition.specs.Verify.{verify};
 ghost use Rattle.definition.specs.Block.{streamOf};
 ghost use Rattle.definition.specs.Prove.{encode, prove};
-ghost use Rattle.definition.specs.Field.{sum, difference, product, powerOf, inverseOf};
+ghost use Rattle.definition.specs.Field.{sum, difference, product, powerOf, powerTurnsOf, inverseOf};
 ghost use Rattle.field.specs.Answer.{answerOf, invertedOf};
 ghost use Rattle.outcome.specs.Meaning.{answerOf as orderAnswer};
 ghost use Rattle.reader.specs.Words.{wordIn};
-ghost use Rattle.exports.specs.Numbers.{numberOf, placeIn, refusalOf, valueOf, wordThere, wordOrZero, fieldNamed, elementOrZero, inverseNumber, inverseOrZero};
+ghost use Rattle.exports.specs.Numbers.{numberOf, placeIn, refusalOf, valueOf, wordThere, wordOrZero, fieldNamed, elementOrZero, powerNamed, powerOrZero, turnsOrZero, inverseNumber, inverseOrZero};
 
 // Judges a file. Answers 0 for accepted, else the fault's number, and writes the fault's place (0 where accepted) and the count of reads.
 #[no_mangle]
@@ -160,6 +161,32 @@ pub extern "C" fn tevrolig_power(field: u32, a: u32, exponent: u32, element: &mu
     ensures { λ r. ⌜ now (element .exit) ≡ elementOrZero (powerOf field a exponent) ⌝ }
 {
     write_element(field::power(field, a, exponent), element)
+}
+
+// The same power, and the turns that its loop made: as many as the exponent has binary digits, none for 0. Where the number names no field, `turns` is 0 too.
+#[no_mangle]
+pub extern "C" fn tevrolig_power_turns(
+    field: u32,
+    a: u32,
+    exponent: u32,
+    element: &mut u32,
+    turns: &mut u32,
+) -> u32
+    ensures { λ r. ⌜ r ≡ powerNamed (powerTurnsOf field a exponent) ⌝ }
+    ensures { λ r. ⌜ now (element .exit) ≡ powerOrZero (powerTurnsOf field a exponent) ⌝ }
+    ensures { λ r. ⌜ now (turns .exit) ≡ turnsOrZero (powerTurnsOf field a exponent) ⌝ }
+{
+    *element = 0;
+    *turns = 0;
+    let answer = field::power_turns(field, a, exponent);
+    match answer {
+        PowerTurns::Value(power, made) => {
+            *element = power;
+            *turns = made;
+            1
+        }
+        PowerTurns::NoField => 0,
+    }
 }
 
 // Writes an inverse that was found, else 0; answers 1 where it was found, 2 where there is none, 0 where the number named no field.

@@ -8,8 +8,9 @@ use mathlib.Core.Bool.{cond}
 use mathlib.Core.Option.{Option, none, some}
 use borrow.Author.Tests.{lt-ltb, le-ltb, eq-eqb, ne-eqb}
 use lib.Dec.{eqb, lit<}
-use Rattle.definition.specs.Field.{Field, primeField, power, knownField, primeOf, fieldOf, FieldAnswer, element, noField, inField, answerFound, unknownField, sum, difference, product, powerOf, inverseOf}
+use Rattle.definition.specs.Field.{Field, binaryDigits, powerMod, primeField, power, knownField, primeOf, fieldOf, FieldAnswer, element, noField, inField, powered, inNoField, answerFound, unknownField, sum, difference, product, powerOf, powerTurnsOf, inverseOf}
 use Rattle.algebra.specs.ModularArithmetic.{mod-mul, mul-mod, pow-mod, power-is}
+use Rattle.algebra.specs.PowerBySquaring.{powerMod-is}
 
 pub known : (field x : ℕ) → field < 3 → element x ≡ inField field x
 unfolding inField knownField
@@ -50,7 +51,9 @@ inverse-none field a ex z = simp (eq-eqb (a % primeOf field) 0 (sym ex ∙ z))
 pub inverse-is : (field a : ℕ) {x m r : ℕ} → x ≡ a % primeOf field → (x ≡ 0 → ⊥) → m ≡ primeOf field → r ≡ power (fieldOf field) a (m - 2) → some r ≡ fieldOf field .inverse a
 unfolding fieldOf primeField
 inverse-is field a {x} {m} ex h em er =
-    ap {B = Option ℕ} some (er ∙ power-by field a (m - 2) ∙ ap (λ (n : ℕ). a ^ (n - 2) % primeOf field) em) ∙ simp (ne-eqb (a % primeOf field) 0 (λ z. h (ex ∙ z)))
+    ap {B = Option ℕ} some
+    (er ∙ power-by field a (m - 2) ∙ ap (λ (n : ℕ). a ^ (n - 2) % primeOf field) em ∙ sym (powerMod-is a (primeOf field - 2) (primeOf field)))
+    ∙ simp (ne-eqb (a % primeOf field) 0 (λ z. h (ex ∙ z)))
 
 -- A public operation reduces its words first; the operations do not see it. So what a leaf gives, answered, is what the operation answers.
 module _ (field x : ℕ) where
@@ -72,14 +75,28 @@ module _ (field x : ℕ) where
   unfolding fieldOf primeField product
   product-is y e = answered (e ∙ sym (mod-mul p x (y % p) ∙ mul-mod p x y))
 
+  -- the power of a word is that of the word reduced
+  power-reduced : (n : ℕ) → power (fieldOf field) x n ≡ power (fieldOf field) (x % p) n
+  power-reduced n = power-by field x n ∙ sym (power-by field (x % p) n ∙ pow-mod p x n)
+
   pub power-of-is : (n : ℕ) {s : ℕ} {o : FieldAnswer} → s ≡ power (fieldOf field) x n → o ≡ inField field s → o ≡ powerOf field x n
   unfolding powerOf
-  power-of-is n e = answered (e ∙ power-by field x n ∙ sym (power-by field (x % p) n ∙ pow-mod p x n))
+  power-of-is n e = answered (e ∙ power-reduced n)
+
+  pub power-turns-is : (n : ℕ) {s t : ℕ} → field < 3 → s ≡ power (fieldOf field) x n → t ≡ binaryDigits n → powered s t ≡ powerTurnsOf field x n
+  unfolding powerTurnsOf knownField
+  power-turns-is n {s} {t} h e k = (λ i. powered ((e ∙ power-reduced n) i) (k i)) ∙ simp (lt-ltb field 3 h)
+
+  pub power-turns-unknown : (n : ℕ) → 3 ≤ field → inNoField ≡ powerTurnsOf field x n
+  unfolding powerTurnsOf knownField
+  power-turns-unknown n h = simp (le-ltb field 3 h)
 
   -- the inverse of a word is that of the word reduced
   inverse-reduced : fieldOf field .inverse x ≡ fieldOf field .inverse (x % p)
   unfolding fieldOf primeField
-  inverse-reduced = λ i. cond (eqb (sym (mod-mod x p) i) 0) none (some (sym (pow-mod p x (p - 2)) i))
+  inverse-reduced =
+      let reduced : powerMod x (p - 2) p ≡ powerMod (x % p) (p - 2) p = powerMod-is x (p - 2) p ∙ sym (powerMod-is (x % p) (p - 2) p ∙ pow-mod p x (p - 2)) in
+      λ i. cond (eqb (sym (mod-mod x p) i) 0) none (some (reduced i))
 
   pub inverse-of-is : {o : Option ℕ} → field < 3 → o ≡ fieldOf field .inverse x → answerFound o ≡ inverseOf field x
   unfolding inverseOf knownField

@@ -3,8 +3,8 @@
 // public operation answers that it names no field.
 ghost use mathlib.Core.Path.{_≡_};
 ghost use Prim.Native.Nat.{_%_};
-ghost use Rattle.definition.specs.Field.{Field, primeOf, fieldOf, power, inField, sum, difference, product, powerOf, inverseOf};
-ghost use Rattle.field.specs.Answer.{answerOf, inversionOf, invertedOf};
+ghost use Rattle.definition.specs.Field.{Field, primeOf, fieldOf, power, binaryDigits, inField, sum, difference, product, powerOf, powerTurnsOf, inverseOf};
+ghost use Rattle.field.specs.Answer.{answerOf, poweredOf, inversionOf, invertedOf};
 
 // A multiple of all three primes that is above every word: added before a word is taken away, it keeps a difference from going below zero.
 const ABOVE: u64 = 17 * 65537 * 2013265921;
@@ -59,21 +59,41 @@ pub fn add_product(field: u32, a: u32, b: u32, c: u32) -> u32
     reduce(field, a as u64 + b as u64 * c as u64)
 }
 
-// The power a^e, by squaring; 0^0 is 1.
-pub fn pow(field: u32, a: u32, e: u32) -> u32
-    ensures { λ r. ⌜ r ≡ power (fieldOf field) a e ⌝ }
+// A power, and the turns that its loop made.
+pub struct Powered {
+    pub value: u32,
+    pub turns: u32,
+}
+
+// The power a^e by squaring, and the turns of its loop, which ends when no one bit of the exponent is left; 0^0 is 1.
+pub fn pow_turns(field: u32, a: u32, e: u32) -> Powered
+    ensures { λ r. ⌜ r .value ≡ power (fieldOf field) a e ⌝ }
+    ensures { λ r. ⌜ r .turns ≡ binaryDigits e ⌝ }
 {
     let mut r: u32 = 1;
     let mut b = a;
     let mut n = e;
+    let mut turns: u32 = 0;
     while 0 < n {
         if n % 2 == 1 {
             r = mul(field, r, b);
         }
         b = mul(field, b, b);
         n = n / 2;
+        turns += 1;
     }
-    r
+    Powered {
+        value: r,
+        turns: turns,
+    }
+}
+
+// The power a^e; 0^0 is 1.
+pub fn pow(field: u32, a: u32, e: u32) -> u32
+    ensures { λ r. ⌜ r ≡ power (fieldOf field) a e ⌝ }
+{
+    let p = pow_turns(field, a, e);
+    p.value
 }
 
 // What an inversion answers: the inverse, or that there is none, which is so for 0 alone.
@@ -136,6 +156,23 @@ pub fn power(field: u32, a: u32, exponent: u32) -> Element
     ensures { λ r. ⌜ answerOf r ≡ powerOf field a exponent ⌝ }
 {
     answer(field, pow(field, a, exponent))
+}
+
+// What the public power with its turns answers: the element and the turns, or that the number names no field.
+pub enum PowerTurns {
+    Value(u32, u32),
+    NoField,
+}
+
+// The power of a word taken modulo the prime, and the turns that it took: as many as the exponent has binary digits.
+pub fn power_turns(field: u32, a: u32, exponent: u32) -> PowerTurns
+    ensures { λ r. ⌜ poweredOf r ≡ powerTurnsOf field a exponent ⌝ }
+{
+    if 2 < field {
+        return PowerTurns::NoField;
+    }
+    let p = pow_turns(field, a, exponent);
+    PowerTurns::Value(p.value, p.turns)
 }
 
 // What the public inverse answers: a found value, that there is none, or that the number names no field.

@@ -1,14 +1,15 @@
 -- The inverses of two elements by one inversion, that of their product. In the three fields an inverse is reduced.
-use Prim.Native.Nat.{ℕ, _-_, _%_, _^_}
-use native.Mathlib.Nat.{mul-one, mod-mod}
+use Prim.Native.Nat.{ℕ, _-_, _%_}
+use native.Mathlib.Nat.{mul-one}
 use lib.Dec.{eqb}
 use mathlib.Core.Bool.{Bool, true, false, cond}
 use mathlib.Core.Option.{Option, none, some}
 use mathlib.Core.Path.{_≡_, _∙_, sym, ap, _≡⟨_⟩_, _∎}
-use Rattle.definition.specs.Field.{Field, primeField, primeOf, fieldOf, foundOr, reciprocal}
+use Rattle.definition.specs.Field.{Field, powerMod, primeField, primeOf, fieldOf, foundOr, reciprocal}
 use Rattle.algebra.specs.Divisors as divisors
 use Rattle.algebra.specs.Divisors.{found-differs, none-zero, zero-or-not}
 use Rattle.algebra.specs.Laws.{FieldLaws}
+use Rattle.algebra.specs.PowerBySquaring.{powerMod-reduced}
 use Rattle.algebra.specs.PrimeField.{laws}
 use Rattle.algebra.specs.RingLaws.{cancel, one-mul}
 use Rattle.polynomial.specs.declared.Inversions.{Inversions}
@@ -69,11 +70,11 @@ module _ (field : ℕ) where
   inverse-reduced x = go (eqb (x % primeOf field) 0)
     where
       u : ℕ
-      u = x ^ (primeOf field - 2) % primeOf field
+      u = powerMod x (primeOf field - 2) (primeOf field)
 
       go : (b : Bool) → laws field .reduce (foundOr 0 (cond b none (some u))) ≡ foundOr 0 (cond b none (some u))
       go true = laws field .reduce-zero
-      go false = sym (laws field .mul-one u) ∙ ap (λ (n : ℕ). n % primeOf field) (mul-one u) ∙ mod-mod (x ^ (primeOf field - 2)) (primeOf field)
+      go false = sym (laws field .mul-one u) ∙ ap (λ (n : ℕ). n % primeOf field) (mul-one u) ∙ powerMod-reduced x (primeOf field - 2) (primeOf field)
 
   pub found-both : (a b : ℕ) {m u : ℕ} → m ≡ fieldOf field ._⊗_ a b → some u ≡ fieldOf field .inverse m →
       Found (fieldOf field ._⊗_ u b) (fieldOf field ._⊗_ u a) ≡ bothFound (fieldOf field .inverse a) (fieldOf field .inverse b)

@@ -2,17 +2,17 @@
 use mathlib.Core.Path.{_≡_, _∙_, sym, ap, refl, subst⁻¹}
 use mathlib.Core.List.{List}
 use Prim.Native.Nat.{ℕ, zero, suc, _*_, _%_, _<_}
-use lib.Dec.{T, lit<}
+use lib.Dec.{T}
 use lib.ListN.{length}
-use Rattle.definition.specs.Field.{primeField, primeOf, generatorOf, fieldOf, power}
-use Rattle.algebra.specs.PowerBySquaring.{powerMod, powerMod-ok}
+use Rattle.definition.specs.Field.{digitsWithin, binaryDigits, squaring, powerMod, primeField, primeOf, generatorOf, fieldOf, power}
+use Rattle.algebra.specs.PowerBySquaring.{powerMod-is}
 use Rattle.powers.specs.Root.{root, Stored}
 use Rattle.powers.proofs.Chain.{chain, iterate, at}
 
 -- the root as a numeral, worked out by squaring
 root-is : root 2 4096 ≡ 1282623253
-unfolding root primeOf generatorOf powerMod
-root-is = sym (powerMod-ok 2013265921 (lit< tt) 19 31 491520 (lit< tt))
+unfolding root primeOf generatorOf digitsWithin binaryDigits squaring powerMod
+root-is = sym (powerMod-is 31 491520 2013265921)
 
 abbrev pub next : ℕ → ℕ
 next x = 1282623253 * x % 2013265921

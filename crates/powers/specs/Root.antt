@@ -1,10 +1,11 @@
 -- The root of unity of a field and a size, as the definition has it for a sheet, and what the stored table says. Assumes nothing.
 use Prim.Native.Nat.{ℕ, _-_, _/_, _%_, _^_, _<_}
-use mathlib.Core.Path.{_≡_, refl}
+use mathlib.Core.Path.{_≡_}
 use mathlib.Core.List.{List}
 use lib.ListN.{length, getD}
 use Rattle.definition.specs.Field.{primeOf, generatorOf, fieldOf, power}
 use Rattle.definition.specs.Sheet.{sheetOf, rootOfUnity}
+use Rattle.algebra.specs.PowerBySquaring.{powerMod-is}
 
 -- ω = g^((p-1)/n0) (01, Domains)
 unfoldable pub root : ℕ → ℕ → ℕ
@@ -13,7 +14,7 @@ root field size = generatorOf field ^ ((primeOf field - 1) / size) % primeOf fie
 -- it is the definition's, for every sheet with this field and size
 pub root-of-sheet : (w : List ℕ) → rootOfUnity (sheetOf w) ≡ root (getD w 0 0) (getD w 1 0)
 unfolding root rootOfUnity sheetOf
-root-of-sheet w = refl
+root-of-sheet w = powerMod-is (generatorOf (getD w 0 0)) ((primeOf (getD w 0 0) - 1) / getD w 1 0) (primeOf (getD w 0 0))
 
 -- the list is the 4,096 powers of the ω of n0 = 4096 in field 2, from the power 0 on
 pub record Stored (t : List ℕ) : Type 0 where

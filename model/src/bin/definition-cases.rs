@@ -1,10 +1,9 @@
-//! Prints small test cases, one per line: the file's bytes in hexadecimal (`-`
-//! for the empty file), then outcome, number, place and reads.
+//! Prints small test cases in all three fields, one per line: the file's bytes in
+//! hexadecimal (`-` for the empty file), then outcome, number, place and reads.
 //!
-//! Arguments: seed, count, and optionally the word `wide`, which adds some
-//! two-block files of field 1 that are refused before any arithmetic, or the word
-//! `orders`: then each line is a state of the load's generator, the state after one
-//! run, and the run's sheet, coefficients and coins, with bars between them.
+//! Arguments: seed, count, and optionally the word `orders`: then each line is a state
+//! of the load's generator, the state after one run, and the run's sheet,
+//! coefficients and coins, with bars between them.
 
 use std::env;
 use std::io::{self, BufWriter, Write};
@@ -12,21 +11,20 @@ use std::process::ExitCode;
 use tevrolig_model::generate::{aim, coefficients, coins, damage, honest_file, sheet_over, Rng};
 use tevrolig_model::load::{Generator, WORKED_SHEET};
 use tevrolig_model::sheet::MOST_COINS;
-use tevrolig_model::{line, verify, Outcome};
+use tevrolig_model::{line, verify};
 
 fn main() -> ExitCode {
     let arguments: Vec<String> = env::args().skip(1).collect();
     let number = |at: usize| arguments.get(at).and_then(|text| text.parse::<u64>().ok());
     let (Some(seed), Some(count)) = (number(0), number(1)) else {
-        eprintln!("usage: definition-cases SEED COUNT [wide | orders]");
+        eprintln!("usage: definition-cases SEED COUNT [orders]");
         return ExitCode::FAILURE;
     };
-    let asked = |name: &str| arguments.get(2).is_some_and(|word| word == name);
-    let wide = asked("wide");
+    let orders = arguments.get(2).is_some_and(|word| word == "orders");
 
     let mut rng = Rng::new(seed);
     let mut out = BufWriter::new(io::stdout().lock());
-    if asked("orders") {
+    if orders {
         for case in 0..count {
             if writeln!(out, "{}", drawn_order(&mut rng, case)).is_err() {
                 return ExitCode::FAILURE;
@@ -35,9 +33,8 @@ fn main() -> ExitCode {
         return ExitCode::SUCCESS;
     }
     for case in 0..count {
-        let file = match case % 16 {
-            _ if case == 0 => Vec::new(),
-            7 => before_arithmetic(&mut rng, wide && case % 32 == 7),
+        let file = match case {
+            0 => Vec::new(),
             _ => small(&mut rng),
         };
         let bytes = if file.is_empty() {
@@ -53,8 +50,7 @@ fn main() -> ExitCode {
 }
 
 /// A run of the load that is short to compute: half of them have rounds, and so out
-/// coins, and one in eight falls back to the worked sheet. Those with rounds are not of
-/// field 2, whose domains come from a power that the checker cannot compute.
+/// coins, and one in eight falls back to the worked sheet.
 fn drawn_order(rng: &mut Rng, case: u64) -> String {
     loop {
         let before = Generator { v: rng.word() };
@@ -66,25 +62,23 @@ fn drawn_order(rng: &mut Rng, case: u64) -> String {
             1..=4 => order.sheet[4] > 0 && order.sheet != WORKED_SHEET,
             _ => true,
         };
-        let domains = order.sheet[0] < 2 && order.sheet[1] <= 128;
-        if wanted && words <= 100 && (domains || order.sheet[4] == 0) {
+        let small = order.sheet[1] <= 128 || order.sheet[4] == 0;
+        if wanted && words <= 100 && small {
             return format!("{} | {} | {order}", before.v, after.v);
         }
     }
 }
 
-/// A file of field 0: about a third honest, the rest damaged, not empty.
+/// A file of any field: about a third honest, the rest damaged, not empty.
 fn small(rng: &mut Rng) -> Vec<u8> {
     let file = honest(rng, |rng| {
-        if rng.one_in(3) {
-            let sheet = sheet_over(rng, 0, 16);
-            return small_counts(rng, sheet);
-        }
-        // The one shape of field 0 that has a round: t_0 + s < 4.
-        let outs = 1 + rng.below(2) as u32;
-        let shifts = 1 + rng.below(u64::from(3 - outs)) as u32;
-        let finals = 1 + rng.below(u64::from(MOST_COINS)) as u32;
-        small_counts(rng, [0, 16, 8, 2, 1, outs, shifts, finals, 0, 0, 0, 0])
+        let field = rng.below(3) as u32;
+        let sheet = if rng.one_in(3) {
+            sheet_over(rng, field, 32)
+        } else {
+            with_rounds(rng, field)
+        };
+        small_counts(rng, sheet)
     });
     if rng.one_in(3) {
         return file;
@@ -103,27 +97,25 @@ fn small(rng: &mut Rng) -> Vec<u8> {
     }
 }
 
-/// A file of field 1 without rounds that is refused with a number up to 6.
-fn before_arithmetic(rng: &mut Rng, wide: bool) -> Vec<u8> {
-    let file = honest(rng, |rng| {
-        let (n0, d0, finals) = if wide {
-            (64, 32, MOST_COINS)
+/// A sheet with rounds: n0 is 16 in field 0, where one fits, and 32 in the others.
+fn with_rounds(rng: &mut Rng, field: u32) -> [u32; 12] {
+    let (n0, rounds) = match field {
+        0 => (16, 1),
+        _ => (32, 1 + rng.below(2) as u32),
+    };
+    let outs = 1 + rng.below(2) as u32;
+    let mut sheet = [0; 12];
+    sheet[..6].copy_from_slice(&[field, n0, n0 / 2, 2, rounds, outs]);
+    for i in 0..=rounds {
+        // t_i + s < d_(i+1) below M.
+        let most = if i == rounds {
+            MOST_COINS
         } else {
-            (16, 8, 6)
+            (n0 >> (i + 2)) - outs - 1
         };
-        let finals = finals - rng.below(6) as u32;
-        [1, n0, d0, 2, 0, 1, finals, 0, 0, 0, 0, 0]
-    });
-    loop {
-        let mut damaged = file.clone();
-        let number = 1 + rng.below(6) as u32;
-        let hit = aim(rng, &mut damaged, number);
-        let early =
-            matches!(verify(&damaged).outcome, Outcome::Refused { number, .. } if number <= 6);
-        if hit && early && !damaged.is_empty() && damaged.len() <= 1024 {
-            return damaged;
-        }
+        sheet[6 + i as usize] = 1 + rng.below(u64::from(most)) as u32;
     }
+    sheet
 }
 
 /// Mostly at most 6 final coins, so that a case is short to compute.

@@ -18,12 +18,12 @@ put-requires c κs = search needs
 digits-requires : tie.Need-digits-requires
 digits-requires c κs =
     let s = c .before .before in
-    omega (arith, long-64 (s .args .v .reads) (s .good .0 .1 .1 .1 .0 .1))
+    omega (arith, long-64 (s .args .v .reads) (search needs))
 
 put-requires-2 : tie.Need-put-requires-2
 put-requires-2 c κs =
     let s = c .before .before .before in
-    omega (arith, long-64 (s .args .v .reads) (s .good .0 .1 .1 .1 .0 .1))
+    omega (arith, long-64 (s .args .v .reads) (search needs))
 
 returns : tie.Need-returns
 unfolding lineOf verdictOf
@@ -37,7 +37,7 @@ returns c =
     let counted = extends-then (p .result) (d .result) (last .result) reads (10 ∷ []) (d .ensures) (last .ensures) in
     let more = extends-then (o .result) (p .result) (last .result) (32 ∷ []) (reads ++ (10 ∷ [])) (p .ensures) counted in
     let whole = held-then (o .result) (last .result) (outcomeText (outcomeOf (s .args .v .outcome))) (32 ∷ (reads ++ (10 ∷ []))) (o .ensures .0) more in
-    (whole .text, (whole .long, omega (arith, long-64 (s .args .v .reads) (s .good .0 .1 .1 .1 .0 .1))))
+    (whole .text, (whole .long, omega (arith, long-64 (s .args .v .reads) (search needs))))
 
 pub of-verdict-spec : {M : Type 1} → statement M
 of-verdict-spec =

@@ -1,7 +1,7 @@
 -- `line::put` meets its contract. Assumes nothing.
-use mathlib.Core.Path.{_≡_, sym, _∙_}
+use mathlib.Core.Path.{_≡_}
 use native.Mathlib.Omega.{arith}
-use lib.ListN.{length, length-map}
+use lib.ListN.{length}
 use borrow.Author.Needs.{needs}
 use Rattle.line.specs.Text.{extends-store}
 use Rattle.line.proofs.put.Statement.{statement}
@@ -16,7 +16,7 @@ add-longer c = search needs
 returns : tie.Need-returns
 returns c =
     let line = c .args .line in
-    let sized : length (line .bytes) ≡ 64 = sym (length-map (line .bytes) (λ v. v)) ∙ c .good .0 .1 .1 .0 .1 .0 .1 in
+    let sized : length (line .bytes) ≡ 64 = search needs in
     extends-store line (c .args .b) (omega arith)
 
 pub put-spec : {M : Type 1} → statement M

@@ -3,7 +3,8 @@ use Prim.Native.Nat.{ℕ, _+_, _-_, _≤_}
 use mathlib.Core.Path.{_≡_, refl, sym, ap, subst, _∙_}
 use mathlib.Core.List.{_++_, append-nil}
 use native.Mathlib.Omega.{arith}
-use lib.ListN.{length, take, getD, length-map, length-set}
+use lib.ListN.{length, take, getD, length-set}
+use borrow.Author.Needs.{needs}
 use Rattle.line.specs.Text.{copied-next}
 use Rattle.line.proofs.write.Statement.{statement}
 use Rattle.line.proofs.write.Tie as tie
@@ -39,7 +40,7 @@ loop-again : tie.Need-loop-again Inv-loop μ-loop
 loop-again c =
     let l = c .before .loop in
     let a = c .before .before .before .args in
-    let sized : length (a .line .bytes) ≡ 64 = sym (length-map (a .line .bytes) (λ v. v)) ∙ c .before .before .before .good .0 .1 .1 .0 .1 .0 .1 in (
+    let sized : length (a .line .bytes) ≡ 64 = search needs in (
       omega arith,
       (
         length-set (l .out) (a .at + l .i) (getD (a .line .bytes) (l .i) 0) ∙ l .inv .1 .0,

@@ -1,7 +1,7 @@
 -- `report::send` meets its contract: the line's array has 64 bytes. Assumes nothing.
-use mathlib.Core.Path.{_≡_, sym, _∙_}
+use mathlib.Core.Path.{_≡_, sym}
 use native.Mathlib.Omega.{arith}
-use lib.ListN.{length, length-map}
+use lib.ListN.{length}
 use lib.Seq.{length-take-le}
 use borrow.Author.Needs.{needs}
 use Rattle.report.proofs.send.Statement.{statement}
@@ -10,13 +10,13 @@ use Rattle.report.proofs.send.Tie as tie
 array-share-prefix-bytes : tie.Need-array-share-prefix-bytes
 array-share-prefix-bytes c =
     let line = c .before .args .line in
-    let sized : length (line .bytes) ≡ 64 = sym (length-map (line .bytes) (λ v. v)) ∙ c .before .good .1 .0 .1 .1 .0 .1 .0 .1 in
+    let sized : length (line .bytes) ≡ 64 = search needs in
     omega arith
 
 slice-aggregate-write-all : tie.Need-slice-aggregate-write-all
 slice-aggregate-write-all c =
     let line = c .before .before .args .line in
-    let sized : length (line .bytes) ≡ 64 = sym (length-map (line .bytes) (λ v. v)) ∙ c .before .before .good .1 .0 .1 .1 .0 .1 .0 .1 in
+    let sized : length (line .bytes) ≡ 64 = search needs in
     sym (length-take-le (line .length) (line .bytes) (omega arith))
 
 write-all-requires : tie.Need-write-all-requires
