@@ -39,7 +39,7 @@
 extern "C" {
 #endif
 
-/* The version of this interface; the Rust interface and tevrolig.pc have the same. */
+/* The version of this interface; rust/Cargo.toml and tevrolig.pc have the same, which tools/try-install checks. */
 #define TEVROLIG_VERSION "0.1.0"
 
 /* A file is blocks of 512 bytes: 127 words of the stream, each least significant byte first, and a check word. */
