@@ -1,9 +1,16 @@
 /* Tevrolig: the judge for STIR transcripts, the prover that it answers, and the three fields below them, called from C.
  *
- * The functions stand in libexports.a, which `rt staticlib exports` writes to target/staticlib for x86-64 Linux. They use
- * memcpy and memset and nothing else from outside. They are proved against the written definition: on every input each
- * one ends, and what it answers and writes is what the definition says (docs/STATEMENTS.md). examples/judge.c is a
- * program that uses them.
+ * The functions stand in libtevrolig.a, which `rt staticlib tevrolig` writes to target/staticlib for x86-64 Linux. They
+ * call memset and nothing else from outside. They are proved against the written definition: on every input each one
+ * ends, and what it answers and writes is what the definition says (docs/STATEMENTS.md).
+ *
+ * examples/judge.c is a program that uses them. A program is built with the first line, or with the second once
+ * `tools/install` has put the header, the archive and tevrolig.pc below /usr/local (`tools/install PREFIX`: elsewhere).
+ * The third is for a Rust program's Cargo.toml, whose interface is the folder rust/.
+ *
+ *   cc program.c -Iinclude target/staticlib/libtevrolig.a
+ *   cc program.c $(pkg-config --cflags --libs tevrolig)
+ *   tevrolig = { path = "../tevrolig/rust" }
  *
  * What a caller owes:
  *
@@ -32,15 +39,18 @@
 extern "C" {
 #endif
 
+/* The version of this interface; rust/Cargo.toml and tevrolig.pc have the same, which tools/try-install checks. */
+#define TEVROLIG_VERSION "0.1.0"
+
 /* A file is blocks of 512 bytes: 127 words of the stream, each least significant byte first, and a check word. */
 #define TEVROLIG_BLOCK_BYTES 512
 #define TEVROLIG_BLOCK_WORDS 127
 
 /* No file with more blocks is accepted, and no order needs more. */
-#define TEVROLIG_MOST_BLOCKS 67
+#define TEVROLIG_MAX_BLOCKS 67
 
 /* The largest n0: no table has more words, and so no encoding. */
-#define TEVROLIG_MOST_TABLE 4096
+#define TEVROLIG_MAX_TABLE 4096
 
 /* The sheet:
  *
@@ -113,7 +123,7 @@ uint32_t tevrolig_word(const uint8_t *file, size_t length, uint64_t number, uint
  *   7        the first such position, in the coins alone
  *   11       the number of blocks needed
  *
- * So an output of length 0 asks for the size, and TEVROLIG_MOST_BLOCKS blocks are enough for every order. */
+ * So an output of length 0 asks for the size, and TEVROLIG_MAX_BLOCKS blocks are enough for every order. */
 uint32_t tevrolig_prove(const uint32_t *sheet, size_t sheet_length, const uint32_t *coefficients,
                         size_t coefficients_length, const uint32_t *coins, size_t coins_length, uint8_t *output,
                         size_t output_length, uint64_t *value);

@@ -8,7 +8,7 @@
 
 #include "tevrolig.h"
 
-enum { MOST_BYTES = 65536, MOST_COINS = 1024, STACK = 1 << 22, PAINT = 0xA5 };
+enum { MAX_BYTES = 65536, MAX_COINS = 1024, STACK = 1 << 22, PAINT = 0xA5 };
 
 /* The longest file of all, and the one with the largest k. */
 static const uint32_t SHEETS[2][TEVROLIG_SHEET_WORDS] = {
@@ -16,10 +16,10 @@ static const uint32_t SHEETS[2][TEVROLIG_SHEET_WORDS] = {
     {2, 4096, 2048, 16, 1, 2, 48, 48, 0, 0, 0, 0},
 };
 
-static uint8_t file[MOST_BYTES];
+static uint8_t file[MAX_BYTES];
 static size_t length;
 static const uint32_t *sheet;
-static uint32_t coefficients[TEVROLIG_MOST_TABLE], coins[MOST_COINS], table[TEVROLIG_MOST_TABLE];
+static uint32_t coefficients[TEVROLIG_MAX_TABLE], coins[MAX_COINS], table[TEVROLIG_MAX_TABLE];
 static size_t coin_count;
 
 static _Alignas(64) uint8_t stack[STACK];
@@ -41,7 +41,7 @@ static void prove(void)
 static void encode(void)
 {
     uint64_t words;
-    answer = tevrolig_encode(sheet, TEVROLIG_SHEET_WORDS, coefficients, sheet[2], table, TEVROLIG_MOST_TABLE, &words);
+    answer = tevrolig_encode(sheet, TEVROLIG_SHEET_WORDS, coefficients, sheet[2], table, TEVROLIG_MAX_TABLE, &words);
 }
 
 static void word(void)
@@ -126,7 +126,7 @@ int main(int argc, char **argv)
         verifying = larger(verifying, depth(verify));
         small = larger(small, depth(word));
     }
-    for (size_t i = 0; i < TEVROLIG_MOST_TABLE; i++)
+    for (size_t i = 0; i < TEVROLIG_MAX_TABLE; i++)
         coefficients[i] = (uint32_t)(i * i);
     for (size_t i = 0; i < 2; i++) {
         sheet = SHEETS[i];
