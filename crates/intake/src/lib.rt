@@ -100,7 +100,10 @@ fn prove_words(words: &[u32; 4096], count: usize, output: &mut [u8]) -> Answer
     ensures { λ r. ⌜ now (output .exit) ≡ proveWords (take count (now (words .entry))) (now (output .entry)) .output ⌝ }
 {
     let order = front(words, count);
-    prove::prove(sheet(order), coefficients(order), coins(order), output)
+    let given = sheet(order);
+    let f = coefficients(order);
+    let rest = coins(order);
+    prove::prove(given, f, rest, output)
 }
 
 // The program `prove`: the answer to the order that an input holds, and the whole output as it then is.
