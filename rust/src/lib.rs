@@ -27,7 +27,7 @@ mod verdict;
 
 pub use field::{Field, Powered};
 pub use order::{encode, prove, OrderRefusal};
-pub use verdict::{verify, word, Outcome, Refusal, Verdict};
+pub use verdict::{place_sheet, sheet_of, verify, word, Outcome, Refusal, Verdict};
 
 /// Bytes of a block: its words and a check word.
 pub const BLOCK_BYTES: usize = 512;
