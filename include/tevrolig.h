@@ -25,7 +25,7 @@
  * - Nothing is allocated and no state is kept, so calls may run in several threads at once, over the same inputs too.
  * - Each number that a function gives by a pointer is written on every return, whatever was there before.
  * - The stack that a call takes is bounded: below TEVROLIG_VERIFY_STACK bytes for tevrolig_verify, likewise for prove and
- *   encode, and below 1,024 for tevrolig_word and the field operations. This is measured, not proved.
+ *   encode, and below 1,024 for tevrolig_word, tevrolig_sheet_of and the field operations. This is measured, not proved.
  *
  * Words are unsigned 32-bit numbers. Numbers, places and positions count from 0.
  */
@@ -73,7 +73,7 @@ extern "C" {
 /* What the functions answer. The place that belongs to each number stands at the function. */
 enum {
     TEVROLIG_ACCEPTED = 0,  /* verify: the file is accepted */
-    TEVROLIG_DONE = 0,      /* prove, encode: the output is written */
+    TEVROLIG_DONE = 0,      /* prove, encode, sheet_of: the output is written */
     TEVROLIG_LENGTH = 1,    /* the file is empty, or its length is no multiple of 512 bytes */
     TEVROLIG_CHECK = 2,     /* a block's check word is wrong */
     TEVROLIG_SHEET = 3,     /* a sheet word breaks its rule */
@@ -108,6 +108,11 @@ uint32_t tevrolig_verify(const uint8_t *file, size_t length, uint64_t *place, ui
 /* Shows the word of this number in a file's stream. The sheet has the words 0 to 11, and block checks are not counted.
  * Answers 1, or 0 where the file's whole blocks hold no word of that number; `word` is then 0. */
 uint32_t tevrolig_word(const uint8_t *file, size_t length, uint64_t number, uint32_t *word);
+
+/* Shows the sheet that a file holds, judged or not: writes its words 0 to 11 to the front of the output, as tevrolig_word
+ * shows them one by one. Answers 0 for done, and the words after them are as before. Else no word of the output is
+ * written: 1 where the file has less than one block, 11 where the output has less than TEVROLIG_SHEET_WORDS words. */
+uint32_t tevrolig_sheet_of(const uint8_t *file, size_t length, uint32_t *output, size_t output_length);
 
 /* Writes the honest prover's file for d0 coefficients, lowest first, and a full list of coins, in the order in which the
  * stream has them: fold coin 0; for each round i from 1 to M its s out coins, combination coin, fold coin i and t_(i-1)

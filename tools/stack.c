@@ -1,6 +1,6 @@
-/* Measures how much stack calls take, of tevrolig_verify and tevrolig_word on each file named, of tevrolig_prove and tevrolig_encode on the largest orders
- * and of the field operations, and fails where one is not below the header's figure. A call runs on a stack of its own, painted before, and the deepest
- * byte that lost its paint is looked for. */
+/* Measures how much stack calls take, of tevrolig_verify, tevrolig_word and tevrolig_sheet_of on each file named, of tevrolig_prove and tevrolig_encode
+ * on the largest orders and of the field operations, and fails where one is not below the header's figure. A call runs on a stack of its own, painted
+ * before, and the deepest byte that lost its paint is looked for. */
 #include <stdio.h>
 #include <stdlib.h>
 #include <string.h>
@@ -48,6 +48,12 @@ static void word(void)
 {
     uint32_t found;
     answer = tevrolig_word(file, length, 126, &found);
+}
+
+static void sheet_of(void)
+{
+    uint32_t words[TEVROLIG_SHEET_WORDS];
+    answer = tevrolig_sheet_of(file, length, words, TEVROLIG_SHEET_WORDS);
 }
 
 /* The field operations, one after the other. */
@@ -124,7 +130,7 @@ int main(int argc, char **argv)
         length = fread(file, 1, sizeof file, input);
         fclose(input);
         verifying = larger(verifying, depth(verify));
-        small = larger(small, depth(word));
+        small = larger(small, larger(depth(word), depth(sheet_of)));
     }
     for (size_t i = 0; i < TEVROLIG_MAX_TABLE; i++)
         coefficients[i] = (uint32_t)(i * i);

@@ -31,7 +31,7 @@ mod verdict;
 
 pub use field::{Field, Powered};
 pub use order::{encode, prove, OrderRefusal};
-pub use verdict::{verify, word, Outcome, Refusal, Verdict};
+pub use verdict::{place_sheet, sheet_of, verify, word, Outcome, Refusal, Verdict};
 
 /// The version of this interface, which is the header's `TEVROLIG_VERSION`.
 pub const VERSION: &str = env!("CARGO_PKG_VERSION");

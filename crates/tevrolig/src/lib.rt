@@ -12,7 +12,7 @@ ghost use Rattle.definition.specs.Prove.{encode, prove};
 ghost use Rattle.definition.specs.Field.{sum, difference, product, powerOf, powerTurnsOf, inverseOf};
 ghost use Rattle.field.specs.Answer.{answerOf, invertedOf};
 ghost use Rattle.outcome.specs.Meaning.{answerOf as orderAnswer};
-ghost use Rattle.reader.specs.Words.{wordIn};
+ghost use Rattle.reader.specs.Words.{wordIn, sheetWords};
 ghost use Rattle.tevrolig.specs.Numbers.{numberOf, placeIn, refusalOf, valueOf, wordThere, wordOrZero, fieldNamed, elementOrZero, powerNamed, powerOrZero, turnsOrZero, inverseNumber, inverseOrZero};
 
 // Judges a file. Answers 0 for accepted, else the fault's number, and writes the fault's place (0 where accepted) and the count of reads.
@@ -54,6 +54,20 @@ pub extern "C" fn tevrolig_word(file: &[u8], number: u64, word: &mut u32) -> u32
             *word = 0;
             0
         }
+    }
+}
+
+// Shows the sheet that a file holds, judged or not: writes its 12 words at the front of `output`. Answers 0; or a refusal's number, 1 where the file has no
+// whole block and 11 where the output has not room for 12 words, and the output is as before.
+#[no_mangle]
+pub extern "C" fn tevrolig_sheet_of(file: &[u8], output: &mut [u32]) -> u32
+    ensures { λ r. ⌜ r ≡ refusalOf (sheetWords (now (file .entry)) (now (output .entry)) .answer) ⌝ }
+    ensures { λ r. ⌜ now (output .exit) ≡ sheetWords (now (file .entry)) (now (output .entry)) .output ⌝ }
+{
+    let answer = reader::sheet_of(file, output);
+    match answer {
+        Answer::Done(count) => 0,
+        Answer::Refusal(number, place) => number,
     }
 }
 
