@@ -1,12 +1,17 @@
 /* Judges the file named on the command line, or standard input, and says what the verdict means.
- * The exit status is 0 for accepted, 1 for refused, 2 where the file cannot be read. */
+ * The exit status is 0 for accepted, 1 for refused, 2 where the file cannot be read.
+ *
+ * To build it, at the top of the repository, after `rt staticlib tevrolig`; or anywhere, after `tools/install`:
+ *
+ *   cc examples/judge.c -Iinclude target/staticlib/libtevrolig.a -o judge
+ *   cc judge.c $(pkg-config --cflags --libs tevrolig) -o judge */
 #include <inttypes.h>
 #include <stdio.h>
 
 #include "tevrolig.h"
 
 /* A file is read so far and no further, as the program `check` does it: no accepted file is so long. */
-#define MOST_BYTES 65536
+#define MAX_BYTES 65536
 
 static const char *const SHEET_WORD[TEVROLIG_SHEET_WORDS] = {
     "the field", "n0", "d0", "k", "M", "s", "t_0", "t_1", "t_2", "t_3", "t_4", "t_5"};
@@ -56,7 +61,7 @@ int main(int argc, char **argv)
         perror(argv[1]);
         return 2;
     }
-    uint8_t file[MOST_BYTES];
+    uint8_t file[MAX_BYTES];
     size_t length = fread(file, 1, sizeof file, input);
     if (ferror(input)) {
         perror(argc > 1 ? argv[1] : "standard input");

@@ -1,9 +1,16 @@
 /* Tevrolig: the judge for STIR transcripts, the prover that it answers, and the three fields below them, called from C.
  *
- * The functions stand in libexports.a, which `rt staticlib exports` writes to target/staticlib for x86-64 Linux. They use
- * memcpy and memset and nothing else from outside. They are proved against the written definition: on every input each
- * one ends, and what it answers and writes is what the definition says (docs/STATEMENTS.md). examples/judge.c is a
- * program that uses them.
+ * The functions stand in libtevrolig.a, which `rt staticlib tevrolig` writes to target/staticlib for x86-64 Linux. They
+ * call memset and nothing else from outside. They are proved against the written definition: on every input each one
+ * ends, and what it answers and writes is what the definition says (docs/STATEMENTS.md).
+ *
+ * examples/judge.c is a program that uses them. A program is built with the first line, or with the second once
+ * `tools/install` has put the header, the archive and tevrolig.pc below /usr/local (`tools/install PREFIX`: elsewhere).
+ * The third is for a Rust program's Cargo.toml, whose interface is the folder rust/.
+ *
+ *   cc program.c -Iinclude target/staticlib/libtevrolig.a
+ *   cc program.c $(pkg-config --cflags --libs tevrolig)
+ *   tevrolig = { path = "../tevrolig/rust" }
  *
  * What a caller owes:
  *
@@ -18,7 +25,7 @@
  * - Nothing is allocated and no state is kept, so calls may run in several threads at once, over the same inputs too.
  * - Each number that a function gives by a pointer is written on every return, whatever was there before.
  * - The stack that a call takes is bounded: below TEVROLIG_VERIFY_STACK bytes for tevrolig_verify, likewise for prove and
- *   encode, and below 1,024 for tevrolig_word and the field operations. This is measured, not proved.
+ *   encode, and below 1,024 for tevrolig_word, tevrolig_sheet_of and the field operations. This is measured, not proved.
  *
  * Words are unsigned 32-bit numbers. Numbers, places and positions count from 0.
  */
@@ -32,15 +39,18 @@
 extern "C" {
 #endif
 
+/* The version of this interface; rust/Cargo.toml and tevrolig.pc have the same, which tools/try-install checks. */
+#define TEVROLIG_VERSION "0.1.0"
+
 /* A file is blocks of 512 bytes: 127 words of the stream, each least significant byte first, and a check word. */
 #define TEVROLIG_BLOCK_BYTES 512
 #define TEVROLIG_BLOCK_WORDS 127
 
 /* No file with more blocks is accepted, and no order needs more. */
-#define TEVROLIG_MOST_BLOCKS 67
+#define TEVROLIG_MAX_BLOCKS 67
 
 /* The largest n0: no table has more words, and so no encoding. */
-#define TEVROLIG_MOST_TABLE 4096
+#define TEVROLIG_MAX_TABLE 4096
 
 /* The sheet:
  *
@@ -63,7 +73,7 @@ extern "C" {
 /* What the functions answer. The place that belongs to each number stands at the function. */
 enum {
     TEVROLIG_ACCEPTED = 0,  /* verify: the file is accepted */
-    TEVROLIG_DONE = 0,      /* prove, encode: the output is written */
+    TEVROLIG_DONE = 0,      /* prove, encode, sheet_of: the output is written */
     TEVROLIG_LENGTH = 1,    /* the file is empty, or its length is no multiple of 512 bytes */
     TEVROLIG_CHECK = 2,     /* a block's check word is wrong */
     TEVROLIG_SHEET = 3,     /* a sheet word breaks its rule */
@@ -99,6 +109,11 @@ uint32_t tevrolig_verify(const uint8_t *file, size_t length, uint64_t *place, ui
  * Answers 1, or 0 where the file's whole blocks hold no word of that number; `word` is then 0. */
 uint32_t tevrolig_word(const uint8_t *file, size_t length, uint64_t number, uint32_t *word);
 
+/* Shows the sheet that a file holds, judged or not: writes its words 0 to 11 to the front of the output, as tevrolig_word
+ * shows them one by one. Answers 0 for done, and the words after them are as before. Else no word of the output is
+ * written: 1 where the file has less than one block, 11 where the output has less than TEVROLIG_SHEET_WORDS words. */
+uint32_t tevrolig_sheet_of(const uint8_t *file, size_t length, uint32_t *output, size_t output_length);
+
 /* Writes the honest prover's file for d0 coefficients, lowest first, and a full list of coins, in the order in which the
  * stream has them: fold coin 0; for each round i from 1 to M its s out coins, combination coin, fold coin i and t_(i-1)
  * shift indices; at last t_M final indices. Answers 0 for done: `value` is the number of blocks, which stand at the front
@@ -113,7 +128,7 @@ uint32_t tevrolig_word(const uint8_t *file, size_t length, uint64_t number, uint
  *   7        the first such position, in the coins alone
  *   11       the number of blocks needed
  *
- * So an output of length 0 asks for the size, and TEVROLIG_MOST_BLOCKS blocks are enough for every order. */
+ * So an output of length 0 asks for the size, and TEVROLIG_MAX_BLOCKS blocks are enough for every order. */
 uint32_t tevrolig_prove(const uint32_t *sheet, size_t sheet_length, const uint32_t *coefficients,
                         size_t coefficients_length, const uint32_t *coins, size_t coins_length, uint8_t *output,
                         size_t output_length, uint64_t *value);

@@ -1,15 +1,18 @@
 #!/usr/bin/env python3
-"""Prints crates/powers/src/table.rt: the 4,096 powers of the root of unity of order 4,096 in field 2, the first 1 and each next the one before times the root."""
+"""Prints a table of crates/powers/src: in field 2, all powers of the root of unity of the order given, the first the root itself and each next the one before times
+the root. table.rt is that of 4096, few.rt that of 256."""
+
+import sys
 
 PRIME = 2013265921
 GENERATOR = 31
-SIZE = 4096
+size = int(sys.argv[1])
 
-root = pow(GENERATOR, (PRIME - 1) // SIZE, PRIME)
-power = 1
-print(f"// The {SIZE} powers of {root}, modulo {PRIME}. Written by tools/powers.py.")
-print(f"pub const POWERS: [u32; {SIZE}] = [")
-for _ in range(SIZE):
+root = pow(GENERATOR, (PRIME - 1) // size, PRIME)
+power = root
+print(f"// The {size} powers of {root}, modulo {PRIME}. Written by tools/powers.py {size}.")
+print(f"pub const POWERS: [u32; {size}] = [")
+for _ in range(size):
     print(f"    {power},")
     power = power * root % PRIME
 print("];")

@@ -1,6 +1,6 @@
-/* Measures how much stack calls take, of tevrolig_verify and tevrolig_word on each file named, of tevrolig_prove and tevrolig_encode on the largest orders
- * and of the field operations, and fails where one is not below the header's figure. A call runs on a stack of its own, painted before, and the deepest
- * byte that lost its paint is looked for. */
+/* Measures how much stack calls take, of tevrolig_verify, tevrolig_word and tevrolig_sheet_of on each file named, of tevrolig_prove and tevrolig_encode
+ * on the largest orders and of the field operations, and fails where one is not below the header's figure. A call runs on a stack of its own, painted
+ * before, and the deepest byte that lost its paint is looked for. */
 #include <stdio.h>
 #include <stdlib.h>
 #include <string.h>
@@ -8,7 +8,7 @@
 
 #include "tevrolig.h"
 
-enum { MOST_BYTES = 65536, MOST_COINS = 1024, STACK = 1 << 22, PAINT = 0xA5 };
+enum { MAX_BYTES = 65536, MAX_COINS = 1024, STACK = 1 << 22, PAINT = 0xA5 };
 
 /* The longest file of all, and the one with the largest k. */
 static const uint32_t SHEETS[2][TEVROLIG_SHEET_WORDS] = {
@@ -16,10 +16,10 @@ static const uint32_t SHEETS[2][TEVROLIG_SHEET_WORDS] = {
     {2, 4096, 2048, 16, 1, 2, 48, 48, 0, 0, 0, 0},
 };
 
-static uint8_t file[MOST_BYTES];
+static uint8_t file[MAX_BYTES];
 static size_t length;
 static const uint32_t *sheet;
-static uint32_t coefficients[TEVROLIG_MOST_TABLE], coins[MOST_COINS], table[TEVROLIG_MOST_TABLE];
+static uint32_t coefficients[TEVROLIG_MAX_TABLE], coins[MAX_COINS], table[TEVROLIG_MAX_TABLE];
 static size_t coin_count;
 
 static _Alignas(64) uint8_t stack[STACK];
@@ -41,13 +41,19 @@ static void prove(void)
 static void encode(void)
 {
     uint64_t words;
-    answer = tevrolig_encode(sheet, TEVROLIG_SHEET_WORDS, coefficients, sheet[2], table, TEVROLIG_MOST_TABLE, &words);
+    answer = tevrolig_encode(sheet, TEVROLIG_SHEET_WORDS, coefficients, sheet[2], table, TEVROLIG_MAX_TABLE, &words);
 }
 
 static void word(void)
 {
     uint32_t found;
     answer = tevrolig_word(file, length, 126, &found);
+}
+
+static void sheet_of(void)
+{
+    uint32_t words[TEVROLIG_SHEET_WORDS];
+    answer = tevrolig_sheet_of(file, length, words, TEVROLIG_SHEET_WORDS);
 }
 
 /* The field operations, one after the other. */
@@ -124,9 +130,9 @@ int main(int argc, char **argv)
         length = fread(file, 1, sizeof file, input);
         fclose(input);
         verifying = larger(verifying, depth(verify));
-        small = larger(small, depth(word));
+        small = larger(small, larger(depth(word), depth(sheet_of)));
     }
-    for (size_t i = 0; i < TEVROLIG_MOST_TABLE; i++)
+    for (size_t i = 0; i < TEVROLIG_MAX_TABLE; i++)
         coefficients[i] = (uint32_t)(i * i);
     for (size_t i = 0; i < 2; i++) {
         sheet = SHEETS[i];

@@ -40,7 +40,8 @@ pub fn agree(input: &Input) {
     });
 }
 
-/// The verdict of both, and some words of the stream: the place of the refusal, the words at the end, and one that the file itself names.
+/// The verdict of both, and some words of the stream: the place of the refusal, the words at the end, one that the file itself names, and the
+/// sheet.
 fn verdicts(fences: &mut Fences, file: &[u8]) -> tevrolig::Verdict {
     let lent: &[u8] = fences.file.lend(file);
     let verdict = tevrolig::verify(lent);
@@ -59,6 +60,8 @@ fn verdicts(fences: &mut Fences, file: &[u8]) -> tevrolig::Verdict {
         let word = (number < end).then(|| stream::read_word(file, number as usize));
         assert_eq!(tevrolig::word(lent, number), word, "word {number}");
     }
+    let sheet = (0 < end).then(|| std::array::from_fn(|number| stream::read_word(file, number)));
+    assert_eq!(tevrolig::sheet_of(lent), sheet, "the sheet");
     assert_eq!(lent, file, "the file is only read");
     verdict
 }

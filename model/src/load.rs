@@ -1,27 +1,29 @@
-//! The stated load (document 02, CR 2): a thousand honest runs that a seed fixes.
+//! The stated load: a thousand runs from one seed (document 02, request 2).
 //!
-//! The values that the rule of a sheet word permits are written out here, word by
-//! word, and not asked of `Sheet::read`, which reads the sheets afterwards.
+//! The values that a sheet word may have are listed here from document 01's rules, and
+//! the coins are drawn in document 01's order, without the sheet's reader or the
+//! layout: prove takes each order only if those say the same.
 
 use crate::domain::Subgroup;
-use crate::layout::{Layout, Part, Section};
+use crate::field::Field;
 use crate::prove::{prove, Answer};
-use crate::sheet::{Sheet, SHEET_WORDS};
+use crate::sheet::{Sheet, MOST_COINS, SHEET_WORDS};
 use crate::stream::BLOCK_BYTES;
 use crate::verify::{line, verify, Outcome, Verdict};
 use std::fmt;
 
-/// Runs of a load.
-pub const RUNS: usize = 1000;
-
-/// How often an out coin inside its domain is drawn again.
-pub const DRAWN_AGAIN: usize = 64;
-
-/// The sheet of document 01's transcript by hand.
+/// The sheet of the worked transcript (document 01, "A transcript by hand").
 pub const WORKED_SHEET: [u32; SHEET_WORDS] = [0, 16, 8, 2, 1, 1, 1, 1, 0, 0, 0, 0];
 
-/// The seed of a program's input: its first four bytes, least significant first;
-/// missing ones are 0.
+/// Runs of one load.
+const RUNS: usize = 1000;
+/// How often an out coin is drawn again, the first draw not counted.
+const MOST_AGAIN: usize = 64;
+/// Bytes that every honest file fits in: no accepted file is so long.
+const ROOM: usize = 65536;
+
+/// The seed that a program's input stands for: its first word, missing bytes 0.
+/// Bytes after the first four belong to no seed.
 pub fn seed(input: &[u8]) -> u32 {
     let mut bytes = [0; 4];
     for (byte, &given) in bytes.iter_mut().zip(input) {
@@ -30,115 +32,30 @@ pub fn seed(input: &[u8]) -> u32 {
     u32::from_le_bytes(bytes)
 }
 
-/// The generator: 32 bits that every draw replaces.
-#[derive(Debug, Clone, PartialEq, Eq)]
-pub struct Generator {
-    pub v: u32,
+/// The lines that the program prints for a seed, each from proving and judging a file.
+pub fn lines(seed: u32) -> Vec<String> {
+    lines_by(seed, Order::judged)
 }
 
-impl Generator {
-    /// Shifts drop what leaves the 32 bits.
-    pub fn step(&mut self) -> u32 {
-        self.v ^= self.v << 13;
-        self.v ^= self.v >> 17;
-        self.v ^= self.v << 5;
-        self.v
+/// The same with any way to a run's line. Seed 0 is refused before anything is drawn.
+pub fn lines_by(seed: u32, run: impl Fn(&Order) -> String) -> Vec<String> {
+    if seed == 0 {
+        let outcome = Outcome::Refused {
+            number: 12,
+            place: 0,
+        };
+        return vec![line(Verdict { outcome, reads: 0 })];
     }
-
-    /// A number below the limit, which is not 0: a value's place, lowest first.
-    pub fn below(&mut self, limit: u64) -> u32 {
-        (u64::from(self.step()) % limit) as u32
-    }
-
-    /// Twelve words by their rules, or the worked sheet as soon as a word has none left.
-    pub fn sheet(&mut self) -> [u32; SHEET_WORDS] {
-        let mut words = Vec::new();
-        while words.len() < SHEET_WORDS {
-            let values = permitted(&words);
-            if values.is_empty() {
-                return WORKED_SHEET;
-            }
-            let place = self.below(values.len() as u64);
-            words.push(values[place as usize]);
-        }
-        words.try_into().expect("twelve words")
-    }
-
-    /// An element outside the domain, or 0 when that many draws were inside.
-    pub fn out_coin(&mut self, p: u64, domain: &[u64]) -> u32 {
-        for _ in 0..=DRAWN_AGAIN {
-            let coin = self.below(p);
-            if !domain.contains(&u64::from(coin)) {
-                return coin;
-            }
-        }
-        0
-    }
-
-    /// The coins of one section of the stream.
-    fn coins(&mut self, subgroup: &Subgroup, section: &Section) -> Vec<u32> {
-        let count = section.words.len();
-        match section.part {
-            Part::OutCoins(i) => {
-                let domain = subgroup.domain(i);
-                let coin = |_| self.out_coin(section.limit, &domain);
-                (0..count).map(coin).collect()
-            }
-            _ => (0..count).map(|_| self.below(section.limit)).collect(),
-        }
-    }
-
-    /// One run's draws.
-    pub fn order(&mut self) -> Order {
-        let words = self.sheet();
-        let sheet = Sheet::read(&words).expect("a drawn sheet keeps its rules");
-        let subgroup = Subgroup::of(&sheet);
-        let coefficients = (0..sheet.d0).map(|_| self.below(sheet.field.p)).collect();
-        let coins = Layout::new(&sheet)
-            .coin_sections()
-            .flat_map(|section| self.coins(&subgroup, section))
-            .collect();
-        Order {
-            sheet: words,
-            coefficients,
-            coins,
-        }
-    }
+    orders(seed).map(|order| run(&order)).collect()
 }
 
-/// The values that the rule of the next sheet word permits after these, lowest first.
-pub fn permitted(words: &[u32]) -> Vec<u32> {
-    let word = |place: usize| words[place];
-    match words.len() {
-        0 => vec![0, 1, 2],
-        // 16, 65536 and 2013265920, which are the p - 1, have these as divisors.
-        1 if word(0) == 0 => powers_of_two(4, 16),
-        1 => powers_of_two(4, 4096),
-        2 => powers_of_two(2, word(1) / 2),
-        3 => powers_of_two(2, word(2).min(16)),
-        4 => (0..=5).filter(|&m| word(3).pow(m + 1) <= word(2)).collect(),
-        5 => vec![1, 2],
-        at => {
-            let (i, rounds) = (at as u32 - 6, word(4));
-            if i > rounds {
-                return vec![0];
-            }
-            let next_degree = word(2) / word(3).pow(i + 1);
-            let fits = |t: &u32| i == rounds || t + word(5) < next_degree;
-            (1..=48).filter(fits).collect()
-        }
-    }
+/// What the runs of a seed other than 0 draw, all on one generator.
+pub fn orders(seed: u32) -> impl Iterator<Item = Order> {
+    let mut generator = Generator { v: seed };
+    (0..RUNS).map(move |_| generator.order())
 }
 
-/// The powers of two from one to another.
-fn powers_of_two(least: u32, most: u32) -> Vec<u32> {
-    let doubled = |&power: &u32| Some(2 * power);
-    std::iter::successors(Some(least), doubled)
-        .take_while(|&power| power <= most)
-        .collect()
-}
-
-/// What the honest prover is given in one run.
+/// What one run draws.
 #[derive(Debug, Clone, PartialEq, Eq)]
 pub struct Order {
     pub sheet: [u32; SHEET_WORDS],
@@ -147,54 +64,156 @@ pub struct Order {
 }
 
 impl Order {
-    /// The honest prover's file, out of an output that is long enough for every order.
-    pub fn file(&self) -> Vec<u8> {
-        let mut file = vec![0; 67 * BLOCK_BYTES];
-        match prove(&self.sheet, &self.coefficients, &self.coins, &mut file) {
-            Answer::Done(blocks) => file.truncate(BLOCK_BYTES * blocks as usize),
-            Answer::Refused { .. } => file.clear(),
+    /// The verdict line of the honest file.
+    fn judged(&self) -> String {
+        let mut output = vec![0; ROOM];
+        match prove(&self.sheet, &self.coefficients, &self.coins, &mut output) {
+            Answer::Done(blocks) => line(verify(&output[..blocks as usize * BLOCK_BYTES])),
+            refused => panic!("the load draws only what prove takes: {refused:?} for {self}"),
         }
-        file
     }
 
-    /// What honesty promises: accepted, with k reads for each shift and final coin.
-    pub fn promised(&self) -> Verdict {
-        let coins: u32 = self.sheet[6..].iter().sum();
-        Verdict {
+    /// The line that an honest file is promised: accepted, with k reads for each of
+    /// the t_0 to t_M coins. The counts past t_M are zero.
+    pub fn promised(&self) -> String {
+        let counts: u32 = self.sheet[6..].iter().sum();
+        line(Verdict {
             outcome: Outcome::Accepted,
-            reads: u64::from(self.sheet[3] * coins),
-        }
+            reads: u64::from(self.sheet[3] * counts),
+        })
     }
 }
 
-/// Three lists of words with bars between them.
+/// Sheet, coefficients and coins, with bars between them.
 impl fmt::Display for Order {
     fn fmt(&self, f: &mut fmt::Formatter) -> fmt::Result {
-        let listed = |words: &[u32]| words.iter().map(u32::to_string).collect::<Vec<_>>();
-        let parts = [&self.sheet[..], &self.coefficients, &self.coins];
-        f.write_str(&parts.map(|words| listed(words).join(" ")).join(" | "))
-    }
-}
-
-/// The runs of a seed other than 0, on one generator.
-pub fn orders(seed: u32) -> impl Iterator<Item = Order> {
-    let mut generator = Generator { v: seed };
-    (0..RUNS).map(move |_| generator.order())
-}
-
-/// What is printed for a seed, line by line.
-pub fn lines(seed: u32) -> Vec<String> {
-    lines_by(seed, |order| verify(&order.file()))
-}
-
-/// The same, with the verdicts of the honest files got in another way.
-pub fn lines_by(seed: u32, verdict: impl Fn(&Order) -> Verdict) -> Vec<String> {
-    if seed == 0 {
-        let outcome = Outcome::Refused {
-            number: 12,
-            place: 0,
+        let listed = |words: &[u32]| {
+            let texts: Vec<String> = words.iter().map(u32::to_string).collect();
+            texts.join(" ")
         };
-        return vec![line(Verdict { outcome, reads: 0 })];
+        let sheet = listed(&self.sheet);
+        let coefficients = listed(&self.coefficients);
+        let coins = listed(&self.coins);
+        write!(f, "{sheet} | {coefficients} | {coins}")
     }
-    orders(seed).map(|order| line(verdict(&order))).collect()
+}
+
+/// The values that the rule of the next sheet word permits after these words, lowest
+/// first. There may be none, and there are none past the sheet.
+pub fn permitted(words: &[u32]) -> Vec<u32> {
+    match *words {
+        [] => vec![0, 1, 2],
+        [field] => {
+            let p = Field::numbered(field).expect("a drawn field").p;
+            let mut sizes = powers_of_two(4, 4096);
+            sizes.retain(|&n0| (p - 1).is_multiple_of(u64::from(n0)));
+            sizes
+        }
+        [_, n0] => powers_of_two(2, n0 / 2),
+        [_, _, d0] => powers_of_two(2, d0.min(16)),
+        [_, _, d0, k] => (0..=5).filter(|&m| k.pow(m + 1) <= d0).collect(),
+        [_, _, _, _, _] => vec![1, 2],
+        [_, _, d0, k, rounds, s, ref counts @ ..] => {
+            let i = counts.len() as u32;
+            if i > 5 {
+                vec![]
+            } else if i > rounds {
+                vec![0]
+            } else if i == rounds {
+                (1..=MOST_COINS).collect()
+            } else {
+                // d_(i+1), which is at least k here.
+                let bound = d0 / k.pow(i + 1);
+                (1..=MOST_COINS).filter(|t| t + s < bound).collect()
+            }
+        }
+    }
+}
+
+/// The powers of two from the least to the most.
+fn powers_of_two(least: u32, most: u32) -> Vec<u32> {
+    (least..=most).filter(|n| n.is_power_of_two()).collect()
+}
+
+/// The generator; v is not 0.
+#[derive(Debug, Clone, PartialEq, Eq)]
+pub struct Generator {
+    pub v: u32,
+}
+
+impl Generator {
+    /// Replaces v and answers the new one. A shift to the left loses what leaves the 32 bits.
+    pub fn step(&mut self) -> u32 {
+        self.v ^= self.v << 13;
+        self.v ^= self.v >> 17;
+        self.v ^= self.v << 5;
+        self.v
+    }
+
+    /// Picks among the numbers below a limit: the remainder of the new v.
+    pub fn below(&mut self, limit: u64) -> u32 {
+        (u64::from(self.step()) % limit) as u32
+    }
+
+    /// Everything that one run draws, in order.
+    pub fn order(&mut self) -> Order {
+        let words = self.sheet();
+        let sheet = Sheet::read(&words).expect("a drawn sheet keeps its rules");
+        let coefficients = self.several(sheet.d0, sheet.field.p);
+        let coins = self.coins(&sheet);
+        Order {
+            sheet: words,
+            coefficients,
+            coins,
+        }
+    }
+
+    /// The words of a sheet, one step each, also where a single value is permitted. A
+    /// word without any takes no step and leaves the rest undrawn.
+    pub fn sheet(&mut self) -> [u32; SHEET_WORDS] {
+        let mut words = [0; SHEET_WORDS];
+        for place in 0..SHEET_WORDS {
+            let values = permitted(&words[..place]);
+            if values.is_empty() {
+                return WORKED_SHEET;
+            }
+            words[place] = values[self.below(values.len() as u64) as usize];
+        }
+        words
+    }
+
+    /// The full coin list in file order.
+    fn coins(&mut self, sheet: &Sheet) -> Vec<u32> {
+        let p = sheet.field.p;
+        let subgroup = Subgroup::of(sheet);
+        let indices = |i: usize| (sheet.n(i) / sheet.k) as u64;
+
+        // Fold coin 0.
+        let mut coins = vec![self.below(p)];
+        for i in 1..=sheet.rounds {
+            let domain = subgroup.domain(i);
+            for _ in 0..sheet.outs {
+                coins.push(self.out_coin(p, &domain));
+            }
+            // The combination coin, then fold coin i.
+            coins.extend(self.several(2, p));
+            coins.extend(self.several(sheet.t[i - 1], indices(i - 1)));
+        }
+        let last = sheet.rounds;
+        coins.extend(self.several(sheet.t[last], indices(last)));
+        coins
+    }
+
+    /// An out coin, picked among all elements and drawn again while it lies inside its
+    /// domain. No domain has 0, which is taken when the last draw lies inside too.
+    pub fn out_coin(&mut self, p: u64, domain: &[u64]) -> u32 {
+        let mut draws = (0..1 + MOST_AGAIN).map(|_| self.below(p));
+        let outside = draws.find(|&coin| !domain.contains(&u64::from(coin)));
+        outside.unwrap_or(0)
+    }
+
+    /// So many words below one limit, one step each.
+    fn several(&mut self, count: usize, limit: u64) -> Vec<u32> {
+        (0..count).map(|_| self.below(limit)).collect()
+    }
 }

@@ -9,6 +9,13 @@ extern "C" {
 
     pub fn tevrolig_word(file: *const u8, length: usize, number: u64, word: &mut u32) -> u32;
 
+    pub fn tevrolig_sheet_of(
+        file: *const u8,
+        length: usize,
+        output: *mut u32,
+        output_length: usize,
+    ) -> u32;
+
     pub fn tevrolig_sum(field: u32, a: u32, b: u32, element: &mut u32) -> u32;
     pub fn tevrolig_difference(field: u32, a: u32, b: u32, element: &mut u32) -> u32;
     pub fn tevrolig_product(field: u32, a: u32, b: u32, element: &mut u32) -> u32;

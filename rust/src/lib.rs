@@ -3,6 +3,10 @@
 //! The archive's functions are proved against the written definition for every input; they allocate nothing and keep no state. What
 //! stands here only hands slices over and names the answers: it has no rule of its own.
 //!
+//! To depend on it, write the archive with `rt staticlib tevrolig` at the top of the repository, and name this folder in `Cargo.toml`:
+//! `tevrolig = { path = "../tevrolig/rust" }`. Where the archive stands elsewhere, as after `tools/install`, the environment variable
+//! `TEVROLIG_LIB_DIR` names its folder (`TEVROLIG_LIB_DIR=/usr/local/lib cargo build`).
+//!
 //! ```
 //! use tevrolig::{verify, word, Outcome, Refusal};
 //!
@@ -27,7 +31,10 @@ mod verdict;
 
 pub use field::{Field, Powered};
 pub use order::{encode, prove, OrderRefusal};
-pub use verdict::{verify, word, Outcome, Refusal, Verdict};
+pub use verdict::{place_sheet, sheet_of, verify, word, Outcome, Refusal, Verdict};
+
+/// The version of this interface, which is the header's `TEVROLIG_VERSION`.
+pub const VERSION: &str = env!("CARGO_PKG_VERSION");
 
 /// Bytes of a block: its words and a check word.
 pub const BLOCK_BYTES: usize = 512;
@@ -39,7 +46,7 @@ pub const BLOCK_WORDS: usize = 127;
 pub const SHEET_WORDS: usize = 12;
 
 /// No file with more blocks is accepted, and no order needs more.
-pub const MOST_BLOCKS: usize = 67;
+pub const MAX_BLOCKS: usize = 67;
 
 /// What document 01 calls the words of the sheet.
 const SHEET_NAMES: [&str; SHEET_WORDS] = [

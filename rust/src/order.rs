@@ -109,7 +109,7 @@ impl std::error::Error for OrderRefusal {}
 /// Writes the honest prover's file to the front of the output and answers its number of blocks; the bytes after them are as before.
 ///
 /// There are d0 coefficients, lowest first. The coins are in the order in which the stream has them: fold coin 0; for each round i from 1 to
-/// M its out coins, combination coin, fold coin i and shift indices; at last the final indices. [`MOST_BLOCKS`](crate::MOST_BLOCKS) blocks
+/// M its out coins, combination coin, fold coin i and shift indices; at last the final indices. [`MAX_BLOCKS`](crate::MAX_BLOCKS) blocks
 /// are enough for every order, and an empty output asks for the size.
 ///
 /// ```

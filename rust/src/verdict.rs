@@ -1,6 +1,6 @@
 //! The judge: verdicts, and the words that they are about.
 
-use crate::{archive, broken_sheet};
+use crate::{archive, broken_sheet, SHEET_WORDS};
 use std::fmt::{self, Display, Formatter};
 
 /// Why a file is refused: the first test that fails, and the first place where it does.
@@ -233,4 +233,27 @@ pub fn word(file: &[u8], number: u64) -> Option<u32> {
     let found =
         unsafe { archive::tevrolig_word(file.as_ptr(), file.len(), number, &mut word) } == 1;
     found.then_some(word)
+}
+
+/// The sheet that a file holds, judged or not: the words 0 to 11 of its stream. Nothing where the file has less than one block.
+///
+/// ```
+/// let file = include_bytes!("../../examples/worked-transcript");
+/// assert_eq!(tevrolig::sheet_of(file), Some([0, 16, 8, 2, 1, 1, 1, 1, 0, 0, 0, 0]));
+/// assert_eq!(tevrolig::sheet_of(&file[..511]), None);
+/// ```
+#[must_use]
+pub fn sheet_of(file: &[u8]) -> Option<[u32; SHEET_WORDS]> {
+    let mut sheet = [0; SHEET_WORDS];
+    place_sheet(file, &mut sheet).then_some(sheet)
+}
+
+/// Places the same words at the front of an output, and answers whether they were placed: not where the file has less than one block or the
+/// output less than [`SHEET_WORDS`] words. Nothing else is written.
+pub fn place_sheet(file: &[u8], output: &mut [u32]) -> bool {
+    // SAFETY: as the archive's module says.
+    let number = unsafe {
+        archive::tevrolig_sheet_of(file.as_ptr(), file.len(), output.as_mut_ptr(), output.len())
+    };
+    number == 0
 }

@@ -1,4 +1,4 @@
-//! A word of the stream in the archive against the model, which reads only words that are there.
+//! A word of the stream in the archive, and the sheet, against the model, which reads only words that are there.
 
 use tevrolig_model::generate::Rng;
 use tevrolig_model::stream::read_word;
@@ -66,4 +66,27 @@ fn the_places_of_refusals_are_words_of_the_file() {
     assert_eq!(stream[..6], [0, 16, 8, 2, 1, 1]);
     assert_eq!(stream[37..45], [0, 5, 3, 4, 0, 14, 11, 1]);
     assert!(stream[45..].iter().all(|&word| word == 0));
+}
+
+#[test]
+fn the_sheet_of_files_and_outputs_of_every_length() {
+    let file = random_file(&mut Rng::new(3), 1100);
+    for length in 0..=file.len() {
+        let file = &file[..length];
+        let held = expected(file, 11).is_some();
+        let sheet: Vec<u32> = (0..12).filter_map(|number| expected(file, number)).collect();
+        assert_eq!(
+            tevrolig::sheet_of(file).map(Vec::from),
+            held.then(|| sheet.clone())
+        );
+        for room in 0..30 {
+            let before: Vec<u32> = (1000..1000 + room).collect();
+            let mut output = before.clone();
+            let placed = tevrolig::place_sheet(file, &mut output);
+            assert_eq!(placed, held && 12 <= room, "{length} bytes, {room} words");
+            let written = if placed { 12 } else { 0 };
+            assert_eq!(output[..written], sheet[..written]);
+            assert_eq!(output[written..], before[written..]);
+        }
+    }
 }

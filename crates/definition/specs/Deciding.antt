@@ -30,6 +30,7 @@ pub record Place : Type 0 where
   pub number : ℕ
 
 -- A function on a domain: its value at each point number, and the table places that one value is worked out from.
+-- In the literature: a virtual oracle.
 pub record Function (A : Type 0) : Type 0 where
   pub value : ℕ → A
   pub places : ℕ → List Place
@@ -43,6 +44,7 @@ unfoldable pub placesOf : Level → (ℕ → List Place) → List ℕ → List P
 placesOf l places js = flatMap (λ j. flatMap places (rootNumbers l j)) js
 
 -- the reads: table words used, repeats counted
+-- In the literature: queries to the oracles.
 unfoldable pub readsOf : List Place → ℕ
 readsOf used = length used
 
@@ -55,6 +57,7 @@ module _ {A : Type 0} (F : Field A) (ω : A) where
   open Field F using (𝟘, equal)
 
   -- G_i's list: the out coins with their replies, then the shift points of the level b before, with the fold of f_(i-1) by fold coin r
+  -- In the literature: the set G_i with the function Ans_i on it.
   unfoldable pub answers : Level → (ℕ → A) → A → Round A → List (Sample A)
   answers b f r ρ =
       pair (ρ .coins .outs) (ρ .replies)

@@ -1,7 +1,7 @@
 // The points of domain 0 as a table, which holds those of every later domain, and membership in a domain, of one word and of a run of words.
 use outcome::Found;
 ghost use mathlib.Core.Path.{_≡_};
-ghost use Prim.Native.Nat.{ℕ, _+_, _*_, _%_, _≤_, _<_};
+ghost use Prim.Native.Nat.{ℕ, _+_, _-_, _*_, _≤_, _<_};
 ghost use lib.ListN.{length, getD, take};
 ghost use Rattle.definition.specs.Field.{Field, generatorOf, fieldOf, power};
 ghost use Rattle.definition.specs.Reading.{sheetTest};
@@ -44,15 +44,15 @@ fn by_products(field: u32, w: u32, out: &mut [u32])
     }
 }
 
-// Every step-th of the stored powers, the first last: its place is 4096, which is 0 again.
+// Every step-th of the stored powers, from the step-th on.
 fn from_stored(table: &[u32], step: usize, out: &mut [u32])
-    requires { ⌜ length (now table) ≡ 4096 ⌝ }
-    requires { ⌜ step * length (now out) ≡ 4096 ⌝ }
-    ensures { λ r. ⌜ ((e : ℕ) → e < length (now (out .entry)) → getD (now (out .exit)) e 0 ≡ getD (now (table .entry)) (step * (1 + e) % 4096) 0) ⌝ }
+    requires { ⌜ (0 < step) × (length (now table) ≤ 4096) ⌝ }
+    requires { ⌜ step * length (now out) ≡ length (now table) ⌝ }
+    ensures { λ r. ⌜ ((e : ℕ) → e < length (now (out .entry)) → getD (now (out .exit)) e 0 ≡ getD (now (table .entry)) (step * (1 + e) - 1) 0) ⌝ }
 {
     let mut e: usize = 0;
     while e < out.len() {
-        out[e] = table[step * (1 + e) % 4096];
+        out[e] = table[step * (1 + e) - 1];
         e += 1;
     }
 }
@@ -64,7 +64,14 @@ pub fn points_room() -> [u32; 4096]
     [0u32; 4096]
 }
 
-// The points of domain 0, which are the powers of ω from the first on. The larger field reads them from the stored table.
+// The same, at most 256: a small sheet is spared the clearing of many places.
+pub fn few_points_room() -> [u32; 256]
+    ensures { λ r. ⌜ length r ≡ 256 ⌝ }
+{
+    [0u32; 256]
+}
+
+// The points of domain 0, which are the powers of ω from the first on. The larger field reads them from a stored table, the smaller where it is enough.
 pub fn points(field: u32, size: usize, out: &mut [u32])
     requires { ⌜ Fitting field size ⌝ }
     requires { ⌜ length (now out) ≡ size ⌝ }
@@ -72,16 +79,19 @@ pub fn points(field: u32, size: usize, out: &mut [u32])
 {
     if field < 2 {
         by_products(field, root_of(field, size), out);
+    } else if size <= 256 {
+        let table = powers::stored_few();
+        from_stored(&table, 256 / size, out);
     } else {
         let table = powers::stored();
         from_stored(&table, 4096 / size, out);
     }
 }
 
-// The points of domain 0 of a sheet w that passes, in the first of the places lent. The answer is their number.
-pub fn of_sheet(w: &[u32], pw: &mut [u32]) -> usize
+// The points of domain 0 of a sheet w that passes, in the first of the places lent, which are enough. The answer is their number.
+pub fn of_sheet_within(w: &[u32], pw: &mut [u32]) -> usize
     requires { ⌜ (12 ≤ length (now w)) × (sheetTest (now w) ≡ accepted) ⌝ }
-    requires { ⌜ length (now pw) ≡ 4096 ⌝ }
+    requires { ⌜ getD (now w) 1 0 ≤ length (now pw) ⌝ }
     ensures { λ r. ⌜ (r ≡ getD (now (w .entry)) 1 0) × (r ≤ 4096) ⌝ }
     ensures { λ r.
         ⌜ (Powers (getD (now (w .entry)) 0 0) (rootOfUnity (sheetOf (now (w .entry)))) (take r (now (pw .exit)))) × (length (take r (now (pw .exit))) ≡ getD (now (w .entry)) 1 0) ⌝ }
@@ -89,6 +99,17 @@ pub fn of_sheet(w: &[u32], pw: &mut [u32]) -> usize
     let size = w[1] as usize;
     points(w[0], size, &mut pw[..size]);
     size
+}
+
+// The same, with places for the points of every sheet.
+pub fn of_sheet(w: &[u32], pw: &mut [u32]) -> usize
+    requires { ⌜ (12 ≤ length (now w)) × (sheetTest (now w) ≡ accepted) ⌝ }
+    requires { ⌜ length (now pw) ≡ 4096 ⌝ }
+    ensures { λ r. ⌜ (r ≡ getD (now (w .entry)) 1 0) × (r ≤ 4096) ⌝ }
+    ensures { λ r.
+        ⌜ (Powers (getD (now (w .entry)) 0 0) (rootOfUnity (sheetOf (now (w .entry)))) (take r (now (pw .exit)))) × (length (take r (now (pw .exit))) ≡ getD (now (w .entry)) 1 0) ⌝ }
+{
+    of_sheet_within(w, pw)
 }
 
 // Does x lie in domain i, whose points stand at every scale-th place of the table? scale is 2^i.

@@ -1,38 +1,22 @@
 // The program `domains`: reads a sheet on standard input, as words, and prints whether it keeps its rules and, where it does, its evaluation domains, round
 // by round. The points of domain 0 are table 0 of the polynomial X, and those of domain i are every 2^i-th of them.
-use intake::Taken;
 use libc::STDIN_FILENO;
 use libc::STDOUT_FILENO;
 use outcome::Answer;
 ghost use Prim.Native.Nat.{_<_};
 
 fn main() {
-    let mut words = [0u32; 4096];
-    let taken = intake::words(STDIN_FILENO, &mut words);
-    let Taken::Words(count) = taken else {
-        report::refuse(STDOUT_FILENO, 10, 0);
-        return;
-    };
-    let mut x = [0u32; 2048];
-    x[1] = 1;
+    let mut bytes = [0u8; 16384];
+    let n = io::read_full(STDIN_FILENO, &mut bytes);
     let mut points = [0u32; 4096];
-    let answer = encode::encode(
-        intake::front(&words, count),
-        intake::front(&x, intake::degree_bound(&words)),
-        &mut points,
-    );
+    let answer = intake::encode_input(&bytes[..n], &mut points);
     match answer {
-        Answer::Done(size) => show(rounds(&words), intake::front(&points, size)),
+        Answer::Done(size) => show(
+            intake::rounds_input(&bytes[..n]),
+            intake::front(&points, size),
+        ),
         Answer::Refusal(number, place) => report::refuse(STDOUT_FILENO, number, place),
     }
-}
-
-// The number of rounds, M.
-fn rounds(words: &[u32]) -> u32 {
-    if words.len() < 5 {
-        return 0;
-    }
-    words[4]
 }
 
 // A line for each domain: its number and its points.

@@ -12,15 +12,21 @@ ghost use Rattle.definition.specs.Sheet.{firstLevel, rootOfUnity, sheetOf};
 ghost use Rattle.definition.specs.Verdict.{accepted};
 ghost use Rattle.outcome.specs.Meaning.{answerOf};
 
-// Table 0 of the coefficients f, for a sheet w that passes.
+// Table 0 of the coefficients f, for a sheet w that passes. A small one is spared the clearing of many places.
 fn first_table(w: &[u32], f: &[u32], out: &mut [u32])
     requires { ⌜ (12 ≤ length (now w)) × (sheetTest (now w) ≡ accepted) ⌝ }
     requires { ⌜ (length (now f) ≡ getD (now w) 2 0) × (length (now out) ≡ getD (now w) 1 0) ⌝ }
     ensures { λ _. ⌜ now (out .exit) ≡ tableOf (primeField (sheetOf (now (w .entry)) .prime)) (rootOfUnity (sheetOf (now (w .entry)))) (firstLevel (sheetOf (now (w .entry)))) (now (f .entry)) ⌝ }
 {
-    let mut pw = domain::points_room();
-    let size = domain::of_sheet(w, &mut pw);
-    tables::on_domain(w[0], f, &pw[..size], 1, out);
+    if w[1] <= 256 {
+        let mut few = domain::few_points_room();
+        let count = domain::of_sheet_within(w, &mut few);
+        tables::on_domain(w[0], f, &few[..count], 1, out);
+    } else {
+        let mut pw = domain::points_room();
+        let size = domain::of_sheet(w, &mut pw);
+        tables::on_domain(w[0], f, &pw[..size], 1, out);
+    }
 }
 
 // The answer to an order, and the whole output as it then is. No refusal is found after the first word is written.

@@ -1,4 +1,2 @@
-pub mod Turns
 pub mod Stored
-pub mod Rounds
 pub mod Onward

@@ -19,7 +19,7 @@ use Rattle.completeness.specs.SheetLevels.{enough-words}
 use Rattle.domain.specs.Powers.{Powers}
 use Rattle.sheet.specs.Bounds.{ranges}
 use Rattle.sheet.specs.Sizes.{coins-due-sum}
-use Rattle.honest.specs.Standing.{DealtFrom, Standing, fieldAt, levelsAfter, restCount, restFrom, rootAt, wordsFrom}
+use Rattle.honest_round.specs.Standing.{DealtFrom, Standing, fieldAt, levelsAfter, restCount, restFrom, rootAt, wordsFrom}
 
 module _ {w f coins : List ℕ} (ok : Allowed w f coins) where
   pub first-standing : (pw : List ℕ) → Powers (getD w 0 0) (rootAt w) pw → length pw ≡ getD w 1 0 → Standing w pw 0 1 (length f)
@@ -33,6 +33,11 @@ module _ {w f coins : List ℕ} (ok : Allowed w f coins) where
     scaled = sym (pow-zero 2);
     degree = allowed-degree ok ∙ sym (undivided (getD w 2 0) (getD w 3 0));
   }
+
+  -- the number of coefficients
+  pub first-count : length f ≡ getD w 2 0
+  unfolding sheetOf
+  first-count = allowed-degree ok
 
   -- there is fold coin 0
   pub first-coin : 0 < length coins

@@ -1,41 +1,46 @@
-// Words from a descriptor, least significant byte first.
-
+// What the programs `prove` and `domains` answer to the bytes that they read. No operation asks anything of its caller.
+use outcome::Answer;
 ghost use mathlib.Core.Path.{_≡_};
-ghost use Prim.Native.Nat.{ℕ, _*_, _≤_, _<_};
+ghost use Prim.Native.Nat.{_/_, _≤_};
 ghost use lib.ListN.{length, getD, take, drop};
-ghost use Rattle.stream.specs.FileWords.{wordAt};
-// What a descriptor gave: so many words, or bytes that are no whole words.
-pub enum Taken {
-    Words(usize),
-    Ragged,
+ghost use Rattle.outcome.specs.Meaning.{answerOf};
+ghost use Rattle.stream.specs.Overwriting.{overwrite};
+ghost use Rattle.intake.specs.Input.{taken as takenOf, wordsOf, takeWords, sheetPart, coefficientsPart, coinsPart, proveWords, proveInput, monomial, encodeWords, encodeInput, roundsInput};
+
+// The bytes that count: the first 16,384, or all.
+fn taken(bytes: &[u8]) -> &[u8]
+    ensures { λ r. ⌜ now r ≡ takenOf (now (bytes .entry)) ⌝ }
+{
+    if bytes.len() <= 16384 {
+        return bytes;
+    }
+    &bytes[..16384]
 }
 
-// Places `count` words, each of four bytes.
-fn place(bytes: &[u8], count: usize, words: &mut [u32])
-    requires { ⌜ (4 * count ≤ length (now bytes)) × (count ≤ length (now words)) ⌝ }
-    ensures { λ _. ⌜ ((i : ℕ) → i < count → getD (now (words .exit)) i 0 ≡ wordAt (now (bytes .entry)) (4 * i)) ⌝ }
+// The words of the bytes, at the front of the output.
+fn place(bytes: &[u8], output: &mut [u32])
+    requires { ⌜ length (now bytes) / 4 ≤ length (now output) ⌝ }
+    ensures { λ _. ⌜ now (output .exit) ≡ overwrite (now (output .entry)) 0 (wordsOf (now (bytes .entry))) ⌝ }
 {
+    let count = bytes.len() / 4;
     let mut i = 0;
     while i < count {
-        words[i] = stream::word(bytes, 4 * i);
+        output[i] = stream::word(bytes, 4 * i);
         i += 1;
     }
 }
 
-// As many words as there are places for, of at most the first 16,384 bytes. No order that the prover takes is so long.
-pub fn words(fd: i32, words: &mut [u32]) -> Taken {
-    let mut bytes = [0u8; 16384];
-    let n = io::read_full(fd, &mut bytes);
-    if n % 4 != 0 {
-        return Taken::Ragged;
+// The words of an input, at the front of the output; done with their number. Refused where the input is no whole number of words.
+pub fn words(bytes: &[u8], output: &mut [u32; 4096]) -> Answer
+    ensures { λ r. ⌜ answerOf r ≡ takeWords (now (bytes .entry)) (now (output .entry)) .answer ⌝ }
+    ensures { λ r. ⌜ now (output .exit) ≡ takeWords (now (bytes .entry)) (now (output .entry)) .output ⌝ }
+{
+    let counted = taken(bytes);
+    if counted.len() % 4 != 0 {
+        return Answer::Refusal(10, 0);
     }
-    let count = n / 4;
-    if words.len() < count {
-        place(&bytes, words.len(), words);
-        return Taken::Words(words.len());
-    }
-    place(&bytes, count, words);
-    Taken::Words(count)
+    place(counted, output);
+    Answer::Done(counted.len() / 4)
 }
 
 // The first `count` words, or all.
@@ -49,7 +54,7 @@ pub fn front(words: &[u32], count: usize) -> &[u32]
 }
 
 // The words after the first `count`, or none.
-pub fn after(words: &[u32], count: usize) -> &[u32]
+fn after(words: &[u32], count: usize) -> &[u32]
     ensures { λ r. ⌜ now r ≡ drop count (now (words .entry)) ⌝ }
 {
     if words.len() < count {
@@ -58,12 +63,101 @@ pub fn after(words: &[u32], count: usize) -> &[u32]
     &words[count..]
 }
 
-// The sheet's d0, which says how many coefficients an order has; 0 where the word is missing.
-pub fn degree_bound(words: &[u32]) -> usize
+// Word 2 of a sheet, d0, which says how many coefficients an order has; 0 where it is missing.
+fn degree_bound(words: &[u32]) -> usize
     ensures { λ r. ⌜ r ≡ getD (now (words .entry)) 2 0 ⌝ }
 {
     if words.len() < 3 {
         return 0;
     }
     words[2] as usize
+}
+
+// The sheet of an order: its first 12 words.
+pub fn sheet(words: &[u32]) -> &[u32]
+    ensures { λ r. ⌜ now r ≡ sheetPart (now (words .entry)) ⌝ }
+{
+    front(words, 12)
+}
+
+// The coefficients of an order: the next d0 words.
+pub fn coefficients(words: &[u32]) -> &[u32]
+    ensures { λ r. ⌜ now r ≡ coefficientsPart (now (words .entry)) ⌝ }
+{
+    front(after(words, 12), degree_bound(words))
+}
+
+// The coins of an order: the rest.
+pub fn coins(words: &[u32]) -> &[u32]
+    ensures { λ r. ⌜ now r ≡ coinsPart (now (words .entry)) ⌝ }
+{
+    after(after(words, 12), degree_bound(words))
+}
+
+// The answer to the order in the first `count` words, and the whole output as it then is.
+fn prove_words(words: &[u32; 4096], count: usize, output: &mut [u8]) -> Answer
+    ensures { λ r. ⌜ answerOf r ≡ proveWords (take count (now (words .entry))) (now (output .entry)) .answer ⌝ }
+    ensures { λ r. ⌜ now (output .exit) ≡ proveWords (take count (now (words .entry))) (now (output .entry)) .output ⌝ }
+{
+    let order = front(words, count);
+    let given = sheet(order);
+    let f = coefficients(order);
+    let rest = coins(order);
+    prove::prove(given, f, rest, output)
+}
+
+// The program `prove`: the answer to the order that an input holds, and the whole output as it then is.
+pub fn prove_input(bytes: &[u8], output: &mut [u8]) -> Answer
+    ensures { λ r. ⌜ answerOf r ≡ proveInput (now (bytes .entry)) (now (output .entry)) .answer ⌝ }
+    ensures { λ r. ⌜ now (output .exit) ≡ proveInput (now (bytes .entry)) (now (output .entry)) .output ⌝ }
+{
+    let mut room = [0u32; 4096];
+    let read = words(bytes, &mut room);
+    match read {
+        Answer::Done(count) => prove_words(&room, count, output),
+        Answer::Refusal(number, place) => Answer::Refusal(number, place),
+    }
+}
+
+// The polynomial X, with as many coefficients as any sheet asks for.
+fn x_coefficients() -> [u32; 2048]
+    ensures { λ r. ⌜ r ≡ monomial ⌝ }
+{
+    let mut x = [0u32; 2048];
+    x[1] = 1;
+    x
+}
+
+// The points of domain 0 of the sheet in the first `count` words, and the whole output as it then is.
+fn encode_words(words: &[u32; 4096], count: usize, output: &mut [u32]) -> Answer
+    ensures { λ r. ⌜ answerOf r ≡ encodeWords (take count (now (words .entry))) (now (output .entry)) .answer ⌝ }
+    ensures { λ r. ⌜ now (output .exit) ≡ encodeWords (take count (now (words .entry))) (now (output .entry)) .output ⌝ }
+{
+    let given = front(words, count);
+    let x = x_coefficients();
+    encode::encode(given, front(&x, degree_bound(given)), output)
+}
+
+// The program `domains`: the points of domain 0 of the sheet that an input holds, and the whole output as it then is.
+pub fn encode_input(bytes: &[u8], output: &mut [u32]) -> Answer
+    ensures { λ r. ⌜ answerOf r ≡ encodeInput (now (bytes .entry)) (now (output .entry)) .answer ⌝ }
+    ensures { λ r. ⌜ now (output .exit) ≡ encodeInput (now (bytes .entry)) (now (output .entry)) .output ⌝ }
+{
+    let mut room = [0u32; 4096];
+    let read = words(bytes, &mut room);
+    match read {
+        Answer::Done(count) => encode_words(&room, count, output),
+        Answer::Refusal(number, place) => Answer::Refusal(number, place),
+    }
+}
+
+// M of the sheet that an input holds, 0 where it is missing.
+pub fn rounds_input(bytes: &[u8]) -> u32
+    ensures { λ r. ⌜ r ≡ roundsInput (now (bytes .entry)) ⌝ }
+{
+    let counted = taken(bytes);
+    if counted.len() < 20 {
+        return 0;
+    }
+    stream::word(counted, 16)
 }

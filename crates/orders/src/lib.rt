@@ -59,12 +59,17 @@ fn coin_inside(w: &[u32], pw: &[u32], coins: &[u32]) -> Found
     Found::Nothing
 }
 
-// Refusal 7 of prove: the same, with the table of points made for it.
+// Refusal 7 of prove: the same, with the table of points made for it. A small sheet is spared the clearing of many places.
 fn coin_in_domain(w: &[u32], coins: &[u32]) -> Found
     requires { ⌜ (12 ≤ length (now w)) × (sheetTest (now w) ≡ accepted) ⌝ }
     requires { ⌜ length (now coins) ≡ length (coinKinds (layout (sheetOf (now w)))) ⌝ }
     ensures { λ r. ⌜ refuseAt 7 (placeOf r) ≡ coinDomainTest (sheetOf (now (w .entry))) (now (coins .entry)) ⌝ }
 {
+    if w[1] <= 256 {
+        let mut few = domain::few_points_room();
+        let count = domain::of_sheet_within(w, &mut few);
+        return coin_inside(w, &few[..count], coins);
+    }
     let mut pw = domain::points_room();
     let size = domain::of_sheet(w, &mut pw);
     coin_inside(w, &pw[..size], coins)

@@ -25,7 +25,7 @@ abbrev pub iterate : (ℕ → ℕ) → ℕ → ℕ → ℕ
 iterate next x zero = x
 iterate next x (suc n) = next (iterate next x n)
 
-first-apart : (next : ℕ → ℕ) (x n : ℕ) → iterate next (next x) n ≡ next (iterate next x n)
+pub first-apart : (next : ℕ → ℕ) (x n : ℕ) → iterate next (next x) n ≡ next (iterate next x n)
 first-apart next x zero = refl
 first-apart next x (suc n) = ap next (first-apart next x n)
 

@@ -1,30 +1,37 @@
--- The stored table's rule: the first is 1, and each next is the one before times the ω of n0 = 4096. Assumes nothing.
+-- The rule of a stored table: the first is the ω of its size, and each next is the one before times ω. Assumes nothing.
 use mathlib.Core.Path.{_≡_, _∙_, sym, ap, refl, subst⁻¹}
 use mathlib.Core.List.{List}
-use Prim.Native.Nat.{ℕ, zero, suc, _*_, _%_, _<_}
+use Prim.Native.Nat.{ℕ, zero, suc, _+_, _*_, _%_, _<_}
+use native.Mathlib.Omega.{arith}
 use lib.Dec.{T}
 use lib.ListN.{length}
 use Rattle.definition.specs.Field.{digitsWithin, binaryDigits, squaring, powerMod, primeField, primeOf, generatorOf, fieldOf, power}
 use Rattle.algebra.specs.PowerBySquaring.{powerMod-is}
 use Rattle.powers.specs.Root.{root, Stored}
-use Rattle.powers.proofs.Chain.{chain, iterate, at}
+use Rattle.powers.proofs.Chain.{chain, iterate, at, first-apart}
 
--- the root as a numeral, worked out by squaring
-root-is : root 2 4096 ≡ 1282623253
+-- the roots as numerals, worked out by squaring
+pub root-is : root 2 4096 ≡ 1282623253
 unfolding root primeOf generatorOf digitsWithin binaryDigits squaring powerMod
 root-is = sym (powerMod-is 31 491520 2013265921)
 
-abbrev pub next : ℕ → ℕ
-next x = 1282623253 * x % 2013265921
+pub few-root-is : root 2 256 ≡ 1732600167
+unfolding root primeOf generatorOf digitsWithin binaryDigits squaring powerMod
+few-root-is = sym (powerMod-is 31 7864320 2013265921)
 
-iterate-is : (n : ℕ) → iterate next 1 n ≡ power (fieldOf 2) 1282623253 n
+abbrev pub next : ℕ → ℕ → ℕ
+next ω x = ω * x % 2013265921
+
+iterate-is : (ω n : ℕ) → iterate (next ω) 1 n ≡ power (fieldOf 2) ω n
 unfolding power fieldOf primeField primeOf
-iterate-is zero = refl
-iterate-is (suc n) = ap next (iterate-is n)
+iterate-is ω zero = refl
+iterate-is ω (suc n) = ap (next ω) (iterate-is ω n)
 
-pub stored : (t : List ℕ) → T (chain next 1 t) → length t ≡ 4096 → Stored t
-stored t test long = record {
+pub stored : (n ω : ℕ) → root 2 n ≡ ω → (t : List ℕ) → T (chain (next ω) (next ω 1) t) → length t ≡ n → Stored n t
+stored n ω is t test long = record {
   size = long;
-  entry = λ k h.
-      at next 1 t test k (subst⁻¹ (λ (n : ℕ). k < n) long h) ∙ iterate-is k ∙ ap (λ (ω : ℕ). power (fieldOf 2) ω k) (sym root-is);
+  entry = λ e h.
+      let s : suc e ≡ 1 + e = omega arith in
+      at (next ω) (next ω 1) t test e (subst⁻¹ (λ (m : ℕ). e < m) long h)
+      ∙ first-apart (next ω) 1 e ∙ iterate-is ω (suc e) ∙ (λ i. power (fieldOf 2) (sym is i) (s i));
 }

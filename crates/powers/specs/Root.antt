@@ -1,5 +1,5 @@
--- The root of unity of a field and a size, as the definition has it for a sheet, and what the stored table says. Assumes nothing.
-use Prim.Native.Nat.{ℕ, _-_, _/_, _%_, _^_, _<_}
+-- The root of unity of a field and a size, as the definition has it for a sheet, and what a stored table says. Assumes nothing.
+use Prim.Native.Nat.{ℕ, _+_, _-_, _/_, _%_, _^_, _<_}
 use mathlib.Core.Path.{_≡_}
 use mathlib.Core.List.{List}
 use lib.ListN.{length, getD}
@@ -16,7 +16,7 @@ pub root-of-sheet : (w : List ℕ) → rootOfUnity (sheetOf w) ≡ root (getD w 
 unfolding root rootOfUnity sheetOf
 root-of-sheet w = powerMod-is (generatorOf (getD w 0 0)) ((primeOf (getD w 0 0) - 1) / getD w 1 0) (primeOf (getD w 0 0))
 
--- the list is the 4,096 powers of the ω of n0 = 4096 in field 2, from the power 0 on
-pub record Stored (t : List ℕ) : Type 0 where
-  pub size : length t ≡ 4096
-  pub entry : (k : ℕ) → k < 4096 → getD t k 0 ≡ power (fieldOf 2) (root 2 4096) k
+-- the list is all n powers of the ω of n0 = n in field 2, from the first on
+pub record Stored (n : ℕ) (t : List ℕ) : Type 0 where
+  pub size : length t ≡ n
+  pub entry : (e : ℕ) → e < n → getD t e 0 ≡ power (fieldOf 2) (root 2 n) (1 + e)

@@ -1,6 +1,5 @@
-// The 4096 powers of 1282623253, modulo 2013265921. Written by tools/powers.py.
+// The 4096 powers of 1282623253, modulo 2013265921. Written by tools/powers.py 4096.
 pub const POWERS: [u32; 4096] = [
-    1,
     1282623253,
     1340477990,
     1225983816,
@@ -4096,4 +4095,5 @@ pub const POWERS: [u32; 4096] = [
     989997678,
     449056851,
     1255670133,
+    1,
 ];

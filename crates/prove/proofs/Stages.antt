@@ -7,7 +7,7 @@ use lib.Dec.{ltb}
 use borrow.Author.Tests.{ltb-false}
 use Rattle.definition.specs.Block.{blockCount, fileOf}
 use Rattle.definition.specs.Layout.{wordsDue}
-use Rattle.definition.specs.Prove.{Result, done, finish, outputTest, prove, proveTests, refusal, sheetLengthTest}
+use Rattle.definition.specs.Prove.{Answer, Result, done, finish, outputTest, prove, proveTests, refusal, sheetLengthTest}
 use Rattle.definition.specs.Prover.{honestStream}
 use Rattle.definition.specs.Reading.{sheetTest}
 use Rattle.definition.specs.Sheet.{sheetOf, sheetLength}
@@ -57,3 +57,11 @@ module _ (w f coins output : List ℕ) (r : Outcome) (tested : (out : List ℕ) 
         room = ltb-false (length output) (512 * blocks w) (if-passes 11 (blocks w) (ltb (length output) (512 * blocks w)) (a .1));
         result = d;
       }
+
+-- the answer and the output of the function that writes are the definition's
+pub written-is : {w f coins output output₁ : List ℕ} {due : ℕ} {a : Answer} → Passed w f coins output → due ≡ wordsDue (sheetOf w) → a ≡ done (blockCount due) →
+    output₁ ≡ written w f coins ++ drop (length (written w f coins)) output → (a ≡ prove w f coins output .answer) × (output₁ ≡ prove w f coins output .output)
+written-is p e ea eo = (
+  ea ∙ ap (λ (n : ℕ). done (blockCount n)) e ∙ sym (ap (λ (x : Result). x .answer) (p .result)),
+  eo ∙ sym (ap (λ (x : Result). x .output) (p .result)),
+)

@@ -7,7 +7,7 @@ ghost use Prim.Native.Nat.{_*_, _≤_};
 ghost use lib.ListN.{length, drop};
 ghost use Rattle.definition.specs.Block.{blockCount, fileOf};
 ghost use Rattle.definition.specs.Layout.{wordsDue};
-ghost use Rattle.definition.specs.Prove.{prove};
+ghost use Rattle.definition.specs.Prove.{done, prove};
 ghost use Rattle.definition.specs.Prover.{honestStream};
 ghost use Rattle.definition.specs.Sheet.{sheetOf};
 ghost use Rattle.completeness.specs.Numbered.{Allowed};
@@ -20,17 +20,34 @@ fn room() -> [u32; 8509]
     [0u32; 8509]
 }
 
-// Writes the honest file at the front of the output, by way of the stream's words.
-fn write(sheet: &[u32], coefficients: &[u32], coins: &[u32], words: &mut [u32], output: &mut [u8])
-    requires { ⌜ Allowed (now sheet) (now coefficients) (now coins) ⌝ }
-    requires { ⌜ (length (now words) ≡ wordsDue (sheetOf (now sheet))) × (512 * blockCount (length (now words)) ≤ length (now output)) ⌝ }
-    ensures { λ _. ⌜ now (output .exit) ≡ fileOf (honestStream (now (sheet .entry)) (now (coefficients .entry)) (now (coins .entry))) ++ drop (length (fileOf (honestStream (now (sheet .entry)) (now (coefficients .entry)) (now (coins .entry))))) (now (output .entry)) ⌝ }
+// Places for the words of 8 blocks.
+fn small_room() -> [u32; 1016]
+    ensures { λ r. ⌜ length r ≡ 1016 ⌝ }
 {
-    honest::stream(sheet, coefficients, coins, words);
-    stream::seal(words, words.len(), output);
+    [0u32; 1016]
 }
 
-// The answer to an order, and the whole output as it then is. No refusal is found after the first byte is written.
+// Writes the honest file at the front of the output, by way of the places lent for the stream's words, of which it has `due`. The answer is its number of blocks.
+fn write(
+    sheet: &[u32],
+    coefficients: &[u32],
+    coins: &[u32],
+    due: usize,
+    words: &mut [u32],
+    output: &mut [u8],
+) -> Answer
+    requires { ⌜ Allowed (now sheet) (now coefficients) (now coins) ⌝ }
+    requires { ⌜ (due ≡ wordsDue (sheetOf (now sheet))) × ((due ≤ length (now words)) × (512 * blockCount due ≤ length (now output))) ⌝ }
+    ensures { λ r. ⌜ answerOf r ≡ done (blockCount due) ⌝ }
+    ensures { λ _. ⌜ now (output .exit) ≡ fileOf (honestStream (now (sheet .entry)) (now (coefficients .entry)) (now (coins .entry))) ++ drop (length (fileOf (honestStream (now (sheet .entry)) (now (coefficients .entry)) (now (coins .entry))))) (now (output .entry)) ⌝ }
+{
+    honest::stream(sheet, coefficients, coins, &mut words[..due]);
+    stream::seal(words, due, output);
+    Answer::Done((due + 126) / 127)
+}
+
+// The answer to an order, and the whole output as it then is. No refusal is found after the first byte is written. A short file is spared the clearing of
+// many places.
 pub fn prove(sheet: &[u32], coefficients: &[u32], coins: &[u32], output: &mut [u8]) -> Answer
     ensures { λ r. ⌜ answerOf r ≡ prove (now (sheet .entry)) (now (coefficients .entry)) (now (coins .entry)) (now (output .entry)) .answer ⌝ }
     ensures { λ r. ⌜ now (output .exit) ≡ prove (now (sheet .entry)) (now (coefficients .entry)) (now (coins .entry)) (now (output .entry)) .output ⌝ }
@@ -40,7 +57,10 @@ pub fn prove(sheet: &[u32], coefficients: &[u32], coins: &[u32], output: &mut [u
         return Answer::Refusal(number, place);
     }
     let due = sheet::words_due(sheet);
+    if due <= 1016 {
+        let mut few = small_room();
+        return write(sheet, coefficients, coins, due, &mut few, output);
+    }
     let mut words = room();
-    write(sheet, coefficients, coins, &mut words[..due], output);
-    Answer::Done((due + 126) / 127)
+    write(sheet, coefficients, coins, due, &mut words, output)
 }

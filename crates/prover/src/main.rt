@@ -1,31 +1,15 @@
 // The program `prove`: reads an order on standard input, as words, and writes the honest file on standard output, or a refusal on standard error. An order is
-// the sheet, the coefficients and the coins, one after the other.
-use intake::Taken;
+// the sheet, the coefficients and the coins, one after the other. Of a longer input the first 16,384 bytes are read; no order that is done is so long.
 use libc::STDERR_FILENO;
 use libc::STDIN_FILENO;
 use libc::STDOUT_FILENO;
 use outcome::Answer;
 
 fn main() {
-    let mut words = [0u32; 4096];
-    let taken = intake::words(STDIN_FILENO, &mut words);
-    let Taken::Words(count) = taken else {
-        report::refuse(STDERR_FILENO, 10, 0);
-        return;
-    };
-    order(intake::front(&words, count));
-}
-
-fn order(words: &[u32]) {
-    let rest = intake::after(words, 12);
-    let degree = intake::degree_bound(words);
+    let mut bytes = [0u8; 16384];
+    let n = io::read_full(STDIN_FILENO, &mut bytes);
     let mut output = [0u8; 34304];
-    let answer = prove::prove(
-        intake::front(words, 12),
-        intake::front(rest, degree),
-        intake::after(rest, degree),
-        &mut output,
-    );
+    let answer = intake::prove_input(&bytes[..n], &mut output);
     match answer {
         Answer::Done(blocks) => {
             if !send(&output, blocks) {

@@ -1,3 +1,4 @@
 pub mod Roots
+pub mod Half
 pub mod Turns
 pub mod Shifts

@@ -101,11 +101,11 @@ fn gather(
     }
 }
 
-// What the inversion of 2 answers.
+// What the inversion of 2 answers: (p + 1)/2 is found, since p is odd, and no power is taken.
 fn invert_two(field: u32) -> Inversion
     ensures { λ v. ⌜ inversionOf v ≡ fieldOf field .inverse 2 ⌝ }
 {
-    field::inv(field, 2)
+    Inversion::Found(field::modulus(field) / 2 + 1)
 }
 
 // The values v at x and w at -x, joined; y is 1/x.

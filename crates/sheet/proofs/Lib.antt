@@ -1,2 +1,3 @@
+pub mod DomainSizes
 pub mod RuleLaws
 pub mod SizeLaws

@@ -6,7 +6,7 @@ ghost use mathlib.Core.Bool.{true, not};
 ghost use mathlib.Core.List.{map};
 ghost use Prim.Native.Nat.{_-_, _/_, _^_, _≤_, _<_};
 ghost use lib.Count.{ones};
-ghost use lib.ListN.{length};
+ghost use lib.ListN.{length, getD};
 ghost use Rattle.definition.specs.Block.{blockCount};
 ghost use Rattle.definition.specs.Field.{primeOf};
 ghost use Rattle.definition.specs.Layout.{coinKinds, layout, wordsDue};
@@ -202,7 +202,23 @@ fn round_words(n: usize, s: usize, t: usize) -> usize
     n + 2 * s + 2 + t
 }
 
-// The number of words that a sheet makes due, its own included. At each level n is the domain's size and d the degree bound.
+// The logarithm of n0, read off its single one bit.
+fn size_log(w: &[u32]) -> usize
+    requires { ⌜ (12 ≤ length (now w)) × (sheetTest (now w) ≡ accepted) ⌝ }
+    ensures { λ r. ⌜ getD (now (w .entry)) 1 0 ≡ 2 ^ r ⌝ }
+{
+    log2(w[1]) as usize
+}
+
+// The size of domain i, n0/2^i, for n0 of this logarithm: a single one bit, i places below that of n0.
+fn domain_size(log: usize, i: usize) -> usize
+    requires { ⌜ (i ≤ log) × (log ≤ 12) ⌝ }
+    ensures { λ r. ⌜ r ≡ 2 ^ (log - i) ⌝ }
+{
+    1 << (log - i)
+}
+
+// The number of words that a sheet makes due, its own included. At each level d is the degree bound.
 pub fn words_due(w: &[u32]) -> usize
     requires { ⌜ (12 ≤ length (now w)) × (sheetTest (now w) ≡ accepted) ⌝ }
     ensures { λ r. ⌜ (r ≡ wordsDue (sheetOf (now (w .entry)))) × (r ≤ 8509) ⌝ }
@@ -210,15 +226,15 @@ pub fn words_due(w: &[u32]) -> usize
     let rounds = w[4] as usize;
     let s = w[5] as usize;
     let k = w[3] as usize;
-    let mut n = w[1] as usize;
+    let log = size_log(w);
+    let n = domain_size(log, 0);
     let mut d = w[2] as usize;
     // the sheet, table 0 and fold coin 0
     let mut due = 12 + n + 1;
     let mut i = 0;
     while i < rounds {
-        n /= 2;
         d /= k;
-        due += round_words(n, s, w[6 + i] as usize);
+        due += round_words(domain_size(log, i + 1), s, w[6 + i] as usize);
         i += 1;
     }
     // the final coefficients and the final indices

@@ -1,15 +1,15 @@
 -- `domain::from_stored` meets its contract. The loop has filled the table up to e. Assumes nothing.
 use mathlib.Core.Path.{refl}
-use Prim.Native.Nat.{_+_, _-_, _*_, _%_, _≤_}
-use native.Mathlib.Nat.{mul-le-mul-left}
+use Prim.Native.Nat.{_+_, _-_, _*_}
 use native.Mathlib.Omega.{arith}
 use lib.ListN.{length, getD}
 use Rattle.domain.specs.Filled.{Filled, filled-first, filled-next}
+use Rattle.domain.proofs.Tables.{so-many-steps}
 use Rattle.domain.proofs.from_stored.Statement.{statement}
 use Rattle.domain.proofs.from_stored.Tie as tie
 
 abbrev Inv-loop : tie.InvT-loop
-Inv-loop table step out₀ e₀ out e = Filled (λ k. getD table (step * (1 + k) % 4096) 0) out₀ out e
+Inv-loop table step out₀ e₀ out e = Filled (λ k. getD table (step * (1 + k) - 1) 0) out₀ out e
 
 abbrev μ-loop : tie.MeasureT-loop
 μ-loop table step out₀ e₀ out e = length out₀ - e
@@ -17,7 +17,7 @@ abbrev μ-loop : tie.MeasureT-loop
 loop-holds : tie.Need-loop-holds Inv-loop μ-loop
 loop-holds c =
     let a = c .args in
-    filled-first (λ k. getD (a .table .now) (a .step * (1 + k) % 4096) 0) (a .out .now)
+    filled-first (λ k. getD (a .table .now) (a .step * (1 + k) - 1) 0) (a .out .now)
 
 add-out : tie.Need-add-out Inv-loop μ-loop
 add-out c = omega arith
@@ -26,14 +26,25 @@ mul-out : tie.Need-mul-out Inv-loop μ-loop
 mul-out c =
     let a = c .before .before .args in
     let l = c .before .loop in
-    let h : a .step * (1 + l .e) ≤ a .step * length (a .out .now) = mul-le-mul-left (a .step) (omega arith) in
-    omega arith
+    omega (arith, so-many-steps (a .step) (l .e) (length (a .out .now)) (omega arith))
+
+sub-out : tie.Need-sub-out Inv-loop μ-loop
+sub-out c =
+    let a = c .before .before .args in
+    let l = c .before .loop in
+    omega (arith, so-many-steps (a .step) (l .e) (length (a .out .now)) (omega arith))
 
 mul-out-2 : tie.Need-mul-out-2 Inv-loop μ-loop
-mul-out-2 c = omega arith
+mul-out-2 c =
+    let a = c .before .before .args in
+    let l = c .before .loop in
+    omega (arith, so-many-steps (a .step) (l .e) (length (a .out .now)) (omega arith))
 
 shared-slice-read-out : tie.Need-shared-slice-read-out Inv-loop μ-loop
-shared-slice-read-out c = omega arith
+shared-slice-read-out c =
+    let a = c .before .before .before .args in
+    let l = c .before .before .loop in
+    omega (arith, so-many-steps (a .step) (l .e) (length (a .out .now)) (omega arith))
 
 mul-out-3 : tie.Need-mul-out-3 Inv-loop μ-loop
 mul-out-3 c = omega arith
@@ -51,7 +62,7 @@ loop-again : tie.Need-loop-again Inv-loop μ-loop
 loop-again c =
     let a = c .before .before .before .args in
     let l = c .before .before .loop in
-    filled-next (λ k. getD (a .table .now) (a .step * (1 + k) % 4096) 0) (a .out .now) (l .out) (l .e) (l .inv) (omega arith) refl
+    filled-next (λ k. getD (a .table .now) (a .step * (1 + k) - 1) 0) (a .out .now) (l .out) (l .e) (l .inv) (omega arith) refl
 
 same-length : tie.Need-same-length Inv-loop μ-loop
 same-length c = omega arith
@@ -68,6 +79,7 @@ from-stored-spec =
     loop-holds
     add-out
     mul-out
+    sub-out
     mul-out-2
     shared-slice-read-out
     mul-out-3

@@ -1,9 +1,37 @@
 -- `encode::first_table`: the table of points is as the table's function wants it.
 use native.Mathlib.Omega.{arith}
-use borrow.Author.Needs.{needs}
 use Rattle.encode.proofs.Stages.{halves, table-zero}
+use borrow.Author.Needs.{needs}
 use Rattle.encode.proofs.first_table.Statement.{statement}
 use Rattle.encode.proofs.first_table.Tie as tie
+
+shared-slice-read-if1 : tie.Need-shared-slice-read-if1
+shared-slice-read-if1 c = search needs
+
+few-points-room-requires : tie.Need-few-points-room-requires
+few-points-room-requires c κs = search needs
+
+slice-aggregate-of-sheet-within : tie.Need-slice-aggregate-of-sheet-within
+slice-aggregate-of-sheet-within c = search needs
+
+of-sheet-within-requires : tie.Need-of-sheet-within-requires
+of-sheet-within-requires c κs = search needs
+
+shared-slice-read-on-domain : tie.Need-shared-slice-read-on-domain
+shared-slice-read-on-domain c = search needs
+
+array-share-prefix-few : tie.Need-array-share-prefix-few
+array-share-prefix-few c = search needs
+
+slice-aggregate-on-domain : tie.Need-slice-aggregate-on-domain
+slice-aggregate-on-domain c = search needs
+
+on-domain-requires : tie.Need-on-domain-requires
+on-domain-requires c κs =
+    let s = c .before .before .before .before .before .before .before .before .before .before .before .before in
+    let w = s .args .w .now in
+    let n = c .before .before .before .before .of-sheet-within .ensures .1 .1 in
+    (halves w (s .pre .0 .1) (s .pre .1 .0) (s .pre .1 .1), (omega arith, omega (arith, n, s .pre .1 .1)))
 
 points-room-requires : tie.Need-points-room-requires
 points-room-requires c κs = search needs
@@ -14,18 +42,18 @@ slice-aggregate-of-sheet c = search needs
 of-sheet-requires : tie.Need-of-sheet-requires
 of-sheet-requires c κs = search needs
 
-shared-slice-read-on-domain : tie.Need-shared-slice-read-on-domain
-shared-slice-read-on-domain c = search needs
+shared-slice-read-on-domain-2 : tie.Need-shared-slice-read-on-domain-2
+shared-slice-read-on-domain-2 c = search needs
 
 array-share-prefix-pw : tie.Need-array-share-prefix-pw
 array-share-prefix-pw c = search needs
 
-slice-aggregate-on-domain : tie.Need-slice-aggregate-on-domain
-slice-aggregate-on-domain c = search needs
+slice-aggregate-on-domain-2 : tie.Need-slice-aggregate-on-domain-2
+slice-aggregate-on-domain-2 c = search needs
 
-on-domain-requires : tie.Need-on-domain-requires
-on-domain-requires c κs =
-    let s = c .before .before .before .before .before .before .before .before .before .before in
+on-domain-requires-2 : tie.Need-on-domain-requires-2
+on-domain-requires-2 c κs =
+    let s = c .before .before .before .before .before .before .before .before .before .before .before .before in
     let w = s .args .w .now in
     let n = c .before .before .before .before .of-sheet .ensures .1 .1 in
     (halves w (s .pre .0 .1) (s .pre .1 .0) (s .pre .1 .1), (omega arith, omega (arith, n, s .pre .1 .1)))
@@ -35,20 +63,39 @@ same-length c = search needs
 
 returns : tie.Need-returns
 returns c =
-    let s = c .before .before .before .before .before .before .before .before .before .before .before .before .before in
-    let powers = c .before .before .before .before .before .before .before .of-sheet .ensures .1 .0 in
-    table-zero (s .args .w .now) (s .args .f .now) _ (c .before .before .on-domain .last .1 .1 .1 .1 .0) powers (s .pre .1 .1) (c .before .before .on-domain .ensures)
+    let s = c .before .before .before .before .before .before .before .before .before .before .before .before .before .before .before in
+    let t = c .before .before .on-domain in
+    table-zero (s .args .w .now) (s .args .f .now) _ (t .last .1 .1 .1 .1 .0) (c .before .before .before .before .before .before .before .of-sheet-within .ensures .1 .0) (s .pre .1 .1) (t .ensures)
+
+same-length-2 : tie.Need-same-length-2
+same-length-2 c = search needs
+
+returns-2 : tie.Need-returns-2
+returns-2 c =
+    let s = c .before .before .before .before .before .before .before .before .before .before .before .before .before .before .before in
+    let t = c .before .before .on-domain2 in
+    table-zero (s .args .w .now) (s .args .f .now) _ (t .last .1 .1 .1 .1 .0) (c .before .before .before .before .before .before .before .of-sheet .ensures .1 .0) (s .pre .1 .1) (t .ensures)
 
 pub first-table-spec : {M : Type 1} → statement M
 first-table-spec =
     tie.close
     (tie.spec
+    shared-slice-read-if1
+    few-points-room-requires
+    slice-aggregate-of-sheet-within
+    of-sheet-within-requires
+    shared-slice-read-on-domain
+    array-share-prefix-few
+    slice-aggregate-on-domain
+    on-domain-requires
     points-room-requires
     slice-aggregate-of-sheet
     of-sheet-requires
-    shared-slice-read-on-domain
+    shared-slice-read-on-domain-2
     array-share-prefix-pw
-    slice-aggregate-on-domain
-    on-domain-requires
+    slice-aggregate-on-domain-2
+    on-domain-requires-2
     same-length
-    returns)
+    returns
+    same-length-2
+    returns-2)

@@ -2,38 +2,35 @@
 use Prim.Native.Nat.{ℕ, _+_, _-_, _*_, _≤_, _<_}
 use native.Mathlib.Nat.{div-le-self}
 use native.Mathlib.Omega.{arith}
-use mathlib.Core.Path.{_∙_, ap, refl, subst, sym}
-use lib.ListN.{length, getD}
+use mathlib.Core.Path.{_∙_, refl, subst, sym}
+use lib.ListN.{length, getD, take}
 use lib.Seq.{length-take-le}
 use borrow.Author.Needs.{needs}
-use Rattle.honest.specs.Levels.{rest-none}
-use Rattle.honest.specs.Sizes.{sizes}
-use Rattle.honest.specs.Standing.{DealtFrom, Standing}
-use Rattle.honest.proofs.Onward.{Onward, all-left, not-last, onward, words-join, words-last}
-use Rattle.domain.specs.Parts.{begun-long, filled-long, front-stays, front-there, joined, others-long}
+use Rattle.honest_round.specs.Sizes.{sizes}
+use Rattle.honest_round.specs.Standing.{DealtFrom}
+use Rattle.honest.proofs.Onward.{Onward, all-left, not-last, onward, words-end, words-join, words-last}
+use Rattle.domain.specs.Parts.{begun-long, filled-long, joined, others-long}
 use borrow.Fn.Kinds.{In}
 use borrow.Fn.PlainCycle.{Measures, is, falls, and}
 use Rattle.honest.proofs.rest.Reads as rest
 use Rattle.honest.proofs.rest.Kinds as rest-kinds
 use Rattle.honest.proofs.+rest.Lts-rest as rest-lts
 use Rattle.honest.proofs.finals.Reads as finals-reads
-use Rattle.honest.proofs.fold_coin.Reads as fold-coin-reads
-use Rattle.honest.proofs.fold_length.Reads as fold-length-reads
-use Rattle.honest.proofs.fold_room.Reads as fold-room-reads
 use Rattle.honest.proofs.round_coins.Reads as round-coins-reads
 use Rattle.honest.proofs.round_words.Reads as round-words-reads
-use Rattle.honest.proofs.step.Reads as step-reads
+use Rattle.honest_round.proofs.fold_length.Reads as fold-length-reads
+use Rattle.honest_round.proofs.step.Reads as step-reads
 use Rattle.honest.proofs.+rest.{statement}
 use Rattle.honest.proofs.+rest.Tie.{close}
 
-abbrev μ-rest : Measures 5 rest-kinds.ps ℕ
+abbrev μ-rest : Measures 6 rest-kinds.ps ℕ
 μ-rest κs a = 6 - a .1 .1 .0
 
-abbrev rest-at : ℕ → In 5 rest-kinds.ps
-rest-at t = and 5 rest-kinds.ps (is 5 rest-kinds.ps μ-rest t) rest.Pre
+abbrev rest-at : ℕ → In 6 rest-kinds.ps
+rest-at t = and 6 rest-kinds.ps (is 6 rest-kinds.ps μ-rest t) rest.Pre
 
-abbrev rest-below : ℕ → In 5 rest-kinds.ps
-rest-below t = and 5 rest-kinds.ps (falls 5 rest-kinds.ps _<_ μ-rest t) rest.Pre
+abbrev rest-below : ℕ → In 6 rest-kinds.ps
+rest-below t = and 6 rest-kinds.ps (falls 6 rest-kinds.ps _<_ μ-rest t) rest.Pre
 
 -- the contracts of what is called, the function's own at fewer levels to come among them
 abbrev calls : ℕ → rest-lts.Claims
@@ -46,229 +43,193 @@ calls t = (
   round-coins-reads.Learnt,
   round-words-reads.Asked,
   round-words-reads.Learnt,
-  fold-room-reads.Asked,
-  fold-room-reads.Learnt,
   step-reads.Asked,
   step-reads.Learnt,
-  fold-coin-reads.Asked,
-  fold-coin-reads.Learnt,
   rest-below t,
   rest.Post,
 )
 
 -- what is known once the numbers of the round are worked out
 ahead : (t : ℕ) (c : rest-lts.After-round-words (calls t) (rest-at t) rest.Post) →
-    let a = c .before .before .before .before .before .before .before .before .before .before .args in
-    Onward (a .w .now) (a .pw .now) (a .level) (a .scale) (length (a .f .now)) (a .coins .now) (length (a .out .now))
+    let a = c .before .before .before .before .before .before .before .before .before .before .before .args in
+    Onward (a .w .now) (a .pw .now) (a .level) (a .scale) (a .d) (a .coins .now) (length (a .out .now))
     (c .before .before .fold-length .result) (c .before .round-coins .result) (c .round-words .result)
 ahead t c =
-    let s = c .before .before .before .before .before .before .before .before .before .before in
+    let s = c .before .before .before .before .before .before .before .before .before .before .before in
     let a = s .args in
-    let more = not-last (a .level) (getD (a .w .now) 4 0) (s .pre .1 .0 .level) (c .before .before .before .if1 .left) in
-    onward (a .w .now) (a .pw .now) (a .level) (a .scale) (length (a .f .now)) (a .coins .now) (length (a .out .now))
+    let more = not-last (a .level) (getD (a .w .now) 4 0) (s .pre .1 .0 .0 .level) (c .before .before .before .if1 .left) in
+    onward (a .w .now) (a .pw .now) (a .level) (a .scale) (a .d) (a .coins .now) (length (a .out .now))
     (c .before .before .fold-length .result) (c .before .round-coins .result) (c .round-words .result)
-    (s .pre .1 .0) (s .pre .1 .1 .0) (s .pre .1 .1 .1) more (c .before .before .fold-length .ensures) (c .before .round-coins .ensures) (c .round-words .ensures)
-
--- the fold has places enough
-roomy : (t : ℕ) (c : rest-lts.After-fold-room (calls t) (rest-at t) rest.Post) → c .before .before .before .fold-length .result ≤ length (c .fold-room .result)
-roomy t c = omega (arith, ahead t (c .before) .room, c .fold-room .ensures)
+    (s .pre .1 .0 .0) (s .pre .1 .1 .0) (s .pre .1 .1 .1) more (c .before .before .fold-length .ensures) (c .before .round-coins .ensures) (c .round-words .ensures)
 
 rest-shared-slice-read-if1 : (t : ℕ) → rest-lts.Need-shared-slice-read-if1 (calls t) (rest-at t) rest.Post
-rest-shared-slice-read-if1 t c = let s = c .before .before .before .before .before .before in omega (arith, s .pre .1 .0 .long)
+rest-shared-slice-read-if1 t c = omega (arith, c .before .before .before .before .before .before .before .pre .1 .0 .0 .long)
 
 rest-cast-if1 : (t : ℕ) → rest-lts.Need-cast-if1 (calls t) (rest-at t) rest.Post
 rest-cast-if1 t c =
-    let s = c .before .before .before .before .before .before in
+    let s = c .before .before .before .before .before .before .before in
     let a = s .args in
-    let z = sizes (a .w .now) (a .pw .now) (a .level) (a .scale) (length (a .f .now)) (s .pre .1 .0) in
+    let z = sizes (a .w .now) (a .pw .now) (a .level) (a .scale) (getD (a .w .now) 3 0 * a .d) (s .pre .1 .0 .0) in
     omega (arith, z .rounds)
+
+rest-slice-reshare-prefix-finals : (t : ℕ) → rest-lts.Need-slice-reshare-prefix-finals (calls t) (rest-at t) rest.Post
+rest-slice-reshare-prefix-finals t c = c .before .before .before .before .before .before .before .before .pre .1 .0 .1 .0
+
+rest-slice-aggregate-finals : (t : ℕ) → rest-lts.Need-slice-aggregate-finals (calls t) (rest-at t) rest.Post
+rest-slice-aggregate-finals t c =
+    let s = c .before .before .before .before .before .before .before .before .before in
+    sym (length-take-le (s .args .d) (s .args .g .now) (s .pre .1 .0 .1 .0))
 
 rest-finals-requires : (t : ℕ) → rest-lts.Need-finals-requires (calls t) (rest-at t) rest.Post
 rest-finals-requires t c κs =
-    let s = c .before .before .before .before .before .before .before .before in
+    let s = c .before .before .before .before .before .before .before .before .before .before in
     let a = s .args in
-    let z = sizes (a .w .now) (a .pw .now) (a .level) (a .scale) (length (a .f .now)) (s .pre .1 .0) in
-    let e = words-last (a .w .now) (a .pw .now) (a .level) (a .scale) (length (a .f .now)) (a .coins .now) (length (a .out .now))
-    (s .pre .1 .0) (s .pre .1 .1 .0) (s .pre .1 .1 .1) (c .before .if1 .taken) in
-    ((s .pre .1 .0 .long, (omega (arith, z .fold), z .folds)), (z .divides, e))
+    let n = length-take-le (a .d) (a .g .now) (s .pre .1 .0 .1 .0) in
+    let e = words-last (a .w .now) (a .pw .now) (a .level) (a .scale) (a .d) (a .coins .now) (length (a .out .now)) (s .pre .1 .0 .0) (s .pre .1 .1 .0) (s .pre .1 .1 .1) (c .before .before .if1 .taken) in
+    omega (arith, n, e)
 
 rest-fold-length-requires : (t : ℕ) → rest-lts.Need-fold-length-requires (calls t) (rest-at t) rest.Post
 rest-fold-length-requires t c κs =
-    let s = c .before .before .before .before .before .before .before in
+    let s = c .before .before .before .before .before .before .before .before in
     let a = s .args in
-    let z = sizes (a .w .now) (a .pw .now) (a .level) (a .scale) (length (a .f .now)) (s .pre .1 .0) in
-    (s .pre .1 .0 .long, (omega (arith, z .fold), z .folds))
+    let z = sizes (a .w .now) (a .pw .now) (a .level) (a .scale) (getD (a .w .now) 3 0 * a .d) (s .pre .1 .0 .0) in
+    (s .pre .1 .0 .0 .long, (omega (arith, z .fold), z .folds))
 
 rest-round-coins-requires : (t : ℕ) → rest-lts.Need-round-coins-requires (calls t) (rest-at t) rest.Post
 rest-round-coins-requires t c κs =
-    let s = c .before .before .before .before .before .before .before .before in
+    let s = c .before .before .before .before .before .before .before .before .before in
     let a = s .args in
-    let z = sizes (a .w .now) (a .pw .now) (a .level) (a .scale) (length (a .f .now)) (s .pre .1 .0) in
-    (s .pre .1 .0 .long, (omega (arith, s .pre .1 .0 .level, z .rounds), (z .outs, z .repetitions)))
+    let z = sizes (a .w .now) (a .pw .now) (a .level) (a .scale) (getD (a .w .now) 3 0 * a .d) (s .pre .1 .0 .0) in
+    (s .pre .1 .0 .0 .long, (omega (arith, s .pre .1 .0 .0 .level, z .rounds), (z .outs, z .repetitions)))
 
 rest-round-words-requires : (t : ℕ) → rest-lts.Need-round-words-requires (calls t) (rest-at t) rest.Post
 rest-round-words-requires t c κs =
-    let s = c .before .before .before .before .before .before .before .before .before in
+    let s = c .before .before .before .before .before .before .before .before .before .before in
     let a = s .args in
-    let z = sizes (a .w .now) (a .pw .now) (a .level) (a .scale) (length (a .f .now)) (s .pre .1 .0) in (
-      (s .pre .1 .0 .long, (omega (arith, s .pre .1 .0 .level, z .rounds), (z .outs, z .repetitions))),
+    let z = sizes (a .w .now) (a .pw .now) (a .level) (a .scale) (getD (a .w .now) 3 0 * a .d) (s .pre .1 .0 .0) in (
+      (s .pre .1 .0 .0 .long, (omega (arith, s .pre .1 .0 .0 .level, z .rounds), (z .outs, z .repetitions))),
       (z .scaled, (z .small, omega (arith, z .points-most, div-le-self (length (a .pw .now)) (2 * a .scale)))),
     )
-
-rest-fold-room-requires : (t : ℕ) → rest-lts.Need-fold-room-requires (calls t) (rest-at t) rest.Post
-rest-fold-room-requires t c κs = search needs
-
-rest-array-borrow-prefix-next : (t : ℕ) → rest-lts.Need-array-borrow-prefix-next (calls t) (rest-at t) rest.Post
-rest-array-borrow-prefix-next t c = roomy t c
-
-rest-slice-aggregate-step : (t : ℕ) → rest-lts.Need-slice-aggregate-step (calls t) (rest-at t) rest.Post
-rest-slice-aggregate-step t c =
-    let d = c .before .before .before .before .fold-length .result in
-    let m = c .before .fold-room .result in
-    let fits = roomy t (c .before) in
-    sym (length-take-le d m fits)
 
 rest-slice-relend-prefix-step : (t : ℕ) → rest-lts.Need-slice-relend-prefix-step (calls t) (rest-at t) rest.Post
 rest-slice-relend-prefix-step t c = ahead t (c .before .before) .within
 
-rest-slice-aggregate-step-2 : (t : ℕ) → rest-lts.Need-slice-aggregate-step-2 (calls t) (rest-at t) rest.Post
-rest-slice-aggregate-step-2 t c =
-    let a = c .before .before .before .before .before .before .before .before .before .before .before .before .before .args in
-    let n = c .before .before .before .round-words .result in
-    sym (length-take-le n (a .out .now) (ahead t (c .before .before .before) .within))
+rest-slice-aggregate-step : (t : ℕ) → rest-lts.Need-slice-aggregate-step (calls t) (rest-at t) rest.Post
+rest-slice-aggregate-step t c = sym (length-take-le (c .before .before .before .round-words .result) (c .before .before .before .before .before .before .before .before .before .before .before .before .before .before .args .out .now) (ahead t (c .before .before .before) .within))
 
 rest-step-requires : (t : ℕ) → rest-lts.Need-step-requires (calls t) (rest-at t) rest.Post
 rest-step-requires t c κs =
+    let s = c .before .before .before .before .before .before .before .before .before .before .before .before .before .before in
     let o = ahead t (c .before .before .before) in
-    let d = c .before .before .before .before .before .fold-length .result in
-    let m = c .before .before .fold-room .result in
-    let fits = roomy t (c .before .before) in
-    let n = c .before .before .before .round-words .result in
-    let s = c .before .before .before .before .before .before .before .before .before .before .before .before .before in
-    let a = s .args in
-    let fold = o .fold ∙ ap (λ (j : ℕ). getD (a .w .now) 3 0 * j) (sym (length-take-le d m fits)) in
-    ((s .pre .1 .0, o .more), (fold, (o .round, length-take-le n (a .out .now) (o .within) ∙ o .words)))
+    ((s .pre .1 .0 .0, (o .more, o .fold)), ((o .round, s .pre .1 .0 .1), length-take-le (c .before .before .before .round-words .result) (s .args .out .now) (o .within) ∙ o .words))
 
 rest-add-rest : (t : ℕ) → rest-lts.Need-add-rest (calls t) (rest-at t) rest.Post
 rest-add-rest t c =
-    let s = c .before .before .before .before .before .before .before .before .before .before .before .before .before .before .before .before .before in
+    let s = c .before .before .before .before .before .before .before .before .before .before .before .before .before .before .before .before .before .before .before .before .before in
     let a = s .args in
-    let z = sizes (a .w .now) (a .pw .now) (a .level) (a .scale) (length (a .f .now)) (s .pre .1 .0) in
-    omega (arith, s .pre .1 .0 .level, z .rounds)
+    let z = sizes (a .w .now) (a .pw .now) (a .level) (a .scale) (getD (a .w .now) 3 0 * a .d) (s .pre .1 .0 .0) in
+    omega (arith, s .pre .1 .0 .0 .level, z .rounds)
 
 rest-mul-rest : (t : ℕ) → rest-lts.Need-mul-rest (calls t) (rest-at t) rest.Post
 rest-mul-rest t c =
-    let s = c .before .before .before .before .before .before .before .before .before .before .before .before .before .before .before .before .before in
+    let s = c .before .before .before .before .before .before .before .before .before .before .before .before .before .before .before .before .before .before .before .before .before in
     let a = s .args in
-    let z = sizes (a .w .now) (a .pw .now) (a .level) (a .scale) (length (a .f .now)) (s .pre .1 .0) in
+    let z = sizes (a .w .now) (a .pw .now) (a .level) (a .scale) (getD (a .w .now) 3 0 * a .d) (s .pre .1 .0 .0) in
     omega (arith, z .small)
 
-rest-array-share-prefix-next : (t : ℕ) → rest-lts.Need-array-share-prefix-next (calls t) (rest-at t) rest.Post
-rest-array-share-prefix-next t c =
-    let d = c .before .before .before .before .before .before .before .before .before .fold-length .result in
-    let m = c .before .before .before .before .before .before .fold-room .result in
-    let fits = roomy t (c .before .before .before .before .before .before) in
-    let q = c .before .before .before .step in
-    omega (arith, begun-long m (q .last .1 .1 .1 .1 .1 .1 .1 .0) d fits (q .kept .1 .1 .1 .1 .1 .1 .1 .0), fits)
-
-rest-slice-aggregate-rest : (t : ℕ) → rest-lts.Need-slice-aggregate-rest (calls t) (rest-at t) rest.Post
-rest-slice-aggregate-rest t c =
-    let d = c .before .before .before .before .before .before .before .before .before .before .fold-length .result in
-    let m = c .before .before .before .before .before .before .before .fold-room .result in
-    let fits = roomy t (c .before .before .before .before .before .before .before) in
-    let q = c .before .before .before .before .step in
-    sym (front-there m (q .last .1 .1 .1 .1 .1 .1 .1 .0) d fits (q .kept .1 .1 .1 .1 .1 .1 .1 .0))
-
-rest-fold-coin-requires : (t : ℕ) → rest-lts.Need-fold-coin-requires (calls t) (rest-at t) rest.Post
-rest-fold-coin-requires t c κs =
-    let s = c .before .before .before .before .before .before .before .before .before .before .before .before .before .before .before .before .before .before in
-    (s .pre .1 .0 .long, ahead t (c .before .before .before .before .before .before .before .before) .coin)
-
 rest-mul-rest-2 : (t : ℕ) → rest-lts.Need-mul-rest-2 (calls t) (rest-at t) rest.Post
-rest-mul-rest-2 t c = omega (arith, ahead t (c .before .before .before .before .before .before .before .before .before) .few)
+rest-mul-rest-2 t c = omega (arith, ahead t (c .before .before .before .before .before .before .before .before .before .before) .few)
 
 rest-sub-rest : (t : ℕ) → rest-lts.Need-sub-rest (calls t) (rest-at t) rest.Post
-rest-sub-rest t c = ahead t (c .before .before .before .before .before .before .before .before .before) .inside
+rest-sub-rest t c = ahead t (c .before .before .before .before .before .before .before .before .before .before) .inside
 
 rest-part-rest-start : (t : ℕ) → rest-lts.Need-part-rest-start (calls t) (rest-at t) rest.Post
-rest-part-rest-start t c = ahead t (c .before .before .before .before .before .before .before .before .before) .inside
+rest-part-rest-start t c = ahead t (c .before .before .before .before .before .before .before .before .before .before) .inside
 
 rest-part-rest-end : (t : ℕ) → rest-lts.Need-part-rest-end (calls t) (rest-at t) rest.Post
 rest-part-rest-end t c = search needs
 
 rest-mul-rest-3 : (t : ℕ) → rest-lts.Need-mul-rest-3 (calls t) (rest-at t) rest.Post
-rest-mul-rest-3 t c = omega (arith, ahead t (c .before .before .before .before .before .before .before .before .before .before) .short)
+rest-mul-rest-3 t c = omega (arith, ahead t (c .before .before .before .before .before .before .before .before .before .before .before .before .before) .short)
 
 rest-sub-rest-2 : (t : ℕ) → rest-lts.Need-sub-rest-2 (calls t) (rest-at t) rest.Post
 rest-sub-rest-2 t c =
-    let o = ahead t (c .before .before .before .before .before .before .before .before .before .before) in
-    let a = c .before .before .before .before .before .before .before .before .before .before .before .before .before .before .before .before .before .before .before .before .args in
-    let n = c .before .before .before .before .before .before .before .before .before .before .round-words .result in
-    let q = c .before .before .before .before .before .before .step in
-    omega (arith, o .within, begun-long (a .out .now) (q .last .1 .1 .1 .1 .1 .1 .1 .1 .0) n (o .within) (q .kept .1 .1 .1 .1 .1 .1 .1 .1 .0))
+    let s = c .before .before .before .before .before .before .before .before .before .before .before .before .before .before .before .before .before .before .before .before .before .before .before .before in
+    let a = s .args in
+    let o = ahead t (c .before .before .before .before .before .before .before .before .before .before .before .before .before) in
+    let n = c .before .before .before .before .before .before .before .before .before .before .before .before .before .round-words .result in
+    let q = c .before .before .before .before .before .before .before .before .before .step in
+    omega (arith, o .within, begun-long (a .out .now) (q .last .1 .1 .1 .1 .1 .1 .1 .1 .1 .0) n (o .within) (q .kept .1 .1 .1 .1 .1 .1 .1 .1 .1 .0))
 
 rest-part-rest-start-2 : (t : ℕ) → rest-lts.Need-part-rest-start-2 (calls t) (rest-at t) rest.Post
 rest-part-rest-start-2 t c =
-    let o = ahead t (c .before .before .before .before .before .before .before .before .before .before) in
-    let a = c .before .before .before .before .before .before .before .before .before .before .before .before .before .before .before .before .before .before .before .before .args in
-    let n = c .before .before .before .before .before .before .before .before .before .before .round-words .result in
-    let q = c .before .before .before .before .before .before .step in
-    omega (arith, o .within, begun-long (a .out .now) (q .last .1 .1 .1 .1 .1 .1 .1 .1 .0) n (o .within) (q .kept .1 .1 .1 .1 .1 .1 .1 .1 .0))
+    let s = c .before .before .before .before .before .before .before .before .before .before .before .before .before .before .before .before .before .before .before .before .before .before .before .before in
+    let a = s .args in
+    let o = ahead t (c .before .before .before .before .before .before .before .before .before .before .before .before .before) in
+    let n = c .before .before .before .before .before .before .before .before .before .before .before .before .before .round-words .result in
+    let q = c .before .before .before .before .before .before .before .before .before .step in
+    omega (arith, o .within, begun-long (a .out .now) (q .last .1 .1 .1 .1 .1 .1 .1 .1 .1 .0) n (o .within) (q .kept .1 .1 .1 .1 .1 .1 .1 .1 .1 .0))
 
 rest-part-rest-end-2 : (t : ℕ) → rest-lts.Need-part-rest-end-2 (calls t) (rest-at t) rest.Post
 rest-part-rest-end-2 t c = search needs
 
 rest-rest-requires : (t : ℕ) → rest-lts.Need-rest-requires (calls t) (rest-at t) rest.Post
 rest-rest-requires t c κs =
-    let o = ahead t (c .before .before .before .before .before .before .before .before .before .before .before) in
-    let d = c .before .before .before .before .before .before .before .before .before .before .before .before .before .fold-length .result in
-    let m = c .before .before .before .before .before .before .before .before .before .before .fold-room .result in
-    let fits = roomy t (c .before .before .before .before .before .before .before .before .before .before) in
-    let n = c .before .before .before .before .before .before .before .before .before .before .before .round-words .result in
-    let q = c .before .before .before .before .before .before .before .step in
-    let s = c .before .before .before .before .before .before .before .before .before .before .before .before .before .before .before .before .before .before .before .before .before in
+    let s = c .before .before .before .before .before .before .before .before .before .before .before .before .before .before .before .before .before .before .before .before .before .before .before .before .before in
     let a = s .args in
-    let z = sizes (a .w .now) (a .pw .now) (a .level) (a .scale) (length (a .f .now)) (s .pre .1 .0) in
-    let l = all-left (c .before .before .before .before .before .before .before .before .before .before .before .before .round-coins .result) (a .coins .now) in (
+    let o = ahead t (c .before .before .before .before .before .before .before .before .before .before .before .before .before .before) in
+    let n = c .before .before .before .before .before .before .before .before .before .before .before .before .before .before .round-words .result in
+    let q = c .before .before .before .before .before .before .before .before .before .before .step in
+    let z = sizes (a .w .now) (a .pw .now) (a .level) (a .scale) (getD (a .w .now) 3 0 * a .d) (s .pre .1 .0 .0) in
+    let l = all-left (c .before .before .before .before .before .before .before .before .before .before .before .before .before .before .before .round-coins .result) (a .coins .now) in
+    let g = q .kept .1 .1 .1 .1 .1 .1 .1 .0 in
+    let next = q .kept .1 .1 .1 .1 .1 .1 .1 .1 .0 in (
       omega (arith, s .pre .0, o .more, z .rounds),
       (
-        subst (Standing (a .w .now) (a .pw .now) (a .level + 1) (2 * a .scale)) (sym (front-there m (q .last .1 .1 .1 .1 .1 .1 .1 .0) d fits (q .kept .1 .1 .1 .1 .1 .1 .1 .0))) (o .next),
-        (subst (DealtFrom (a .w .now) (a .level + 1)) (sym l) (o .dealt), others-long (a .out .now) (q .last .1 .1 .1 .1 .1 .1 .1 .1 .0) n (o .within) (q .kept .1 .1 .1 .1 .1 .1 .1 .1 .0) ∙ o .left),
+        (o .next, (omega (arith, o .fewer, g, s .pre .1 .0 .1 .0), omega (arith, o .fewer, next, s .pre .1 .0 .1 .1))),
+        (subst (DealtFrom (a .w .now) (a .level + 1)) (sym l) (o .dealt), others-long (a .out .now) (q .last .1 .1 .1 .1 .1 .1 .1 .1 .1 .0) n (o .within) (q .kept .1 .1 .1 .1 .1 .1 .1 .1 .1 .0) ∙ o .left),
       ),
     )
 
 rest-same-length : (t : ℕ) → rest-lts.Need-same-length (calls t) (rest-at t) rest.Post
-rest-same-length t c = c .before .before .finals .kept .1 .1 .1 .1 .0
+rest-same-length t c = search needs
+
+rest-same-length-2 : (t : ℕ) → rest-lts.Need-same-length-2 (calls t) (rest-at t) rest.Post
+rest-same-length-2 t c = search needs
 
 rest-returns : (t : ℕ) → rest-lts.Need-returns (calls t) (rest-at t) rest.Post
 rest-returns t c =
-    let a = c .before .before .before .before .before .before .before .before .before .before .before .args in
-    c .before .before .finals .ensures ∙ sym (rest-none (a .w .now) (a .level) (a .f .now) (a .r) (a .coins .now) (c .before .before .before .before .if1 .taken))
+    let a = c .before .before .before .before .before .before .before .before .before .before .before .before .before .args in
+    words-end (a .w .now) (a .level) (take (a .d) (a .g .now)) (a .coins .now) (c .before .before .before .before .before .if1 .taken) (c .before .before .finals .ensures)
 
-rest-same-length-2 : (t : ℕ) → rest-lts.Need-same-length-2 (calls t) (rest-at t) rest.Post
-rest-same-length-2 t c =
-    let o = ahead t (c .before .before .before .before .before .before .before .before .before .before .before .before .before .before) in
-    let a = c .before .before .before .before .before .before .before .before .before .before .before .before .before .before .before .before .before .before .before .before .before .before .before .before .args in
-    let n = c .before .before .before .before .before .before .before .before .before .before .before .before .before .before .round-words .result in
-    let q = c .before .before .before .before .before .before .before .before .before .before .step in
-    let v = c .before .before .rest in
-    filled-long (a .out .now) (q .last .1 .1 .1 .1 .1 .1 .1 .1 .0) n (o .within) (q .kept .1 .1 .1 .1 .1 .1 .1 .1 .0) (v .last .1 .1 .1 .1 .1 .1 .1 .0) (v .kept .1 .1 .1 .1 .1 .1 .1 .0)
+rest-same-length-3 : (t : ℕ) → rest-lts.Need-same-length-3 (calls t) (rest-at t) rest.Post
+rest-same-length-3 t c = search needs
+
+rest-same-length-4 : (t : ℕ) → rest-lts.Need-same-length-4 (calls t) (rest-at t) rest.Post
+rest-same-length-4 t c = search needs
+
+rest-same-length-5 : (t : ℕ) → rest-lts.Need-same-length-5 (calls t) (rest-at t) rest.Post
+rest-same-length-5 t c =
+    let s = c .before .before .before .before .before .before .before .before .before .before .before .before .before .before .before .before .before .before .before .before .before .before .before .before .before .before .before .before .before .before .before .before in
+    let a = s .args in
+    let o = ahead t (c .before .before .before .before .before .before .before .before .before .before .before .before .before .before .before .before .before .before .before .before .before) in
+    let n = c .before .before .before .before .before .before .before .before .before .before .before .before .before .before .before .before .before .before .before .before .before .round-words .result in
+    let q = c .before .before .before .before .before .before .before .before .before .before .before .before .before .before .before .before .before .step in
+    let v = c .before .before .before .before .before .before .rest in
+    filled-long (a .out .now) (q .last .1 .1 .1 .1 .1 .1 .1 .1 .1 .0) n (o .within) (q .kept .1 .1 .1 .1 .1 .1 .1 .1 .1 .0) (v .last .1 .1 .1 .1 .1 .1 .1 .1 .0) (v .kept .1 .1 .1 .1 .1 .1 .1 .1 .0)
 
 rest-returns-2 : (t : ℕ) → rest-lts.Need-returns-2 (calls t) (rest-at t) rest.Post
 rest-returns-2 t c =
-    let o = ahead t (c .before .before .before .before .before .before .before .before .before .before .before .before .before .before) in
-    let d = c .before .before .before .before .before .before .before .before .before .before .before .before .before .before .before .before .fold-length .result in
-    let m = c .before .before .before .before .before .before .before .before .before .before .before .before .before .fold-room .result in
-    let fits = roomy t (c .before .before .before .before .before .before .before .before .before .before .before .before .before) in
-    let n = c .before .before .before .before .before .before .before .before .before .before .before .before .before .before .round-words .result in
-    let q = c .before .before .before .before .before .before .before .before .before .before .step in
-    let a = c .before .before .before .before .before .before .before .before .before .before .before .before .before .before .before .before .before .before .before .before .before .before .before .before .args in
-    let v = c .before .before .rest in
-    let u = c .before .before .before .before .before .before .before .before .before .before .before .before .before .before .before .round-coins in
-    words-join (a .w .now) (a .level) (a .f .now) (a .r) (a .coins .now) (u .result) (o .more)
-    (joined (a .out .now) (q .last .1 .1 .1 .1 .1 .1 .1 .1 .0) n (o .within) (q .kept .1 .1 .1 .1 .1 .1 .1 .1 .0) (v .last .1 .1 .1 .1 .1 .1 .1 .0) refl refl)
-    (q .ensures .0) (front-stays m (q .last .1 .1 .1 .1 .1 .1 .1 .0) d fits (q .kept .1 .1 .1 .1 .1 .1 .1 .0)) (q .ensures .1)
-    (c .before .before .before .before .before .fold-coin .ensures) (all-left (u .result) (a .coins .now)) (u .ensures) (v .ensures)
+    let s = c .before .before .before .before .before .before .before .before .before .before .before .before .before .before .before .before .before .before .before .before .before .before .before .before .before .before .before .before .before .before .before .before in
+    let a = s .args in
+    let o = ahead t (c .before .before .before .before .before .before .before .before .before .before .before .before .before .before .before .before .before .before .before .before .before) in
+    let n = c .before .before .before .before .before .before .before .before .before .before .before .before .before .before .before .before .before .before .before .before .before .round-words .result in
+    let q = c .before .before .before .before .before .before .before .before .before .before .before .before .before .before .before .before .before .step in
+    let v = c .before .before .before .before .before .before .rest in
+    let u = c .before .before .before .before .before .before .before .before .before .before .before .before .before .before .before .before .before .before .before .before .before .before .round-coins in
+    words-join (a .w .now) (a .level) (take (a .d) (a .g .now)) (a .coins .now) (u .result) (o .more)
+    (joined (a .out .now) (q .last .1 .1 .1 .1 .1 .1 .1 .1 .1 .0) n (o .within) (q .kept .1 .1 .1 .1 .1 .1 .1 .1 .1 .0) (v .last .1 .1 .1 .1 .1 .1 .1 .1 .0) refl refl)
+    (q .ensures .0) (q .ensures .1) (all-left (u .result) (a .coins .now)) (u .ensures) (v .ensures)
 
 pub +rest-spec : {M : Type 1} → statement M
 +rest-spec = close μ-rest λ t. rest-lts.spec (calls t)
@@ -276,21 +237,17 @@ pub +rest-spec : {M : Type 1} → statement M
     rest.Post
     (rest-shared-slice-read-if1 t)
     (rest-cast-if1 t)
+    (rest-slice-reshare-prefix-finals t)
+    (rest-slice-aggregate-finals t)
     (rest-finals-requires t)
     (rest-fold-length-requires t)
     (rest-round-coins-requires t)
     (rest-round-words-requires t)
-    (rest-fold-room-requires t)
-    (rest-array-borrow-prefix-next t)
-    (rest-slice-aggregate-step t)
     (rest-slice-relend-prefix-step t)
-    (rest-slice-aggregate-step-2 t)
+    (rest-slice-aggregate-step t)
     (rest-step-requires t)
     (rest-add-rest t)
     (rest-mul-rest t)
-    (rest-array-share-prefix-next t)
-    (rest-slice-aggregate-rest t)
-    (rest-fold-coin-requires t)
     (rest-mul-rest-2 t)
     (rest-sub-rest t)
     (rest-part-rest-start t)
@@ -301,6 +258,9 @@ pub +rest-spec : {M : Type 1} → statement M
     (rest-part-rest-end-2 t)
     (rest-rest-requires t)
     (rest-same-length t)
-    (rest-returns t)
     (rest-same-length-2 t)
+    (rest-returns t)
+    (rest-same-length-3 t)
+    (rest-same-length-4 t)
+    (rest-same-length-5 t)
     (rest-returns-2 t)

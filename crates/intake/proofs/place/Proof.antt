@@ -1,24 +1,23 @@
--- `intake::place` meets its contract.
-use mathlib.Core.Path.{_≡_, refl, _∙_}
-use Prim.Native.Nat.{ℕ, _-_, _*_, _≤_, _<_}
+-- `intake::place` meets its contract: each store is one word more. Assumes nothing.
+use Prim.Native.Nat.{ℕ, _+_, _/_, _-_, _≤_, _<_}
+use mathlib.Core.Path.{_≡_, refl, sym, ap, _∙_}
 use native.Mathlib.Omega.{arith}
-use borrow.Author.Count.{below-none, below-more}
-use lib.ListN.{length, getD, set, length-set}
-use lib.Seq.{getD-set-same, getD-set-other}
-use Rattle.stream.specs.FileWords.{wordAt}
+use lib.ListN.{length, getD, set, take, length-set}
+use lib.Seq.{take-all}
+use Rattle.stream.specs.Overwriting.{overwrite, overwrite-next, overwrite-none}
+use Rattle.intake.specs.Input.{wordsOf}
+use Rattle.intake.specs.WordLaws.{words-at, words-length}
 use Rattle.intake.proofs.place.Statement.{statement}
 use Rattle.intake.proofs.place.Tie as tie
 
 abbrev Inv-loop : tie.InvT-loop
-Inv-loop bytes count words₀ i₀ words i = (length words ≡ length words₀) × ((i ≤ count) × ((k : ℕ) → k < i → getD words k 0 ≡ wordAt bytes (4 * k)))
+Inv-loop bytes output₀ count i₀ output i = (count ≡ length bytes / 4) × ((i ≤ count) × ((length output ≡ length output₀) × (output ≡ overwrite output₀ 0 (take i (wordsOf bytes)))))
 
 abbrev μ-loop : tie.MeasureT-loop
-μ-loop bytes count words₀ i₀ words i = count - i
+μ-loop bytes output₀ count i₀ output i = count - i
 
 loop-holds : tie.Need-loop-holds Inv-loop μ-loop
-loop-holds c =
-    let a = c .before .before .args in
-    (refl, (omega arith, below-none (λ (k : ℕ). getD (a .words .now) k 0 ≡ wordAt (a .bytes .now) (4 * k))))
+loop-holds c = (refl, (omega arith, (refl, sym (overwrite-none (c .before .before .args .output .now) 0))))
 
 mul-word : tie.Need-mul-word Inv-loop μ-loop
 mul-word c = omega arith
@@ -26,11 +25,11 @@ mul-word c = omega arith
 word-requires : tie.Need-word-requires Inv-loop μ-loop
 word-requires c κs = omega arith
 
-mul-words : tie.Need-mul-words Inv-loop μ-loop
-mul-words c = omega arith
+mul-output : tie.Need-mul-output Inv-loop μ-loop
+mul-output c = omega arith
 
-slice-write-words : tie.Need-slice-write-words Inv-loop μ-loop
-slice-write-words c = omega arith
+slice-write-output : tie.Need-slice-write-output Inv-loop μ-loop
+slice-write-output c = omega arith
 
 add-i : tie.Need-add-i Inv-loop μ-loop
 add-i c = omega arith
@@ -42,13 +41,19 @@ loop-again : tie.Need-loop-again Inv-loop μ-loop
 loop-again c =
     let a = c .before .before .before .before .before .args in
     let l = c .before .before .loop in
-    let v = c .word .result in (
-      length-set (l .words) (l .i) v ∙ l .inv .0,
+    let w = wordsOf (a .bytes .now) in
+    let v = c .word .result in
+    let here : l .i ≡ 0 + l .i = omega arith in
+    let there : l .i < length w = omega (arith, words-length (a .bytes .now)) in
+    let value : v ≡ getD w (l .i) 0 = c .word .ensures ∙ sym (words-at (a .bytes .now) (l .i) (omega arith)) in (
+      refl,
       (
         omega arith,
-        below-more (λ (k : ℕ). getD (set (l .words) (l .i) v) k 0 ≡ wordAt (a .bytes .now) (4 * k)) (l .i)
-            (λ k h. getD-set-other (l .words) (l .i) k v 0 (λ s. omega arith) ∙ l .inv .1 .1 k h)
-            (getD-set-same (l .words) (l .i) v 0 (omega (arith, l .inv .0)) ∙ c .word .ensures),
+        (
+          length-set (l .output) (l .i) v ∙ l .inv .1 .1 .0,
+          ap (λ (n : ℕ). set (l .output) n v) here
+              ∙ overwrite-next (a .output .now) 0 w (l .i) (omega (arith, words-length (a .bytes .now))) there value (l .inv .1 .1 .1),
+        ),
       ),
     )
 
@@ -57,8 +62,9 @@ same-length c = omega arith
 
 returns : tie.Need-returns Inv-loop μ-loop
 returns c =
+    let a = c .before .before .before .before .args in
     let l = c .before .loop in
-    λ i h. l .inv .1 .1 i (omega arith)
+    l .inv .1 .1 .1 ∙ ap (overwrite (a .output .now) 0) (take-all (l .i) (wordsOf (a .bytes .now)) (omega (arith, words-length (a .bytes .now))))
 
 pub place-spec : {M : Type 1} → statement M
 place-spec =
@@ -69,8 +75,8 @@ place-spec =
     loop-holds
     mul-word
     word-requires
-    mul-words
-    slice-write-words
+    mul-output
+    slice-write-output
     add-i
     loop-less
     loop-again

@@ -1,23 +1,41 @@
 -- `prove::write` meets its contract. Assumes nothing.
-use Prim.Native.Nat.{ℕ, _*_, _≤_}
-use mathlib.Core.Path.{sym, ap, subst, _∙_}
+use mathlib.Core.Path.{refl, ap, sym, _∙_}
+use Prim.Native.Nat.{ℕ}
 use native.Mathlib.Omega.{arith}
 use mathlib.Core.List.{List, _++_}
 use lib.ListN.{length, drop}
-use lib.Seq.{take-all}
-use borrow.Author.Needs.{needs}
+use lib.Seq.{length-take-le}
 use Rattle.definition.specs.Block.{blockCount, fileOf}
+use Rattle.domain.specs.Parts.{begun-long, front-stays}
+use Rattle.outcome.specs.Meaning.{answerOf}
+use borrow.Author.Needs.{needs}
 use Rattle.prove.proofs.write.Statement.{statement}
 use Rattle.prove.proofs.write.Tie as tie
 
+slice-relend-prefix-stream : tie.Need-slice-relend-prefix-stream
+slice-relend-prefix-stream c = search needs
+
+slice-aggregate-stream : tie.Need-slice-aggregate-stream
+slice-aggregate-stream c =
+    let s = c .before .before .before .before .before .before in
+    let a = s .args in
+    sym (length-take-le (a .due) (a .words .now) (s .pre .1 .1 .0))
+
 stream-requires : tie.Need-stream-requires
-stream-requires c κs = search needs
+stream-requires c κs =
+    let s = c .before .before .before .before .before .before in
+    let a = s .args in
+    (s .pre .0, length-take-le (a .due) (a .words .now) (s .pre .1 .1 .0) ∙ s .pre .1 .0)
 
 seal-requires : tie.Need-seal-requires
 seal-requires c κs =
     let s = c .before .before .before .before .before .before .before .before .before .before .before in
+    let a = s .args in
     let p = c .before .before .before .before .stream in
-    (omega arith, subst (λ (n : ℕ). 512 * blockCount n ≤ length (s .args .output .now)) (sym (p .kept .1 .1 .1 .0)) (s .pre .1 .1))
+    (omega (arith, s .pre .1 .1 .0, begun-long (a .words .now) (p .last .1 .1 .1 .0) (a .due) (s .pre .1 .1 .0) (p .kept .1 .1 .1 .0)), s .pre .1 .1 .1)
+
+add-t14 : tie.Need-add-t14
+add-t14 c = search needs
 
 same-length : tie.Need-same-length
 same-length c = search needs
@@ -26,12 +44,23 @@ same-length-2 : tie.Need-same-length-2
 same-length-2 c = search needs
 
 returns : tie.Need-returns
+unfolding answerOf blockCount
 returns c =
-    let a = c .before .before .before .before .before .before .before .before .before .before .before .before .before .before .args in
+    let s = c .before .before .before .before .before .before .before .before .before .before .before .before .before .before in
+    let a = s .args in
     let p = c .before .before .before .before .before .before .before .stream in
-    let l = p .last .1 .1 .1 .0 in
-    c .before .before .seal .ensures
-    ∙ ap (λ (v : List ℕ). fileOf v ++ drop (length (fileOf v)) (a .output .now)) (take-all (length l) l (omega arith) ∙ p .ensures)
+    let e = front-stays (a .words .now) (p .last .1 .1 .1 .0) (a .due) (s .pre .1 .1 .0) (p .kept .1 .1 .1 .0) ∙ p .ensures in
+    (refl, c .before .before .seal .ensures ∙ ap (λ (v : List ℕ). fileOf v ++ drop (length (fileOf v)) (a .output .now)) e)
 
 pub write-spec : {M : Type 1} → statement M
-write-spec = tie.close (tie.spec stream-requires seal-requires same-length same-length-2 returns)
+write-spec =
+    tie.close
+    (tie.spec
+    slice-relend-prefix-stream
+    slice-aggregate-stream
+    stream-requires
+    seal-requires
+    add-t14
+    same-length
+    same-length-2
+    returns)

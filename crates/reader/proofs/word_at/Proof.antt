@@ -1,12 +1,12 @@
 -- `reader::word_at` meets its contract: its test is that of the stream's length. Assumes nothing.
 use native.Mathlib.Omega.{arith}
-use borrow.Author.Needs.{needs}
 use Rattle.reader.proofs.ByNumber.{word-there, word-past}
+use borrow.Author.Needs.{needs}
 use Rattle.reader.proofs.word_at.Statement.{statement}
 use Rattle.reader.proofs.word_at.Tie as tie
 
-mul-if1 : tie.Need-mul-if1
-mul-if1 c = search needs
+words-held-requires : tie.Need-words-held-requires
+words-held-requires c κs = search needs
 
 add-word : tie.Need-add-word
 add-word c = search needs
@@ -19,13 +19,14 @@ word-requires c κs = search needs
 
 returns : tie.Need-returns
 returns c =
-    let a = c .before .before .before .args in
+    let a = c .before .before .before .before .args in
     word-there (a .file .now) (a .n) (omega arith) (c .word .ensures)
 
 returns-2 : tie.Need-returns-2
 returns-2 c =
-    let a = c .before .before .args in
+    let a = c .before .before .before .args in
     word-past (a .file .now) (a .n) (omega arith)
 
 pub word-at-spec : {M : Type 1} → statement M
-word-at-spec = tie.close (tie.spec mul-if1 add-word mul-word word-requires returns returns-2)
+word-at-spec =
+    tie.close (tie.spec words-held-requires add-word mul-word word-requires returns returns-2)

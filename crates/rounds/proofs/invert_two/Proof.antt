@@ -1,13 +1,20 @@
 -- `rounds::invert_two` meets its contract. Assumes nothing.
+use mathlib.Core.Path.{_∙_, ap}
+use mathlib.Core.Option.{some}
+use Prim.Native.Nat.{_+_, _/_}
 use borrow.Author.Needs.{needs}
+use Rattle.rounds.proofs.Half.{half-found}
 use Rattle.rounds.proofs.invert_two.Statement.{statement}
 use Rattle.rounds.proofs.invert_two.Tie as tie
 
-inv-requires : tie.Need-inv-requires
-inv-requires c κs = search needs
+modulus-requires : tie.Need-modulus-requires
+modulus-requires c κs = search needs
+
+add-t4 : tie.Need-add-t4
+add-t4 c = search needs
 
 returns : tie.Need-returns
-returns c = c .inv .ensures
+returns c = ap (λ p. some (p / 2 + 1)) (c .modulus .ensures) ∙ half-found _
 
 pub invert-two-spec : {M : Type 1} → statement M
-invert-two-spec = tie.close (tie.spec inv-requires returns)
+invert-two-spec = tie.close (tie.spec modulus-requires add-t4 returns)

@@ -1,0 +1,29 @@
+-- `distinct::points` meets its contract: the out coins are kept in front of the shift points. Assumes nothing.
+use native.Mathlib.Omega.{arith}
+use mathlib.Core.List.{[], map}
+use mathlib.Core.Path.{_∙_, sym, ap}
+use Rattle.rounds.specs.PointsIn.{shiftIn}
+use Rattle.distinct.specs.Points.{keepPoints, keep-append}
+use borrow.Author.Needs.{needs}
+use Rattle.distinct.proofs.points.Statement.{statement}
+use Rattle.distinct.proofs.points.Tie as tie
+
+keep-shifts-requires : tie.Need-keep-shifts-requires
+keep-shifts-requires c κs = search needs
+
+keep-all-requires : tie.Need-keep-all-requires
+keep-all-requires c κs = search needs
+
+same-length : tie.Need-same-length
+same-length c = search needs
+
+returns : tie.Need-returns
+returns c =
+    let a = c .before .before .before .before .before .before .before .before .before .before .before .before .args in
+    let k = c .before .before .before .before .before .before .keep-shifts in
+    let q = c .before .before .keep-all in
+    let whole = keep-append (a .outs .now) (map (shiftIn (a .pw .now) (a .scale) (a .k)) (a .shifts .now)) [] in
+    (q .ensures .0 ∙ ap (keepPoints (a .outs .now)) (k .ensures .0) ∙ sym whole, (omega arith, omega arith))
+
+pub points-spec : {M : Type 1} → statement M
+points-spec = tie.close (tie.spec keep-shifts-requires keep-all-requires same-length returns)

@@ -1,0 +1,56 @@
+-- `intake::encode_input` meets its contract.
+use mathlib.Core.Path.{sym, ap, _∙_}
+use Rattle.outcome.specs.Meaning.{answerOf}
+use Rattle.intake.specs.Input.{encodeWords, encodeInput}
+use Rattle.intake.proofs.InputWords.{Made, answered-words, refused-words}
+use borrow.Author.Needs.{needs}
+use Rattle.intake.proofs.encode_input.Statement.{statement}
+use Rattle.intake.proofs.encode_input.Tie as tie
+
+words-requires : tie.Need-words-requires
+words-requires c κs = search needs
+
+enum-known-read : tie.Need-enum-known-read
+enum-known-read c = search needs
+
+encode-words-requires : tie.Need-encode-words-requires
+encode-words-requires c κs = search needs
+
+enum-known-read-2 : tie.Need-enum-known-read-2
+enum-known-read-2 c = search needs
+
+same-length : tie.Need-same-length
+same-length c = search needs
+
+returns : tie.Need-returns
+unfolding answerOf encodeInput
+returns c =
+    let run = c .before .before .encode-words .ensures in
+    let read = c .before .before .before .before .before .before .read .given in
+    let words = c .before .before .before .before .before .before .before .before .words .ensures in
+    let a = c .before .before .before .before .before .before .before .before .before .before .before .before .args in
+    let m = answered-words (a .bytes .now) _ encodeWords (a .output .now)
+    (record { answered = sym (ap answerOf (read .1)) ∙ words .0; written = words .1 })
+    (record { answered = run .0; written = run .1 }) in
+    (m .answered, m .written)
+
+returns-2 : tie.Need-returns-2
+unfolding answerOf encodeInput
+returns-2 c =
+    let read = c .before .read2 .given in
+    let words = c .before .before .before .words .ensures in
+    let a = c .before .before .before .before .before .before .before .args in
+    let m = refused-words (a .bytes .now) _ encodeWords (a .output .now) (read .0 .0) (read .0 .1 .0) (sym (ap answerOf (read .1)) ∙ words .0) in
+    (m .answered, m .written)
+
+pub encode-input-spec : {M : Type 1} → statement M
+encode-input-spec =
+    tie.close
+    (tie.spec
+    words-requires
+    enum-known-read
+    encode-words-requires
+    enum-known-read-2
+    same-length
+    returns
+    returns-2)

@@ -1,0 +1,20 @@
+-- `sheet::size_log` meets its contract. Assumes nothing.
+use Rattle.sheet.proofs.DomainSizes.{size-one-bit}
+use borrow.Author.Needs.{needs}
+use Rattle.sheet.proofs.size_log.Statement.{statement}
+use Rattle.sheet.proofs.size_log.Tie as tie
+
+shared-slice-read-log2 : tie.Need-shared-slice-read-log2
+shared-slice-read-log2 c = search needs
+
+log2-requires : tie.Need-log2-requires
+log2-requires c κs = size-one-bit _ (c .before .before .pre .1)
+
+cast-result : tie.Need-cast-result
+cast-result c = search needs
+
+returns : tie.Need-returns
+returns c = search needs
+
+pub size-log-spec : {M : Type 1} → statement M
+size-log-spec = tie.close (tie.spec shared-slice-read-log2 log2-requires cast-result returns)

@@ -1,0 +1,17 @@
+-- `tevrolig::tevrolig_sum` meets its contract. Assumes nothing.
+use borrow.Author.Needs.{needs}
+use Rattle.tevrolig.proofs.Numbered.{as-defined}
+use Rattle.tevrolig.proofs.tevrolig_sum.Statement.{statement}
+use Rattle.tevrolig.proofs.tevrolig_sum.Tie as tie
+
+sum-requires : tie.Need-sum-requires
+sum-requires c κs = search needs
+
+write-element-requires : tie.Need-write-element-requires
+write-element-requires c κs = search needs
+
+returns : tie.Need-returns
+returns c = as-defined (c .before .before .sum .result) (c .write-element .ensures) (c .before .before .sum .ensures)
+
+pub tevrolig-sum-spec : {M : Type 1} → statement M
+tevrolig-sum-spec = tie.close (tie.spec sum-requires write-element-requires returns)

@@ -1,0 +1,230 @@
+// The operations as C functions. Nothing is allocated and no state is kept; what is lent is lent for the call alone.
+use field::Element;
+use field::Inverted;
+use field::PowerTurns;
+use outcome::Answer;
+use outcome::Outcome;
+use reader::Word;
+ghost use mathlib.Core.Path.{_≡_};
+ghost use Rattle.definition.specs.Verify.{verify};
+ghost use Rattle.definition.specs.Block.{streamOf};
+ghost use Rattle.definition.specs.Prove.{encode, prove};
+ghost use Rattle.definition.specs.Field.{sum, difference, product, powerOf, powerTurnsOf, inverseOf};
+ghost use Rattle.field.specs.Answer.{answerOf, invertedOf};
+ghost use Rattle.outcome.specs.Meaning.{answerOf as orderAnswer};
+ghost use Rattle.reader.specs.Words.{wordIn, sheetWords};
+ghost use Rattle.tevrolig.specs.Numbers.{numberOf, placeIn, refusalOf, valueOf, wordThere, wordOrZero, fieldNamed, elementOrZero, powerNamed, powerOrZero, turnsOrZero, inverseNumber, inverseOrZero};
+
+// Judges a file. Answers 0 for accepted, else the fault's number, and writes the fault's place (0 where accepted) and the count of reads.
+#[no_mangle]
+pub extern "C" fn tevrolig_verify(file: &[u8], place: &mut u64, reads: &mut u64) -> u32
+    ensures { λ r. ⌜ r ≡ numberOf (verify (now (file .entry)) .outcome) ⌝ }
+    ensures { λ r. ⌜ now (place .exit) ≡ placeIn (verify (now (file .entry)) .outcome) ⌝ }
+    ensures { λ r. ⌜ now (reads .exit) ≡ verify (now (file .entry)) .reads ⌝ }
+{
+    let v = verify::verify(file);
+    *reads = v.reads as u64;
+    let o = v.outcome;
+    match o {
+        Outcome::Accepted => {
+            *place = 0;
+            0
+        }
+        Outcome::Refused(number, at) => {
+            *place = at as u64;
+            number
+        }
+    }
+}
+
+// Shows a word of the stream, as the place of a refusal 5, 6 or 7 names it. Answers 1 and writes the word, or 0 where the file's whole
+// blocks hold no word of that number, and then `word` is 0.
+#[no_mangle]
+pub extern "C" fn tevrolig_word(file: &[u8], number: u64, word: &mut u32) -> u32
+    ensures { λ r. ⌜ r ≡ wordThere (wordIn (streamOf (now (file .entry))) number) ⌝ }
+    ensures { λ r. ⌜ now (word .exit) ≡ wordOrZero (wordIn (streamOf (now (file .entry))) number) ⌝ }
+{
+    let w = reader::word_in(file, number as usize);
+    match w {
+        Word::Value(x) => {
+            *word = x;
+            1
+        }
+        Word::End => {
+            *word = 0;
+            0
+        }
+    }
+}
+
+// Shows the sheet that a file holds, judged or not: writes its 12 words at the front of `output`. Answers 0; or a refusal's number, 1 where the file has no
+// whole block and 11 where the output has not room for 12 words, and the output is as before.
+#[no_mangle]
+pub extern "C" fn tevrolig_sheet_of(file: &[u8], output: &mut [u32]) -> u32
+    ensures { λ r. ⌜ r ≡ refusalOf (sheetWords (now (file .entry)) (now (output .entry)) .answer) ⌝ }
+    ensures { λ r. ⌜ now (output .exit) ≡ sheetWords (now (file .entry)) (now (output .entry)) .output ⌝ }
+{
+    let answer = reader::sheet_of(file, output);
+    match answer {
+        Answer::Done(count) => 0,
+        Answer::Refusal(number, place) => number,
+    }
+}
+
+// Writes an answer's value: the count where done, else the refusal's place. Answers 0 where done, else the refusal's number.
+fn write_value(answer: Answer, value: &mut u64) -> u32
+    ensures { λ r. ⌜ r ≡ refusalOf (orderAnswer answer) ⌝ }
+    ensures { λ r. ⌜ now (value .exit) ≡ valueOf (orderAnswer answer) ⌝ }
+{
+    match answer {
+        Answer::Done(count) => {
+            *value = count as u64;
+            0
+        }
+        Answer::Refusal(number, place) => {
+            *value = place as u64;
+            number
+        }
+    }
+}
+
+// Writes the honest file of a polynomial and coins at the front of `output`. Answers 0, with the number of blocks in `value`; or a refusal's number, with its
+// place in `value`, and the output is as before.
+#[no_mangle]
+pub extern "C" fn tevrolig_prove(
+    sheet: &[u32],
+    coefficients: &[u32],
+    coins: &[u32],
+    output: &mut [u8],
+    value: &mut u64,
+) -> u32
+    ensures { λ r. ⌜ r ≡ refusalOf (prove (now (sheet .entry)) (now (coefficients .entry)) (now (coins .entry)) (now (output .entry)) .answer) ⌝ }
+    ensures { λ r. ⌜ now (value .exit) ≡ valueOf (prove (now (sheet .entry)) (now (coefficients .entry)) (now (coins .entry)) (now (output .entry)) .answer) ⌝ }
+    ensures { λ r. ⌜ now (output .exit) ≡ prove (now (sheet .entry)) (now (coefficients .entry)) (now (coins .entry)) (now (output .entry)) .output ⌝ }
+{
+    let answer = prove::prove(sheet, coefficients, coins, output);
+    write_value(answer, value)
+}
+
+// Writes table 0 of a polynomial at the front of `output`. Answers 0, with n0 in `value`; or a refusal's number, with its place in `value`, and the output is as
+// before.
+#[no_mangle]
+pub extern "C" fn tevrolig_encode(
+    sheet: &[u32],
+    coefficients: &[u32],
+    output: &mut [u32],
+    value: &mut u64,
+) -> u32
+    ensures { λ r. ⌜ r ≡ refusalOf (encode (now (sheet .entry)) (now (coefficients .entry)) (now (output .entry)) .answer) ⌝ }
+    ensures { λ r. ⌜ now (value .exit) ≡ valueOf (encode (now (sheet .entry)) (now (coefficients .entry)) (now (output .entry)) .answer) ⌝ }
+    ensures { λ r. ⌜ now (output .exit) ≡ encode (now (sheet .entry)) (now (coefficients .entry)) (now (output .entry)) .output ⌝ }
+{
+    let answer = encode::encode(sheet, coefficients, output);
+    write_value(answer, value)
+}
+
+// Writes an element, or 0 where the number named no field; answers 1 or 0.
+fn write_element(answer: Element, element: &mut u32) -> u32
+    ensures { λ r. ⌜ r ≡ fieldNamed (answerOf answer) ⌝ }
+    ensures { λ r. ⌜ now (element .exit) ≡ elementOrZero (answerOf answer) ⌝ }
+{
+    match answer {
+        Element::Value(x) => {
+            *element = x;
+            1
+        }
+        Element::NoField => {
+            *element = 0;
+            0
+        }
+    }
+}
+
+// The sum of two words in a field. Each field operation answers 1 and writes the element, or 0 where the number names no field, and then
+// `element` is 0.
+#[no_mangle]
+pub extern "C" fn tevrolig_sum(field: u32, a: u32, b: u32, element: &mut u32) -> u32
+    ensures { λ r. ⌜ r ≡ fieldNamed (sum field a b) ⌝ }
+    ensures { λ r. ⌜ now (element .exit) ≡ elementOrZero (sum field a b) ⌝ }
+{
+    write_element(field::sum(field, a, b), element)
+}
+
+// The difference of two words in a field.
+#[no_mangle]
+pub extern "C" fn tevrolig_difference(field: u32, a: u32, b: u32, element: &mut u32) -> u32
+    ensures { λ r. ⌜ r ≡ fieldNamed (difference field a b) ⌝ }
+    ensures { λ r. ⌜ now (element .exit) ≡ elementOrZero (difference field a b) ⌝ }
+{
+    write_element(field::difference(field, a, b), element)
+}
+
+// The product of two words in a field.
+#[no_mangle]
+pub extern "C" fn tevrolig_product(field: u32, a: u32, b: u32, element: &mut u32) -> u32
+    ensures { λ r. ⌜ r ≡ fieldNamed (product field a b) ⌝ }
+    ensures { λ r. ⌜ now (element .exit) ≡ elementOrZero (product field a b) ⌝ }
+{
+    write_element(field::product(field, a, b), element)
+}
+
+// The power of a word in a field; the exponent is any word as it is.
+#[no_mangle]
+pub extern "C" fn tevrolig_power(field: u32, a: u32, exponent: u32, element: &mut u32) -> u32
+    ensures { λ r. ⌜ r ≡ fieldNamed (powerOf field a exponent) ⌝ }
+    ensures { λ r. ⌜ now (element .exit) ≡ elementOrZero (powerOf field a exponent) ⌝ }
+{
+    write_element(field::power(field, a, exponent), element)
+}
+
+// The same power, and the turns that its loop made: as many as the exponent has binary digits, none for 0. Where the number names no field, `turns` is 0 too.
+#[no_mangle]
+pub extern "C" fn tevrolig_power_turns(
+    field: u32,
+    a: u32,
+    exponent: u32,
+    element: &mut u32,
+    turns: &mut u32,
+) -> u32
+    ensures { λ r. ⌜ r ≡ powerNamed (powerTurnsOf field a exponent) ⌝ }
+    ensures { λ r. ⌜ now (element .exit) ≡ powerOrZero (powerTurnsOf field a exponent) ⌝ }
+    ensures { λ r. ⌜ now (turns .exit) ≡ turnsOrZero (powerTurnsOf field a exponent) ⌝ }
+{
+    *element = 0;
+    *turns = 0;
+    let answer = field::power_turns(field, a, exponent);
+    match answer {
+        PowerTurns::Value(power, made) => {
+            *element = power;
+            *turns = made;
+            1
+        }
+        PowerTurns::NoField => 0,
+    }
+}
+
+// Writes an inverse that was found, else 0; answers 1 where it was found, 2 where there is none, 0 where the number named no field.
+fn write_inverse(answer: Inverted, element: &mut u32) -> u32
+    ensures { λ r. ⌜ r ≡ inverseNumber (invertedOf answer) ⌝ }
+    ensures { λ r. ⌜ now (element .exit) ≡ inverseOrZero (invertedOf answer) ⌝ }
+{
+    *element = 0;
+    match answer {
+        Inverted::Found(u) => {
+            *element = u;
+            1
+        }
+        Inverted::Nothing => 2,
+        Inverted::NoField => 0,
+    }
+}
+
+// The inverse of a word in a field. Answers 1 and writes it, or answers 2 where there is none, exactly for 0, or 0 where the number names no field; `element`
+// is then 0.
+#[no_mangle]
+pub extern "C" fn tevrolig_inverse(field: u32, a: u32, element: &mut u32) -> u32
+    ensures { λ r. ⌜ r ≡ inverseNumber (inverseOf field a) ⌝ }
+    ensures { λ r. ⌜ now (element .exit) ≡ inverseOrZero (inverseOf field a) ⌝ }
+{
+    write_inverse(field::inverse(field, a), element)
+}
