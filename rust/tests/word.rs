@@ -74,7 +74,9 @@ fn the_sheet_of_files_and_outputs_of_every_length() {
     for length in 0..=file.len() {
         let file = &file[..length];
         let held = expected(file, 11).is_some();
-        let sheet: Vec<u32> = (0..12).filter_map(|number| expected(file, number)).collect();
+        let sheet: Vec<u32> = (0..12)
+            .filter_map(|number| expected(file, number))
+            .collect();
         assert_eq!(
             tevrolig::sheet_of(file).map(Vec::from),
             held.then(|| sheet.clone())
