@@ -65,7 +65,7 @@ abbrev pub Nonzero : ℕ → ℕ → Type 0
 Nonzero field x = divisors.Nonzero (fieldOf field) (laws field) x
 
 module _ (field : ℕ) where
-  inverse-reduced : (x : ℕ) → laws field .reduce (reciprocal (fieldOf field) x) ≡ reciprocal (fieldOf field) x
+  pub inverse-reduced : (x : ℕ) → laws field .reduce (reciprocal (fieldOf field) x) ≡ reciprocal (fieldOf field) x
   unfolding fieldOf primeField reciprocal foundOr
   inverse-reduced x = go (eqb (x % primeOf field) 0)
     where

@@ -1,3 +1,3 @@
-pub mod Roots
+pub mod RootValues
 pub mod Turns
 pub mod Shifts

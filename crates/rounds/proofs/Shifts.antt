@@ -31,14 +31,14 @@ fits-for e h = rw e h
 pub below-at : {count : ℕ} (js : List ℕ) → Below count js → (i : ℕ) {j : ℕ} → i < length js → j ≡ getD js i 0 → j < count
 below-at js h i l e = rw e (h i l)
 
-module _ (field : ℕ) (pw table xs cs : List ℕ) (how : Function) where
-  pub sampled : (k r j : ℕ) {x y : ℕ} → x ≡ shiftIn pw (how .scale) k j → y ≡ foldIn field pw table xs cs how k r j →
-      record { point = x; value = y } ≡ sampleIn field pw table xs cs how k r j
+module _ (field : ℕ) (pw table ac vg : List ℕ) (how : Function) where
+  pub sampled : (k r j : ℕ) {x y : ℕ} → x ≡ shiftIn pw (how .scale) k j → y ≡ foldIn field pw table ac vg how k r j →
+      record { point = x; value = y } ≡ sampleIn field pw table ac vg how k r j
   unfolding sampleIn
   sampled k r j ex ey = λ i. record { point = ex i; value = ey i }
 
-  pub sample-for : (r k : ℕ) {k′ j j′ : ℕ} {s : Sample ℕ} → s ≡ sampleIn field pw table xs cs how k r j → k ≡ k′ → j ≡ j′ → s ≡ sampleIn field pw table xs cs how k′ r j′
-  sample-for r k e ek ej = e ∙ (λ i. sampleIn field pw table xs cs how (ek i) r (ej i))
+  pub sample-for : (r k : ℕ) {k′ j j′ : ℕ} {s : Sample ℕ} → s ≡ sampleIn field pw table ac vg how k r j → k ≡ k′ → j ≡ j′ → s ≡ sampleIn field pw table ac vg how k′ r j′
+  sample-for r k e ek ej = e ∙ (λ i. sampleIn field pw table ac vg how (ek i) r (ej i))
 
 -- ---- putting the samples, from the last index to the first
 

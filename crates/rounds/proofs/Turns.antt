@@ -71,14 +71,14 @@ module _ (F : Field ℕ) (half : ℕ) (back : ℕ → ℕ) (whole : ℕ) where
 
 -- ---- the fold
 
-pub folded : (field : ℕ) (pw table xs cs : List ℕ) (how : Function) (k r j : ℕ) (values : List ℕ) {points n v : ℕ} → Fits points n how k → length values ≡ k →
-    ((m : ℕ) → m < k → getD values m 0 ≡ rootIn field pw table xs cs how j m) →
+pub folded : (field : ℕ) (pw table ac vg : List ℕ) (how : Function) (k r j : ℕ) (values : List ℕ) {points n v : ℕ} → Fits points n how k → length values ≡ k →
+    ((m : ℕ) → m < k → getD values m 0 ≡ rootIn field pw table ac vg how j m) →
     v ≡ halving (fieldOf field) (halfOf field) (backIn pw) (exponentOf (length values)) (1 + how .scale * j) (how .scale * how .step) r (λ m. getD values m 0) →
-    v ≡ foldIn field pw table xs cs how k r j
+    v ≡ foldIn field pw table ac vg how k r j
 unfolding foldIn
-folded field pw table xs cs how k r j values fits long there e =
+folded field pw table ac vg how k r j values fits long there e =
     let d = how .scale * how .step in
     let w : ℕ → ℕ = λ m. getD values m 0 in
     e ∙ ap (λ (l : ℕ). halving (fieldOf field) (halfOf field) (backIn pw) (exponentOf l) (1 + how .scale * j) d r w) long
-    ∙ halving-same (fieldOf field) (halfOf field) (backIn pw) (exponentOf k) (1 + how .scale * j) d r w (rootIn field pw table xs cs how j)
+    ∙ halving-same (fieldOf field) (halfOf field) (backIn pw) (exponentOf k) (1 + how .scale * j) d r w (rootIn field pw table ac vg how j)
     (λ m l. there m (omega (arith, power-of fits)))

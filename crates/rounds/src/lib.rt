@@ -1,104 +1,199 @@
 // One round of deciding: the samples at the out coins and at the shift points, gathered without repeats; and the final comparison.
 //
 // The caller lends the words. pw is the table of the powers of ω, from the first power on to the n0-th, which is 1: point m of domain i is pw[2^i·m], and
-// the inverse of a power stands in the table too. A level's function is worked out from the table sent and from the samples of its round, whose points xs
-// and Newton coefficients cs stand in the last places of their slices.
+// the inverse of a power stands in the table too. A level's function is worked out from the table sent and from the samples of its round: ac has the
+// coefficients of A; vg those of V, and from place 66 on those of the geometric sum. At the k roots of a shift point y = x^k, of which the powers are one list,
+// k sums of products make of each list a polynomial with k coefficients and the same values there.
 //
 // The fold at a shift point divides by 2 and by powers of ω. Its k roots are x·ζ^m, where ζ^(k/2) is -1, so root m and root m + k/2 are opposite. From the values v
 // at x and w at -x the polynomial E + r·O, made of the even and the odd half of the one through all k values, has (v + w + r·(v - w)/x)/2 at x², and at r² what
 // that one has at r. So k values halve to k/2, until one is left. The caller lends `values` for them, k words of scratch. The inverse of 2 is asked for once for
 // all coins of a round; that of a power of ω stands in the table.
 use field::Inversion;
+use lists::Inverses;
 use outcome::Found;
-use polynomial::Two;
 use samples::Gathered;
 ghost use mathlib.Core.Path.{_≡_};
 ghost use mathlib.Core.List.{map};
 ghost use Prim.Native.Nat.{ℕ, _+_, _*_, _^_, _≤_, _<_};
-ghost use lib.ListN.{length, getD};
-ghost use Rattle.definition.specs.Field.{fieldOf};
+ghost use lib.ListN.{length, getD, take, drop};
+ghost use Rattle.definition.specs.Field.{Field, fieldOf};
+ghost use Rattle.definition.specs.Polynomial.{evaluate};
+ghost use Rattle.domain.specs.Filled.{Filled};
 ghost use Rattle.field.specs.Answer.{inversionOf};
 ghost use Rattle.outcome.specs.Meaning.{placeOf};
+ghost use Rattle.polynomial.specs.Inverses.{Nonzero};
 ghost use Rattle.samples.specs.Samples.{kept, sifted, Room};
 ghost use Rattle.rounds.specs.Halving.{joined, halving, exponentOf};
 ghost use Rattle.rounds.specs.PointsIn.{backIn, shiftIn, ShiftPoint};
-ghost use Rattle.rounds.specs.Round.{Fits, Below, Clear, halfOf, valueIn, rootIn, foldIn, sampleIn};
+ghost use Rattle.rounds.specs.Round.{Fits, Below, Clear, Rooted, vanishingIn, correctedIn, halfOf, rootIn, foldIn, sampleIn};
 ghost use Rattle.rounds.specs.RoundLaws.{Answered, Compared};
 
-// How the function of a level is worked out: its point m stands at scale·m in pw, the roots of a shift point have numbers that are `step` apart, and the
-// samples stand from number `from` on, to correct the table by with the combination coin. Before the first round there are none, and the table's own
-// values are the function's.
+// How the function of a level is worked out: its point m stands at scale·m in pw, the roots of a shift point have numbers that are `step` apart, and the first
+// `words` of the coefficients are in use. Before the first round there are no samples, no words, and the table's own values are the function's.
 pub struct Function {
     pub scale: usize,
     pub step: usize,
-    pub from: usize,
-    pub coin: u32,
+    pub words: usize,
 }
 
-// The function's values at points number m and o.
-fn value_two(
+// Places for the values at the roots of a shift point, at most 16.
+fn roots() -> [u32; 16]
+    ensures { λ r. ⌜ length r ≡ 16 ⌝ }
+{
+    [0u32; 16]
+}
+
+// Places for the powers of a shift point, at most 66 / 2.
+fn columns() -> [u32; 33]
+    ensures { λ r. ⌜ length r ≡ 33 ⌝ }
+{
+    [0u32; 33]
+}
+
+// The values of f at the k roots of a point, whose powers are given, into the first k words of out. The roots stand in pw from place `at` on, step places apart.
+// k sums of products give a polynomial of k coefficients that has f's values there, and its table comes by halves.
+fn at_roots(
+    field: u32,
+    f: &[u32],
+    powers: &[u32],
+    pw: &[u32],
+    at: usize,
+    step: usize,
+    k: usize,
+    out: &mut [u32],
+)
+    requires { ⌜ Rooted field (now pw) at step k (now powers) ⌝ }
+    requires { ⌜ (length (now f) ≡ k * length (now powers)) × (k ≤ length (now out)) ⌝ }
+    ensures { λ _. ⌜ ((m : ℕ) → m < k → getD (now (out .exit)) m 0 ≡ evaluate (fieldOf field) (now (f .entry)) (getD (now (pw .entry)) (at + step * m) 0)) ⌝ }
+{
+    let mut sums = roots();
+    lists::residues(field, f, powers, &mut sums[..k]);
+    tables::on_roots(field, &sums[..k], pw, at, step, &mut out[..k]);
+}
+
+// Each value y, where A has a, V the inverse v and the geometric sum g, becomes (y - a)·v·g.
+fn correct(field: u32, a: &[u32], v: &[u32], g: &[u32], values: &mut [u32])
+    requires { ⌜ (length (now values) ≤ length (now a)) × ((length (now values) ≤ length (now v)) × (length (now values) ≤ length (now g))) ⌝ }
+    ensures { λ _. ⌜ Filled (λ m. fieldOf field ._⊗_ (fieldOf field ._⊗_ (fieldOf field ._⊖_ (getD (now (values .entry)) m 0) (getD (now (a .entry)) m 0)) (getD (now (v .entry)) m 0)) (getD (now (g .entry)) m 0)) (now (values .entry)) (now (values .exit)) (length (now (values .entry))) ⌝ }
+{
+    let mut m = 0;
+    while m < values.len() {
+        let difference = field::sub(field, values[m], a[m]);
+        let quotient = field::mul(field, difference, v[m]);
+        values[m] = field::mul(field, quotient, g[m]);
+        m += 1;
+    }
+}
+
+// The corrected values at the k roots, where the table has `values` and `powers` are those of the shift point. V is 0 at none of them, and one inversion serves all.
+fn quotients(
     field: u32,
     pw: &[u32],
-    table: &[u32],
-    xs: &[u32],
-    cs: &[u32],
+    ac: &[u32],
+    vg: &[u32],
     how: Function,
-    m: usize,
-    o: usize,
-) -> Two
-    requires { ⌜ (how .from ≤ length (now xs)) × ((length (now xs) ≤ length (now cs)) × (Clear field (now pw) (length (now table)) (now xs) how)) ⌝ }
-    requires { ⌜ (m < length (now table)) × (o < length (now table)) ⌝ }
-    requires { ⌜ (how .scale * m < length (now pw)) × (how .scale * o < length (now pw)) ⌝ }
-    ensures { λ v. ⌜ v .first ≡ valueIn field (now (pw .entry)) (now (table .entry)) (now (xs .entry)) (now (cs .entry)) how m ⌝ }
-    ensures { λ v. ⌜ v .second ≡ valueIn field (now (pw .entry)) (now (table .entry)) (now (xs .entry)) (now (cs .entry)) how o ⌝ }
+    at: usize,
+    step: usize,
+    powers: &[u32],
+    values: &mut [u32],
+)
+    requires { ⌜ (length (now ac) ≡ 66) × (length (now vg) ≡ 132) ⌝ }
+    requires { ⌜ Rooted field (now pw) at step (length (now values)) (now powers) ⌝ }
+    requires { ⌜ (how .words ≡ length (now values) * length (now powers)) × (how .words ≤ 66) ⌝ }
+    requires { ⌜ ((m : ℕ) → m < length (now values) → Nonzero field (evaluate (fieldOf field) (vanishingIn (how .words) (now vg)) (getD (now pw) (at + step * m) 0))) ⌝ }
+    ensures { λ _. ⌜ ((m : ℕ) → m < length (now (values .entry)) → getD (now (values .exit)) m 0 ≡ correctedIn (fieldOf field) (how .words) (now (ac .entry)) (now (vg .entry)) (getD (now (pw .entry)) (at + step * m) 0) (getD (now (values .entry)) m 0)) ⌝ }
 {
-    let y1 = table[m];
-    let y2 = table[o];
-    if how.from == xs.len() {
-        return Two {
-            first: y1,
-            second: y2,
-        };
-    }
-    let x1 = pw[how.scale * m];
-    let x2 = pw[how.scale * o];
-    polynomial::corrected_two(field, xs, cs, how.from, how.coin, x1, y1, x2, y2)
+    let k = values.len();
+    let mut a = roots();
+    let mut v = roots();
+    let mut g = roots();
+    at_roots(
+        field,
+        lists::part(ac, 0, how.words),
+        powers,
+        pw,
+        at,
+        step,
+        k,
+        &mut a,
+    );
+    at_roots(
+        field,
+        lists::part(vg, 0, how.words),
+        powers,
+        pw,
+        at,
+        step,
+        k,
+        &mut v,
+    );
+    at_roots(
+        field,
+        lists::part(vg, 66, how.words),
+        powers,
+        pw,
+        at,
+        step,
+        k,
+        &mut g,
+    );
+    let mut behind = roots();
+    let found = lists::invert_all(field, &mut v[..k], &mut behind);
+    let Inverses::Found = found else {
+        return;
+    };
+    correct(field, &a, &v, &g, values);
 }
 
-// The values at the k roots of shift point j into `values`, two opposite roots at a time.
+// The table's values at the k roots of shift point j.
+fn gather_table(table: &[u32], step: usize, j: usize, values: &mut [u32])
+    requires { ⌜ ((m : ℕ) → m < length (now values) → j + step * m < length (now table)) ⌝ }
+    ensures { λ _. ⌜ Filled (λ m. getD (now (table .entry)) (j + step * m) 0) (now (values .entry)) (now (values .exit)) (length (now (values .entry))) ⌝ }
+{
+    let mut m = 0;
+    while m < values.len() {
+        values[m] = lists::every(table, j, step, m);
+        m += 1;
+    }
+}
+
+// The function's values at the k roots of shift point j into `values`: the table's, and where there are samples these are corrected.
 fn gather(
     field: u32,
     pw: &[u32],
     table: &[u32],
-    xs: &[u32],
-    cs: &[u32],
+    ac: &[u32],
+    vg: &[u32],
     how: Function,
     j: usize,
     values: &mut [u32],
 )
-    requires { ⌜ (how .from ≤ length (now xs)) × ((length (now xs) ≤ length (now cs)) × (Clear field (now pw) (length (now table)) (now xs) how)) ⌝ }
+    requires { ⌜ (length (now ac) ≡ 66) × ((length (now vg) ≡ 132) × (Clear field (now pw) (length (now table)) (now vg) how)) ⌝ }
     requires { ⌜ Fits (length (now pw)) (length (now table)) how (length (now values)) ⌝ }
     requires { ⌜ j < how .step ⌝ }
-    ensures { λ _. ⌜ ((m : ℕ) → m < length (now (values .entry)) → getD (now (values .exit)) m 0 ≡ rootIn field (now (pw .entry)) (now (table .entry)) (now (xs .entry)) (now (cs .entry)) how j m) ⌝ }
+    ensures { λ _. ⌜ ((m : ℕ) → m < length (now (values .entry)) → getD (now (values .exit)) m 0 ≡ rootIn field (now (pw .entry)) (now (table .entry)) (now (ac .entry)) (now (vg .entry)) how j m) ⌝ }
 {
-    let step = how.step;
-    let h = values.len() / 2;
-    let mut m = 0;
-    while m < h {
-        let v = value_two(
-            field,
-            pw,
-            table,
-            xs,
-            cs,
-            how,
-            j + m * step,
-            j + (h + m) * step,
-        );
-        values[m] = v.first;
-        values[h + m] = v.second;
-        m += 1;
+    let k = values.len();
+    gather_table(table, how.step, j, values);
+    if how.words == 0 {
+        return;
     }
+    let count = how.words / k;
+    let y = shift_point(pw, how.scale, j, k);
+    let mut powers = columns();
+    lists::powers(field, y, &mut powers[..count]);
+    quotients(
+        field,
+        pw,
+        ac,
+        vg,
+        how,
+        how.scale * j,
+        how.scale * how.step,
+        &powers[..count],
+        values,
+    );
 }
 
 // What the inversion of 2 answers.
@@ -183,21 +278,21 @@ fn fold_at(
     field: u32,
     pw: &[u32],
     table: &[u32],
-    xs: &[u32],
-    cs: &[u32],
+    ac: &[u32],
+    vg: &[u32],
     how: Function,
     j: usize,
     r: u32,
     two: Inversion,
     values: &mut [u32],
 ) -> u32
-    requires { ⌜ (how .from ≤ length (now xs)) × ((length (now xs) ≤ length (now cs)) × (Clear field (now pw) (length (now table)) (now xs) how)) ⌝ }
+    requires { ⌜ (length (now ac) ≡ 66) × ((length (now vg) ≡ 132) × (Clear field (now pw) (length (now table)) (now vg) how)) ⌝ }
     requires { ⌜ Fits (length (now pw)) (length (now table)) how (length (now values)) ⌝ }
     requires { ⌜ j < how .step ⌝ }
     requires { ⌜ inversionOf two ≡ fieldOf field .inverse 2 ⌝ }
-    ensures { λ v. ⌜ v ≡ foldIn field (now (pw .entry)) (now (table .entry)) (now (xs .entry)) (now (cs .entry)) how (length (now (values .entry))) r j ⌝ }
+    ensures { λ v. ⌜ v ≡ foldIn field (now (pw .entry)) (now (table .entry)) (now (ac .entry)) (now (vg .entry)) how (length (now (values .entry))) r j ⌝ }
 {
-    gather(field, pw, table, xs, cs, how, j, values);
+    gather(field, pw, table, ac, vg, how, j, values);
     fold_values(
         field,
         pw,
@@ -236,22 +331,22 @@ pub fn sample_at(
     field: u32,
     pw: &[u32],
     table: &[u32],
-    xs: &[u32],
-    cs: &[u32],
+    ac: &[u32],
+    vg: &[u32],
     how: Function,
     j: usize,
     r: u32,
     two: Inversion,
     values: &mut [u32],
 ) -> Point
-    requires { ⌜ (how .from ≤ length (now xs)) × ((length (now xs) ≤ length (now cs)) × (Clear field (now pw) (length (now table)) (now xs) how)) ⌝ }
+    requires { ⌜ (length (now ac) ≡ 66) × ((length (now vg) ≡ 132) × (Clear field (now pw) (length (now table)) (now vg) how)) ⌝ }
     requires { ⌜ Fits (length (now pw)) (length (now table)) how (length (now values)) ⌝ }
     requires { ⌜ j < how .step ⌝ }
     requires { ⌜ inversionOf two ≡ fieldOf field .inverse 2 ⌝ }
-    ensures { λ v. ⌜ record { point = v .x; value = v .y } ≡ sampleIn field (now (pw .entry)) (now (table .entry)) (now (xs .entry)) (now (cs .entry)) how (length (now (values .entry))) r j ⌝ }
+    ensures { λ v. ⌜ record { point = v .x; value = v .y } ≡ sampleIn field (now (pw .entry)) (now (table .entry)) (now (ac .entry)) (now (vg .entry)) how (length (now (values .entry))) r j ⌝ }
 {
     let x = shift_point(pw, how.scale, j, values.len());
-    let y = fold_at(field, pw, table, xs, cs, how, j, r, two, values);
+    let y = fold_at(field, pw, table, ac, vg, how, j, r, two, values);
     Point { x: x, y: y }
 }
 
@@ -260,8 +355,8 @@ fn put_shifts(
     field: u32,
     pw: &[u32],
     table: &[u32],
-    xs: &[u32],
-    cs: &[u32],
+    ac: &[u32],
+    vg: &[u32],
     how: Function,
     r: u32,
     two: Inversion,
@@ -270,12 +365,12 @@ fn put_shifts(
     px: &mut [u32],
     py: &mut [u32],
 ) -> Gathered
-    requires { ⌜ (how .from ≤ length (now xs)) × ((length (now xs) ≤ length (now cs)) × (Clear field (now pw) (length (now table)) (now xs) how)) ⌝ }
+    requires { ⌜ (length (now ac) ≡ 66) × ((length (now vg) ≡ 132) × (Clear field (now pw) (length (now table)) (now vg) how)) ⌝ }
     requires { ⌜ Fits (length (now pw)) (length (now table)) how (length (now values)) ⌝ }
     requires { ⌜ Below (how .step) (now shifts) ⌝ }
     requires { ⌜ (length (now py) ≡ length (now px)) × (length (now shifts) ≤ length (now px)) ⌝ }
     requires { ⌜ inversionOf two ≡ fieldOf field .inverse 2 ⌝ }
-    ensures { λ v. ⌜ kept v (now (px .exit)) (now (py .exit)) ≡ sifted field (map (sampleIn field (now (pw .entry)) (now (table .entry)) (now (xs .entry)) (now (cs .entry)) how (length (now (values .entry))) r) (now (shifts .entry))) ⌝ }
+    ensures { λ v. ⌜ kept v (now (px .exit)) (now (py .exit)) ≡ sifted field (map (sampleIn field (now (pw .entry)) (now (table .entry)) (now (ac .entry)) (now (vg .entry)) how (length (now (values .entry))) r) (now (shifts .entry))) ⌝ }
     ensures { λ v. ⌜ Room (length (now (px .entry))) (length (now (shifts .entry))) v ⌝ }
 {
     let mut k = px.len();
@@ -286,8 +381,8 @@ fn put_shifts(
             field,
             pw,
             table,
-            xs,
-            cs,
+            ac,
+            vg,
             how,
             wide(shifts[i]),
             r,
@@ -308,8 +403,8 @@ pub fn push_shifts(
     field: u32,
     pw: &[u32],
     table: &[u32],
-    xs: &[u32],
-    cs: &[u32],
+    ac: &[u32],
+    vg: &[u32],
     how: Function,
     r: u32,
     shifts: &[u32],
@@ -317,11 +412,11 @@ pub fn push_shifts(
     px: &mut [u32],
     py: &mut [u32],
 ) -> Gathered
-    requires { ⌜ (how .from ≤ length (now xs)) × ((length (now xs) ≤ length (now cs)) × (Clear field (now pw) (length (now table)) (now xs) how)) ⌝ }
+    requires { ⌜ (length (now ac) ≡ 66) × ((length (now vg) ≡ 132) × (Clear field (now pw) (length (now table)) (now vg) how)) ⌝ }
     requires { ⌜ Fits (length (now pw)) (length (now table)) how (length (now values)) ⌝ }
     requires { ⌜ Below (how .step) (now shifts) ⌝ }
     requires { ⌜ (length (now py) ≡ length (now px)) × (length (now shifts) ≤ length (now px)) ⌝ }
-    ensures { λ v. ⌜ kept v (now (px .exit)) (now (py .exit)) ≡ sifted field (map (sampleIn field (now (pw .entry)) (now (table .entry)) (now (xs .entry)) (now (cs .entry)) how (length (now (values .entry))) r) (now (shifts .entry))) ⌝ }
+    ensures { λ v. ⌜ kept v (now (px .exit)) (now (py .exit)) ≡ sifted field (map (sampleIn field (now (pw .entry)) (now (table .entry)) (now (ac .entry)) (now (vg .entry)) how (length (now (values .entry))) r) (now (shifts .entry))) ⌝ }
     ensures { λ v. ⌜ Room (length (now (px .entry))) (length (now (shifts .entry))) v ⌝ }
 {
     let two = invert_two(field);
@@ -329,8 +424,8 @@ pub fn push_shifts(
         field,
         pw,
         table,
-        xs,
-        cs,
+        ac,
+        vg,
         how,
         r,
         two,
@@ -346,8 +441,8 @@ pub fn answer(
     field: u32,
     pw: &[u32],
     table: &[u32],
-    xs: &[u32],
-    cs: &[u32],
+    ac: &[u32],
+    vg: &[u32],
     how: Function,
     r: u32,
     shifts: &[u32],
@@ -357,14 +452,14 @@ pub fn answer(
     px: &mut [u32],
     py: &mut [u32],
 ) -> Gathered
-    requires { ⌜ (how .from ≤ length (now xs)) × ((length (now xs) ≤ length (now cs)) × (Clear field (now pw) (length (now table)) (now xs) how)) ⌝ }
+    requires { ⌜ (length (now ac) ≡ 66) × ((length (now vg) ≡ 132) × (Clear field (now pw) (length (now table)) (now vg) how)) ⌝ }
     requires { ⌜ Fits (length (now pw)) (length (now table)) how (length (now values)) ⌝ }
     requires { ⌜ Below (how .step) (now shifts) ⌝ }
     requires { ⌜ (length (now py) ≡ length (now px)) × ((length (now replies) ≡ length (now outs)) × (length (now outs) + length (now shifts) ≤ length (now px))) ⌝ }
-    ensures { λ v. ⌜ Answered field (now (pw .entry)) (now (table .entry)) (now (xs .entry)) (now (cs .entry)) how (length (now (values .entry))) r (now (shifts .entry)) (now (outs .entry)) (now (replies .entry)) (kept v (now (px .exit)) (now (py .exit))) ⌝ }
+    ensures { λ v. ⌜ Answered field (now (pw .entry)) (now (table .entry)) (now (ac .entry)) (now (vg .entry)) how (length (now (values .entry))) r (now (shifts .entry)) (now (outs .entry)) (now (replies .entry)) (kept v (now (px .exit)) (now (py .exit))) ⌝ }
     ensures { λ v. ⌜ Room (length (now (px .entry))) (length (now (outs .entry)) + length (now (shifts .entry))) v ⌝ }
 {
-    let s = push_shifts(field, pw, table, xs, cs, how, r, shifts, values, px, py);
+    let s = push_shifts(field, pw, table, ac, vg, how, r, shifts, values, px, py);
     let Gathered::From(k) = s else {
         return Gathered::Clash;
     };
@@ -376,8 +471,8 @@ fn compare(
     field: u32,
     pw: &[u32],
     table: &[u32],
-    xs: &[u32],
-    cs: &[u32],
+    ac: &[u32],
+    vg: &[u32],
     how: Function,
     r: u32,
     two: Inversion,
@@ -385,11 +480,11 @@ fn compare(
     finals: &[u32],
     values: &mut [u32],
 ) -> Found
-    requires { ⌜ (how .from ≤ length (now xs)) × ((length (now xs) ≤ length (now cs)) × (Clear field (now pw) (length (now table)) (now xs) how)) ⌝ }
+    requires { ⌜ (length (now ac) ≡ 66) × ((length (now vg) ≡ 132) × (Clear field (now pw) (length (now table)) (now vg) how)) ⌝ }
     requires { ⌜ Fits (length (now pw)) (length (now table)) how (length (now values)) ⌝ }
     requires { ⌜ Below (how .step) (now finals) ⌝ }
     requires { ⌜ inversionOf two ≡ fieldOf field .inverse 2 ⌝ }
-    ensures { λ v. ⌜ Compared field (now (pw .entry)) (now (table .entry)) (now (xs .entry)) (now (cs .entry)) how (length (now (values .entry))) r (now (coefficients .entry)) (now (finals .entry)) (placeOf v) ⌝ }
+    ensures { λ v. ⌜ Compared field (now (pw .entry)) (now (table .entry)) (now (ac .entry)) (now (vg .entry)) how (length (now (values .entry))) r (now (coefficients .entry)) (now (finals .entry)) (placeOf v) ⌝ }
 {
     let mut i = 0;
     while i < finals.len() {
@@ -397,8 +492,8 @@ fn compare(
             field,
             pw,
             table,
-            xs,
-            cs,
+            ac,
+            vg,
             how,
             wide(finals[i]),
             r,
@@ -419,26 +514,26 @@ pub fn first_difference(
     field: u32,
     pw: &[u32],
     table: &[u32],
-    xs: &[u32],
-    cs: &[u32],
+    ac: &[u32],
+    vg: &[u32],
     how: Function,
     r: u32,
     coefficients: &[u32],
     finals: &[u32],
     values: &mut [u32],
 ) -> Found
-    requires { ⌜ (how .from ≤ length (now xs)) × ((length (now xs) ≤ length (now cs)) × (Clear field (now pw) (length (now table)) (now xs) how)) ⌝ }
+    requires { ⌜ (length (now ac) ≡ 66) × ((length (now vg) ≡ 132) × (Clear field (now pw) (length (now table)) (now vg) how)) ⌝ }
     requires { ⌜ Fits (length (now pw)) (length (now table)) how (length (now values)) ⌝ }
     requires { ⌜ Below (how .step) (now finals) ⌝ }
-    ensures { λ v. ⌜ Compared field (now (pw .entry)) (now (table .entry)) (now (xs .entry)) (now (cs .entry)) how (length (now (values .entry))) r (now (coefficients .entry)) (now (finals .entry)) (placeOf v) ⌝ }
+    ensures { λ v. ⌜ Compared field (now (pw .entry)) (now (table .entry)) (now (ac .entry)) (now (vg .entry)) how (length (now (values .entry))) r (now (coefficients .entry)) (now (finals .entry)) (placeOf v) ⌝ }
 {
     let two = invert_two(field);
     compare(
         field,
         pw,
         table,
-        xs,
-        cs,
+        ac,
+        vg,
         how,
         r,
         two,

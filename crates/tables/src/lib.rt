@@ -94,3 +94,11 @@ pub fn on_domain(field: u32, f: &[u32], pw: &[u32], scale: usize, out: &mut [u32
 {
     table(field, f, 0, 1, f.len(), pw, 0, scale, out);
 }
+
+// The table of f over as many points as it has coefficients, which stand in pw from place `at` on, step places apart, once round it: the roots of one point.
+pub fn on_roots(field: u32, f: &[u32], pw: &[u32], at: usize, step: usize, out: &mut [u32])
+    requires { ⌜ Halves (length (now f)) (length (now out)) × Spaced at step (length (now out)) (length (now pw)) ⌝ }
+    ensures { λ _. ⌜ Table field (now (f .entry)) (now (pw .entry)) at step (length (now (out .entry))) (now (out .exit)) ⌝ }
+{
+    table(field, f, 0, 1, f.len(), pw, at, step, out);
+}

@@ -42,7 +42,7 @@ returns c =
     let r = c .before .before .before .before .before .before .before .before .before .roots in
     let n = first-k (a .k) (r .result) (r .ensures) (s .pre .1 .0 .few) in (
       λ ω b f ρ eo er es sv. q .ensures .0 ω b f ρ eo er es
-          (subst (Serves (a .field) ω b f (a .pw .now) (a .table .now) (a .xs .now) (a .cs .now) (a .how)) (sym n) sv),
+          (subst (Serves (a .field) ω b f (a .pw .now) (a .table .now) (a .ac .now) (a .vg .now) (a .how)) (sym n) sv),
       q .ensures .1,
     )
 

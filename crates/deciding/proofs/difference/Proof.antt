@@ -35,7 +35,7 @@ returns c =
     let r = c .before .before .before .roots in
     let n = first-k (a .k) (r .result) (r .ensures) (s .pre .1 .0 .few) in
     λ ω b f sv. c .before .first-difference .ensures ω b f
-    (subst (Serves (a .field) ω b f (a .pw .now) (a .table .now) (a .xs .now) (a .cs .now) (a .how)) (sym n) sv)
+    (subst (Serves (a .field) ω b f (a .pw .now) (a .table .now) (a .ac .now) (a .vg .now) (a .how)) (sym n) sv)
 
 pub difference-spec : {M : Type 1} → statement M
 difference-spec =

@@ -39,9 +39,9 @@ returns c =
     let u = c .before .before .before .before .before .before .before .before in
     let s = u .before .before .before .before .before .before .before .before .before .before .before .before .before .before in
     let a = s .args in
-    let shifted = map (sampleIn (a .field) (a .pw .now) (a .table .now) (a .xs .now) (a .cs .now) (a .how) (length (a .values .now)) (a .r)) (a .shifts .now) in
+    let shifted = map (sampleIn (a .field) (a .pw .now) (a .table .now) (a .ac .now) (a .vg .now) (a .how) (length (a .values .now)) (a .r)) (a .shifts .now) in
     let clash = kept-clash (u .push-shifts .last .1 .1 .1 .1 .1 .1 .1 .1 .1 .0) (u .push-shifts .last .1 .1 .1 .1 .1 .1 .1 .1 .1 .1 .0) {o = sifted (a .field) shifted} (c .enum-told .given .1) (u .push-shifts .ensures .0) in (
-      answered (a .field) (a .pw .now) (a .table .now) (a .xs .now) (a .cs .now) (a .how) (length (a .values .now)) (a .r) (s .pre .1 .0) (a .shifts .now) (a .outs .now) (a .replies .now) (s .pre .1 .1 .0)
+      answered (a .field) (a .pw .now) (a .table .now) (a .ac .now) (a .vg .now) (a .how) (length (a .values .now)) (a .r) (s .pre .1 .0) (a .shifts .now) (a .outs .now) (a .replies .now) (s .pre .1 .1 .0)
           (kept-none _ _ (clash-append (a .field) (pair (a .outs .now) (a .replies .now)) shifted clash)),
       tt,
     )
@@ -71,10 +71,10 @@ returns-2 c =
     let s = u .before .before .before .before .before .before .before .before .before .before .before .before .before .before in
     let a = s .args in
     let p = u .push-shifts in
-    let shifted = map (sampleIn (a .field) (a .pw .now) (a .table .now) (a .xs .now) (a .cs .now) (a .how) (length (a .values .now)) (a .r)) (a .shifts .now) in
+    let shifted = map (sampleIn (a .field) (a .pw .now) (a .table .now) (a .ac .now) (a .vg .now) (a .how) (length (a .values .now)) (a .r)) (a .shifts .now) in
     let all = c .before .before .before .before .push-all in
     let first = c .before .before .before .before .before .before .before .before .s .given .1 in (
-      answered (a .field) (a .pw .now) (a .table .now) (a .xs .now) (a .cs .now) (a .how) (length (a .values .now)) (a .r) (s .pre .1 .0) (a .shifts .now) (a .outs .now) (a .replies .now) (s .pre .1 .1 .0)
+      answered (a .field) (a .pw .now) (a .table .now) (a .ac .now) (a .vg .now) (a .how) (length (a .values .now)) (a .r) (s .pre .1 .0) (a .shifts .now) (a .outs .now) (a .replies .now) (s .pre .1 .1 .0)
           (all .ensures .0 (a .field) shifted
           (kept-from (p .last .1 .1 .1 .1 .1 .1 .1 .1 .1 .0) (p .last .1 .1 .1 .1 .1 .1 .1 .1 .1 .1 .0) {o = sifted (a .field) shifted} first (p .ensures .0))),
       room-add {n = length (a .px .now)} (length (a .shifts .now)) (length (a .outs .now)) (all .result) (room (length (a .px .now)) (length (a .shifts .now)) first (p .ensures .1)) (all .ensures .1),

@@ -14,14 +14,14 @@ use Rattle.rounds.proofs.compare.Statement.{statement}
 use Rattle.rounds.proofs.compare.Tie as tie
 
 abbrev Inv-loop : tie.InvT-loop
-Inv-loop field pw table xs cs how r two coefficients finals values₀ i₀ values i =
+Inv-loop field pw table ac vg how r two coefficients finals values₀ i₀ values i =
     (i ≤ length finals)
     × ((length values ≡ length values₀)
-    × (firstTrue i (map (λ m. differsIn field coefficients (sampleIn field pw table xs cs how (length values₀) r m)) (drop i finals))
-    ≡ firstTrue 0 (map (λ m. differsIn field coefficients (sampleIn field pw table xs cs how (length values₀) r m)) finals)))
+    × (firstTrue i (map (λ m. differsIn field coefficients (sampleIn field pw table ac vg how (length values₀) r m)) (drop i finals))
+    ≡ firstTrue 0 (map (λ m. differsIn field coefficients (sampleIn field pw table ac vg how (length values₀) r m)) finals)))
 
 abbrev μ-loop : tie.MeasureT-loop
-μ-loop field pw table xs cs how r two coefficients finals values₀ i₀ values i = length finals - i
+μ-loop field pw table ac vg how r two coefficients finals values₀ i₀ values i = length finals - i
 
 loop-holds : tie.Need-loop-holds Inv-loop μ-loop
 loop-holds c = (omega arith, (refl, refl))
@@ -56,10 +56,10 @@ returns c =
     let s = c .before .before .before .before .before .before .before .before .before .before .before .before .before .before .before .before .before .before in
     let a = s .args in
     let n = l .inv .1 in
-    let e = sample-for (a .field) (a .pw .now) (a .table .now) (a .xs .now) (a .cs .now) (a .how) (a .r) (length (l .values)) (u .ensures) (n .0) (c .before .before .before .before .before .before .before .wide .ensures) in
+    let e = sample-for (a .field) (a .pw .now) (a .table .now) (a .ac .now) (a .vg .now) (a .how) (a .r) (length (l .values)) (u .ensures) (n .0) (c .before .before .before .before .before .before .before .wide .ensures) in
     let d = differs (a .field) (a .coefficients .now) (c .before .before .value-at .ensures) e (c .if1 .taken) in
-    compared (a .field) (a .pw .now) (a .table .now) (a .xs .now) (a .cs .now) (a .how) (length (a .values .now)) (a .r) (s .pre .1 .0) (a .coefficients .now) (a .finals .now) (s .pre .1 .1 .0)
-    (first-here (λ j. differsIn (a .field) (a .coefficients .now) (sampleIn (a .field) (a .pw .now) (a .table .now) (a .xs .now) (a .cs .now) (a .how) (length (a .values .now)) (a .r) j)) (a .finals .now) (l .i) (c .before .before .before .before .before .before .before .before .before .loop-test .taken) d ∙ n .1)
+    compared (a .field) (a .pw .now) (a .table .now) (a .ac .now) (a .vg .now) (a .how) (length (a .values .now)) (a .r) (s .pre .1 .0) (a .coefficients .now) (a .finals .now) (s .pre .1 .1 .0)
+    (first-here (λ j. differsIn (a .field) (a .coefficients .now) (sampleIn (a .field) (a .pw .now) (a .table .now) (a .ac .now) (a .vg .now) (a .how) (length (a .values .now)) (a .r) j)) (a .finals .now) (l .i) (c .before .before .before .before .before .before .before .before .before .loop-test .taken) d ∙ n .1)
 
 add-i : tie.Need-add-i Inv-loop μ-loop
 add-i c = omega (arith, c .before .before .before .before .before .before .before .before .before .loop-test .taken, c .before .before .before .before .before .before .before .before .before .before .before .before .before .before .before .before .before .before .good .1 .1 .1 .1 .1 .1 .1 .1 .1 .0 .0)
@@ -74,10 +74,10 @@ loop-again c =
     let s = c .before .before .before .before .before .before .before .before .before .before .before .before .before .before .before .before .before .before in
     let a = s .args in
     let n = l .inv .1 in
-    let e = sample-for (a .field) (a .pw .now) (a .table .now) (a .xs .now) (a .cs .now) (a .how) (a .r) (length (l .values)) (u .ensures) (n .0) (c .before .before .before .before .before .before .before .wide .ensures) in
+    let e = sample-for (a .field) (a .pw .now) (a .table .now) (a .ac .now) (a .vg .now) (a .how) (a .r) (length (l .values)) (u .ensures) (n .0) (c .before .before .before .before .before .before .before .wide .ensures) in
     let h = c .before .before .before .before .before .before .before .before .before .loop-test .taken in
     let d = agrees (a .field) (a .coefficients .now) (c .before .before .value-at .ensures) e (c .if1 .left) in
-    (omega (arith, h), (u .kept .1 .1 .1 .1 .1 .1 .1 .1 .1 .0 ∙ n .0, first-later (λ j. differsIn (a .field) (a .coefficients .now) (sampleIn (a .field) (a .pw .now) (a .table .now) (a .xs .now) (a .cs .now) (a .how) (length (a .values .now)) (a .r) j)) (a .finals .now) (l .i) h d ∙ n .1))
+    (omega (arith, h), (u .kept .1 .1 .1 .1 .1 .1 .1 .1 .1 .0 ∙ n .0, first-later (λ j. differsIn (a .field) (a .coefficients .now) (sampleIn (a .field) (a .pw .now) (a .table .now) (a .ac .now) (a .vg .now) (a .how) (length (a .values .now)) (a .r) j)) (a .finals .now) (l .i) h d ∙ n .1))
 
 same-length-2 : tie.Need-same-length-2 Inv-loop μ-loop
 same-length-2 c = omega arith
@@ -89,8 +89,8 @@ returns-2 c =
     let s = c .before .before .before .before .before .before .before .before .before in
     let a = s .args in
     let h : length (a .finals .now) ≤ l .i = omega arith in
-    compared (a .field) (a .pw .now) (a .table .now) (a .xs .now) (a .cs .now) (a .how) (length (a .values .now)) (a .r) (s .pre .1 .0) (a .coefficients .now) (a .finals .now) (s .pre .1 .1 .0)
-    (first-nowhere (λ j. differsIn (a .field) (a .coefficients .now) (sampleIn (a .field) (a .pw .now) (a .table .now) (a .xs .now) (a .cs .now) (a .how) (length (a .values .now)) (a .r) j)) (a .finals .now) (l .i) h ∙ l .inv .1 .1)
+    compared (a .field) (a .pw .now) (a .table .now) (a .ac .now) (a .vg .now) (a .how) (length (a .values .now)) (a .r) (s .pre .1 .0) (a .coefficients .now) (a .finals .now) (s .pre .1 .1 .0)
+    (first-nowhere (λ j. differsIn (a .field) (a .coefficients .now) (sampleIn (a .field) (a .pw .now) (a .table .now) (a .ac .now) (a .vg .now) (a .how) (length (a .values .now)) (a .r) j)) (a .finals .now) (l .i) h ∙ l .inv .1 .1)
 
 pub compare-spec : {M : Type 1} → statement M
 compare-spec =

@@ -47,7 +47,7 @@ returns c =
     let g = c .before .before .before .before .before .before .before .before .gather in
     let s = c .before .before .before .before .before .before .before .before .before .before .before .before .before .before .before in
     let a = s .args in
-    folded (a .field) (a .pw .now) (a .table .now) (a .xs .now) (a .cs .now) (a .how) (length (a .values .now)) (a .r) (a .j) (g .last .1 .1 .1 .1 .1 .1 .1 .0) (s .pre .1 .0) (g .kept .1 .1 .1 .1 .1 .1 .1 .0) (g .ensures) (v .ensures)
+    folded (a .field) (a .pw .now) (a .table .now) (a .ac .now) (a .vg .now) (a .how) (length (a .values .now)) (a .r) (a .j) (g .last .1 .1 .1 .1 .1 .1 .1 .0) (s .pre .1 .0) (g .kept .1 .1 .1 .1 .1 .1 .1 .0) (g .ensures) (v .ensures)
 
 pub fold-at-spec : {M : Type 1} → statement M
 fold-at-spec =

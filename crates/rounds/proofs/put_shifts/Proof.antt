@@ -14,17 +14,17 @@ use Rattle.rounds.proofs.put_shifts.Statement.{statement}
 use Rattle.rounds.proofs.put_shifts.Tie as tie
 
 abbrev Inv-loop : tie.InvT-loop
-Inv-loop field pw table xs cs how r two shifts values₀ px₀ py₀ k₀ i₀ values px py k i =
+Inv-loop field pw table ac vg how r two shifts values₀ px₀ py₀ k₀ i₀ values px py k i =
     (i ≤ length shifts)
     × ((k ≤ length px₀)
     × ((length px₀ ≤ k + (length shifts - i))
     × ((length values ≡ length values₀)
     × ((length px ≡ length px₀)
     × ((length py ≡ length py₀)
-    × (some (pair (drop k px) (drop k py)) ≡ sifted field (map (sampleIn field pw table xs cs how (length values₀) r) (drop i shifts))))))))
+    × (some (pair (drop k px) (drop k py)) ≡ sifted field (map (sampleIn field pw table ac vg how (length values₀) r) (drop i shifts))))))))
 
 abbrev μ-loop : tie.MeasureT-loop
-μ-loop field pw table xs cs how r two shifts values₀ px₀ py₀ k₀ i₀ values px py k i = i
+μ-loop field pw table ac vg how r two shifts values₀ px₀ py₀ k₀ i₀ values px py k i = i
 
 loop-holds : tie.Need-loop-holds Inv-loop μ-loop
 loop-holds c =
@@ -40,7 +40,7 @@ loop-holds c =
               refl,
               (
                 refl,
-                shifts-end (a .field) (sampleIn (a .field) (a .pw .now) (a .table .now) (a .xs .now) (a .cs .now) (a .how) (length (a .values .now)) (a .r)) (a .shifts .now) (a .px .now) (a .py .now) (length (a .px .now)) refl,
+                shifts-end (a .field) (sampleIn (a .field) (a .pw .now) (a .table .now) (a .ac .now) (a .vg .now) (a .how) (length (a .values .now)) (a .r)) (a .shifts .now) (a .px .now) (a .py .now) (length (a .px .now)) refl,
               ),
             ),
           ),
@@ -97,9 +97,9 @@ returns c =
     let l = u .before .before .before .before .before .before .before .before .before .before .loop in
     let a = u .before .before .before .before .before .before .before .before .before .before .before .before .before .before .before .before .before .before .before .args in
     let n = l .inv .1 .1 .1 in
-    let e = sample-for (a .field) (a .pw .now) (a .table .now) (a .xs .now) (a .cs .now) (a .how) (a .r) (length (l .values)) (u .before .before .before .before .before .sample-at .ensures) (n .0) (u .before .before .before .before .before .before .before .wide .ensures) in
-    let t = shifts-turn (a .field) (sampleIn (a .field) (a .pw .now) (a .table .now) (a .xs .now) (a .cs .now) (a .how) (length (a .values .now)) (a .r)) (a .shifts .now) (l .i) (u .before .before .before .before .before .before .before .before .before .loop-test .taken) (l .inv .0) (n .1 .1 .1) e (u .push .ensures .0) in
-    (kept-none _ _ (shifts-clash (a .field) (sampleIn (a .field) (a .pw .now) (a .table .now) (a .xs .now) (a .cs .now) (a .how) (length (a .values .now)) (a .r)) (a .shifts .now) (l .i - 1) (kept-clash _ _ (c .enum-told .given .1) t)), tt)
+    let e = sample-for (a .field) (a .pw .now) (a .table .now) (a .ac .now) (a .vg .now) (a .how) (a .r) (length (l .values)) (u .before .before .before .before .before .sample-at .ensures) (n .0) (u .before .before .before .before .before .before .before .wide .ensures) in
+    let t = shifts-turn (a .field) (sampleIn (a .field) (a .pw .now) (a .table .now) (a .ac .now) (a .vg .now) (a .how) (length (a .values .now)) (a .r)) (a .shifts .now) (l .i) (u .before .before .before .before .before .before .before .before .before .loop-test .taken) (l .inv .0) (n .1 .1 .1) e (u .push .ensures .0) in
+    (kept-none _ _ (shifts-clash (a .field) (sampleIn (a .field) (a .pw .now) (a .table .now) (a .ac .now) (a .vg .now) (a .how) (length (a .values .now)) (a .r)) (a .shifts .now) (l .i - 1) (kept-clash _ _ (c .enum-told .given .1) t)), tt)
 
 loop-less : tie.Need-loop-less Inv-loop μ-loop
 loop-less c = omega arith
@@ -112,7 +112,7 @@ loop-again c =
     let n = l .inv .1 .1 .1 in
     let p = u .before .before .before .before .before .sample-at in
     let h = u .before .before .before .before .before .before .before .before .before .loop-test .taken in
-    let e = sample-for (a .field) (a .pw .now) (a .table .now) (a .xs .now) (a .cs .now) (a .how) (a .r) (length (l .values)) (p .ensures) (n .0) (u .before .before .before .before .before .before .before .wide .ensures) in
+    let e = sample-for (a .field) (a .pw .now) (a .table .now) (a .ac .now) (a .vg .now) (a .how) (a .r) (length (l .values)) (p .ensures) (n .0) (u .before .before .before .before .before .before .before .wide .ensures) in
     let f = c .before .f .given in
     let w = room (l .k) 1 (f .1) (u .push .ensures .1) in (
       omega (arith, l .inv .0),
@@ -126,7 +126,7 @@ loop-again c =
               u .push .kept .0 ∙ n .1 .0,
               (
                 u .push .kept .1 .0 ∙ n .1 .1 .0,
-                kept-from (u .push .last .0) (u .push .last .1 .0) (f .1) (shifts-turn (a .field) (sampleIn (a .field) (a .pw .now) (a .table .now) (a .xs .now) (a .cs .now) (a .how) (length (a .values .now)) (a .r)) (a .shifts .now) (l .i) h (l .inv .0) (n .1 .1 .1) e (u .push .ensures .0)),
+                kept-from (u .push .last .0) (u .push .last .1 .0) (f .1) (shifts-turn (a .field) (sampleIn (a .field) (a .pw .now) (a .table .now) (a .ac .now) (a .vg .now) (a .how) (length (a .values .now)) (a .r)) (a .shifts .now) (l .i) h (l .inv .0) (n .1 .1 .1) e (u .push .ensures .0)),
               ),
             ),
           ),
