@@ -23,18 +23,17 @@ use Rattle.algebra.specs.Solver.{:0, :1, _:+_, _:*_, _:=_, solve₁}
 use Rattle.domain.specs.Filled.{Filled, filled-next}
 use Rattle.domain.specs.Parts.{filled, joined}
 use Rattle.polynomial.specs.Backwards.{drop-back}
-use Rattle.polynomial.specs.Newton.{vanishAt}
-use Rattle.polynomial.specs.NewtonLaws.{vanish-ok}
+use Rattle.polynomial.specs.Vanishing.{vanishAt, vanish-ok}
 use Rattle.polynomial.specs.Pairs.{pair-cons, pair-length, points-pair}
 use Rattle.polynomial.specs.Inverses.{Nonzero}
-use Rattle.lists.specs.Noughts.{Noughts, noughts-at, noughts-behind, noughts-taken}
+use Rattle.lists.specs.ZeroPadding.{ZeroFrom, zeros-at, zeros-behind, zeros-taken}
 use Rattle.lists.specs.Correcting.{Correcting}
 use Rattle.lists.specs.Steps.{Through, added-at, raised-at}
 use Rattle.lists.specs.Sums.{products, products-swap, products-powers}
 
 -- ---- the value by the powers
 
-pub value-is : (field : ℕ) (f room : List ℕ) (x n : ℕ) {r : ℕ} → 0 < n → Noughts (fieldOf field) f n → room ≡ geometric (fieldOf field) x (n - 1) →
+pub value-is : (field : ℕ) (f room : List ℕ) (x n : ℕ) {r : ℕ} → 0 < n → ZeroFrom (fieldOf field) f n → room ≡ geometric (fieldOf field) x (n - 1) →
     r ≡ products (fieldOf field) room f → r ≡ evaluate (fieldOf field) f x
 value-is field f room x n pos h e er =
     let F = fieldOf field in
@@ -105,11 +104,11 @@ module _ (field s d : ℕ) (q₀ v₀ : List ℕ) where
         ),
       )
 
-  nought-sum : {a b : ℕ} → a ≡ 0 → b ≡ 0 → G ._⊕_ a (G ._⊗_ s b) ≡ 0
+  zero-sum : {a b : ℕ} → a ≡ 0 → b ≡ 0 → G ._⊕_ a (G ._⊗_ s b) ≡ 0
   unfolding fieldOf primeField
-  nought-sum ea eb = (λ i. G ._⊕_ (ea i) (G ._⊗_ s (eb i))) ∙ solve₁ (fieldOf field) (laws field) (λ s. :0 :+ s :* :0 := :0) tt s
+  zero-sum ea eb = (λ i. G ._⊕_ (ea i) (G ._⊗_ s (eb i))) ∙ solve₁ (fieldOf field) (laws field) (λ s. :0 :+ s :* :0 := :0) tt s
 
-  module _ (q v : List ℕ) (n : ℕ) (few : Noughts G q₀ n) (fewer : Noughts G v₀ (suc n)) (same : length v₀ ≡ length q₀) (long : suc (suc n) ≤ length q₀)
+  module _ (q v : List ℕ) (n : ℕ) (few : ZeroFrom G q₀ n) (fewer : ZeroFrom G v₀ (suc n)) (same : length v₀ ≡ length q₀) (long : suc (suc n) ≤ length q₀)
       (fq : Filled sumAt q₀ q (n + 2)) (fv : Filled raisedAt v₀ v (n + 2)) where
     sums : (m : ℕ) → getD q m 0 ≡ sumAt m
     unfolding fieldOf primeField
@@ -117,19 +116,19 @@ module _ (field s d : ℕ) (q₀ v₀ : List ℕ) where
       where
         go : Dec (m < n + 2) → getD q m 0 ≡ sumAt m
         go (yes l) = fq .passed m l
-        go (no l) = fq .left m (omega arith) ∙ few m (omega arith) ∙ sym (nought-sum (few m (omega arith)) (fewer m (omega arith)))
+        go (no l) = fq .left m (omega arith) ∙ few m (omega arith) ∙ sym (zero-sum (few m (omega arith)) (fewer m (omega arith)))
 
     raises : (m : ℕ) → m < length v₀ → getD v m 0 ≡ raisedAt m
     unfolding fieldOf primeField
     raises m b = go (decLt m (n + 2))
       where
-        nought-raised : (m : ℕ) → n + 2 ≤ m → 0 ≡ raisedAt m
-        nought-raised zero l = absurd (omega arith)
-        nought-raised (suc m) l = sym ((λ i. G ._⊕_ (fewer m (omega arith) i) (G ._⊗_ d (fewer (suc m) (omega arith) i))) ∙ solve₁ (fieldOf field) (laws field) (λ d. :0 :+ d :* :0 := :0) tt d)
+        zero-raised : (m : ℕ) → n + 2 ≤ m → 0 ≡ raisedAt m
+        zero-raised zero l = absurd (omega arith)
+        zero-raised (suc m) l = sym ((λ i. G ._⊕_ (fewer m (omega arith) i) (G ._⊗_ d (fewer (suc m) (omega arith) i))) ∙ solve₁ (fieldOf field) (laws field) (λ d. :0 :+ d :* :0 := :0) tt d)
 
         go : Dec (m < n + 2) → getD v m 0 ≡ raisedAt m
         go (yes l) = fv .passed m l
-        go (no l) = fv .left m (omega arith) ∙ fewer m (omega arith) ∙ nought-raised m (omega arith)
+        go (no l) = fv .left m (omega arith) ∙ fewer m (omega arith) ∙ zero-raised m (omega arith)
 
     pub walked-sum : (x : ℕ) → evaluate G q x ≡ G ._⊕_ (evaluate G q₀ x) (G ._⊗_ s (evaluate G v₀ x))
     unfolding fieldOf primeField
@@ -139,11 +138,11 @@ module _ (field s d : ℕ) (q₀ v₀ : List ℕ) where
     unfolding fieldOf primeField
     walked-raised x = raised-at (fieldOf field) (laws field) v₀ v d 0 x (fv .same) (omega arith) (λ m l. fewer m (omega arith)) raises
 
-    pub sum-few : Noughts G q (suc n)
+    pub sum-few : ZeroFrom G q (suc n)
     unfolding fieldOf primeField
-    sum-few m l = sums m ∙ nought-sum (few m (omega arith)) (fewer m l)
+    sum-few m l = sums m ∙ zero-sum (few m (omega arith)) (fewer m l)
 
-    pub raised-few : Noughts G v (suc (suc n))
+    pub raised-few : ZeroFrom G v (suc (suc n))
     unfolding fieldOf primeField
     raised-few m l = fv .left m (omega arith) ∙ fewer m (omega arith)
 
@@ -199,35 +198,35 @@ module _ (field : ℕ) where
               ∙ sym ((λ j. evaluate K (interpolate K (pair (ex j) (ey j))) x) ∙ interpolate-next a b (drop i xs) (drop i ys) x even);
           vanish = λ x. walked-raised field s d q₀ v₀ q v n (h .few) (h .fewer) same long gq gv x
               ∙ vanishing-next a d (drop i xs) x ed (h .vanish x) ∙ ap (λ (l : List ℕ). evaluate K (vanishing K l) x) (sym ex);
-          few = subst (Noughts K q) (sym long-x) (sum-few field s d q₀ v₀ q v n (h .few) (h .fewer) same long gq gv);
-          fewer = subst (λ (m : ℕ). Noughts K v (suc m)) (sym long-x) (raised-few field s d q₀ v₀ q v n (h .few) (h .fewer) same long gq gv);
+          few = subst (ZeroFrom K q) (sym long-x) (sum-few field s d q₀ v₀ q v n (h .few) (h .fewer) same long gq gv);
+          fewer = subst (λ (m : ℕ). ZeroFrom K v (suc m)) (sym long-x) (raised-few field s d q₀ v₀ q v n (h .few) (h .fewer) same long gq gv);
         }
 
     -- the scratch for the powers is long enough
-    pub few-more : (l : List ℕ) → length l ≡ length xs - i + 1 → Noughts K q₀ (length l)
+    pub few-more : (l : List ℕ) → length l ≡ length xs - i + 1 → ZeroFrom K q₀ (length l)
     few-more l e m b = h .few m (omega (arith, length-drop i xs))
 
   -- ---- no samples
 
-  pub filled-noughts : (old new : List ℕ) → Filled (λ _. 0) old new (length old) → Noughts K new 0
+  pub filled-zeros : (old new : List ℕ) → Filled (λ _. 0) old new (length old) → ZeroFrom K new 0
   unfolding fieldOf primeField
-  filled-noughts old new t m l = go (decLt m (length old))
+  filled-zeros old new t m l = go (decLt m (length old))
     where
       go : Dec (m < length old) → getD new m 0 ≡ 0
       go (yes b) = t .passed m b
       go (no b) = List·getD-eq-default new 0 (omega (arith, t .same))
 
-  unit-at : (v : List ℕ) (x : ℕ) → 0 < length v → Noughts K v 0 → evaluate K (set v 0 1) x ≡ 1
+  unit-at : (v : List ℕ) (x : ℕ) → 0 < length v → ZeroFrom K v 0 → evaluate K (set v 0 1) x ≡ 1
   unfolding evaluate fieldOf primeField
   unit-at [] x pos h = absurd (omega arith)
   unit-at (a ∷ v) x pos h =
-      ap (λ (e : ℕ). 1 ⊕ x ⊗ e) (noughts-at (fieldOf field) (laws field) v x (λ m l. h (suc m) (omega arith)))
+      ap (λ (e : ℕ). 1 ⊕ x ⊗ e) (zeros-at (fieldOf field) (laws field) v x (λ m l. h (suc m) (omega arith)))
       ∙ solve₁ (fieldOf field) (laws field) (λ x. :1 :+ x :* :0 := :1) tt x
 
-  pub through-none : (q v : List ℕ) → 0 < length v → Noughts K q 0 → Noughts K v 0 → Through field [] [] q (set v 0 1)
+  pub through-none : (q v : List ℕ) → 0 < length v → ZeroFrom K q 0 → ZeroFrom K v 0 → Through field [] [] q (set v 0 1)
   unfolding pair zipWith interpolate fieldOf primeField
   through-none q v pos hq hv = record {
-    value = λ x. noughts-at (fieldOf field) (laws field) q x hq ∙ sym (evaluate-nil (fieldOf field) x);
+    value = λ x. zeros-at (fieldOf field) (laws field) q x hq ∙ sym (evaluate-nil (fieldOf field) x);
     vanish = λ x. unit-at v x pos hv ∙ sym (vanishing-nil (fieldOf field) (laws field) x);
     few = hq;
     fewer = λ m l. getD-set-other v 0 m 1 0 (λ e. omega arith) ∙ hv m (omega arith);
@@ -238,16 +237,16 @@ module _ (field : ℕ) where
       let ey : drop (length xs) ys ≡ [] = ap (λ (n : ℕ). drop n ys) (sym e) ∙ drop-length ys in
       subst (λ (l : List ℕ). Through field l (drop (length xs) ys) q v) (sym (drop-length xs)) (subst (λ (l : List ℕ). Through field [] l q v) (sym ey) h)
 
-  -- ---- the geometric sum, with noughts behind it
+  -- ---- the geometric sum, with zeros behind it
 
-  pub growth-is : (c e : ℕ) (front old : List ℕ) → e < length old → Noughts K old 0 → front ≡ geometric K c (length (take (e + 1) old) - 1) →
-      ((x : ℕ) → evaluate K (front ++ drop (e + 1) old) x ≡ evaluate K (geometric K c e) x) × Noughts K (front ++ drop (e + 1) old) (suc e)
+  pub growth-is : (c e : ℕ) (front old : List ℕ) → e < length old → ZeroFrom K old 0 → front ≡ geometric K c (length (take (e + 1) old) - 1) →
+      ((x : ℕ) → evaluate K (front ++ drop (e + 1) old) x ≡ evaluate K (geometric K c e) x) × ZeroFrom K (front ++ drop (e + 1) old) (suc e)
   unfolding fieldOf primeField
   growth-is c e front old l h ef =
       let size : length (take (e + 1) old) - 1 ≡ e = omega (arith, length-take-le (e + 1) old (omega arith)) in
       let same : front ≡ geometric K c e = ef ∙ ap (geometric K c) size in
       let long : length front ≡ suc e = ap length same ∙ length-geometric K c e in (
-        λ x. noughts-behind (fieldOf field) (laws field) front (drop (e + 1) old) x (λ m b. getD-drop (e + 1) old m 0 ∙ h (e + 1 + m) (omega arith)) ∙ ap (λ (f : List ℕ). evaluate K f x) same,
+        λ x. zeros-behind (fieldOf field) (laws field) front (drop (e + 1) old) x (λ m b. getD-drop (e + 1) old m 0 ∙ h (e + 1 + m) (omega arith)) ∙ ap (λ (f : List ℕ). evaluate K f x) same,
         λ m b.
             let at : length front + (m - suc e) ≡ m = omega arith in
             ap (λ (n : ℕ). getD (front ++ drop (e + 1) old) n 0) (sym at) ∙ getD-append-add front (drop (e + 1) old) (m - suc e) 0
@@ -286,7 +285,7 @@ full-part from xs p e size ep = ep ∙ take-all e (drop from xs) (omega (arith, 
 
 pub correcting-is : (field c n from : ℕ) (xs ys p r ac vg l₁ l₂ : List ℕ) → length ys ≡ length xs → p ≡ take (length xs - from) (drop from xs) → r ≡ take (length xs - from) (drop from ys) →
     length vg ≡ 132 → length l₁ ≡ length (take 66 vg) → Through field p r ac l₁ →
-    ((x : ℕ) → evaluate (fieldOf field) l₂ x ≡ evaluate (fieldOf field) (geometric (fieldOf field) c (length xs - from)) x) → Noughts (fieldOf field) l₂ (suc (length xs - from)) →
+    ((x : ℕ) → evaluate (fieldOf field) l₂ x ≡ evaluate (fieldOf field) (geometric (fieldOf field) c (length xs - from)) x) → ZeroFrom (fieldOf field) l₂ (suc (length xs - from)) →
     length xs - from < n → n ≤ 66 → Correcting field (pair (drop from xs) (drop from ys)) c n ac (filled vg l₁ l₂ 66)
 correcting-is field c n from xs ys p r ac vg l₁ l₂ ly ep er lv e₁ t g h more few =
     let F = fieldOf field in
@@ -301,9 +300,9 @@ correcting-is field c n from xs ys p r ac vg l₁ l₂ ly ep er lv e₁ t g h mo
     let front : take n (filled vg l₁ l₂ 66) ≡ take n l₁ = ap (take n) whole ∙ take-append-le n l₁ l₂ (omega arith) in
     let back : drop 66 (filled vg l₁ l₂ 66) ≡ l₂ = ap (drop 66) whole ∙ drop-at l₁ l₂ 66 long in
     record {
-      value = λ x. noughts-taken F (laws field) ac n x (λ m b. u .few m (omega arith)) ∙ u .value x;
-      vanish = λ x. ap (λ (l : List ℕ). evaluate F l x) front ∙ noughts-taken F (laws field) l₁ n x (λ m b. u .fewer m (omega arith)) ∙ u .vanish x
+      value = λ x. zeros-taken F (laws field) ac n x (λ m b. u .few m (omega arith)) ∙ u .value x;
+      vanish = λ x. ap (λ (l : List ℕ). evaluate F l x) front ∙ zeros-taken F (laws field) l₁ n x (λ m b. u .fewer m (omega arith)) ∙ u .vanish x
           ∙ ap (λ (l : List ℕ). evaluate F (vanishing F l) x) (sym (points-pair (drop from xs) (drop from ys) even));
-      growth = λ x. ap (λ (l : List ℕ). evaluate F (take n l) x) back ∙ noughts-taken F (laws field) l₂ n x (λ m b. h m (omega arith)) ∙ g x
+      growth = λ x. ap (λ (l : List ℕ). evaluate F (take n l) x) back ∙ zeros-taken F (laws field) l₂ n x (λ m b. h m (omega arith)) ∙ g x
           ∙ ap (λ (m : ℕ). evaluate F (geometric F c m) x) (sym (pair-length (drop from xs) (drop from ys) even ∙ size));
     }

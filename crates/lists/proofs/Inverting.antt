@@ -70,7 +70,7 @@ module _ (field : ℕ) (values : List ℕ) where
       }
 
   -- the product has no inverse: one of the words is 0
-  pub one-nought : {p : ℕ} → p ≡ product F values → none ≡ F .inverse p → ((m : ℕ) → m < length values → Nonzero field (getD values m 0)) → ⊥
+  pub one-is-zero : {p : ℕ} → p ≡ product F values → none ≡ F .inverse p → ((m : ℕ) → m < length values → Nonzero field (getD values m 0)) → ⊥
   unfolding fieldOf primeField
-  one-nought ep e h =
+  one-is-zero ep e h =
       never-none field _ (λ z. product-nonzero F (laws field) values h (sym (product-reduced F (laws field) values) ∙ ap (laws field .reduce) (sym ep) ∙ z)) e

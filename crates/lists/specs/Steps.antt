@@ -8,7 +8,7 @@ use Rattle.definition.specs.Field.{Field, fieldOf, reciprocal}
 use Rattle.definition.specs.Polynomial.{pair, evaluate, vanishing, interpolate}
 use Rattle.algebra.specs.Laws.{FieldLaws}
 use Rattle.algebra.specs.Solver.{:0, _:+_, _:*_, _:=_, solve₁, solve₃, solve₄, solve₅, solve₆}
-use Rattle.lists.specs.Noughts.{Noughts}
+use Rattle.lists.specs.ZeroPadding.{ZeroFrom}
 
 module _ {A : Type 0} (F : Field A) (L : FieldLaws F) where
   infixl 65 _⊕_
@@ -49,5 +49,5 @@ module _ {A : Type 0} (F : Field A) (L : FieldLaws F) where
 pub record Through (field : ℕ) (xs ys q v : List ℕ) : Type 0 where
   pub value : (x : ℕ) → evaluate (fieldOf field) q x ≡ evaluate (fieldOf field) (interpolate (fieldOf field) (pair xs ys)) x
   pub vanish : (x : ℕ) → evaluate (fieldOf field) v x ≡ evaluate (fieldOf field) (vanishing (fieldOf field) xs) x
-  pub few : Noughts (fieldOf field) q (length xs)
-  pub fewer : Noughts (fieldOf field) v (suc (length xs))
+  pub few : ZeroFrom (fieldOf field) q (length xs)
+  pub fewer : ZeroFrom (fieldOf field) v (suc (length xs))

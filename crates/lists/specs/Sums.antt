@@ -9,7 +9,7 @@ use Rattle.definition.specs.Field.{Field, primeField, primeOf, fieldOf, power}
 use Rattle.definition.specs.Polynomial.{evaluate, scale, geometric}
 use Rattle.algebra.specs.Laws.{FieldLaws}
 use Rattle.algebra.specs.RingLaws.{power-add}
-use Rattle.lists.specs.Noughts.{noughts-at}
+use Rattle.lists.specs.ZeroPadding.{zeros-at}
 use Rattle.algebra.specs.Solver.{:0, :1, _:+_, _:*_, _:=_, solve₁, solve₂, solve₃, solve₄}
 
 module _ {A : Type 0} (F : Field A) where
@@ -70,7 +70,7 @@ module _ {A : Type 0} (F : Field A) (L : FieldLaws F) where
   products-powers [] x (suc e) h = refl
   products-powers (a ∷ f) x zero h =
       ap (λ (v : A). a ⊗ 𝟙 ⊕ v) (products-nil f) ∙ solve₂ F L (λ a x. a :* :1 :+ :0 := a :+ x :* :0) tt a x
-      ∙ ap (λ (v : A). a ⊕ x ⊗ v) (sym (noughts-at F L f x (λ m l. h (suc m) (suc-le-suc zero-le))))
+      ∙ ap (λ (v : A). a ⊕ x ⊗ v) (sym (zeros-at F L f x (λ m l. h (suc m) (suc-le-suc zero-le))))
   products-powers (a ∷ f) x (suc e) h =
       ap (λ (v : A). a ⊗ 𝟙 ⊕ v) (products-scale f (geometric F x e) x ∙ ap (λ (v : A). x ⊗ v) (products-powers f x e (λ m l. h (suc m) (suc-le-suc l))))
       ∙ solve₃ F L (λ a x s. a :* :1 :+ x :* s := a :+ x :* s) tt a x (evaluate F f x)

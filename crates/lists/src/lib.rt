@@ -10,10 +10,10 @@ ghost use Rattle.definition.specs.Field.{Field, primeOf, fieldOf, reciprocal};
 ghost use Rattle.definition.specs.Polynomial.{pair, evaluate, geometric};
 ghost use Rattle.algebra.specs.Different.{Apart};
 ghost use Rattle.domain.specs.Filled.{Filled};
-ghost use Rattle.polynomial.specs.Newton.{vanishAt};
+ghost use Rattle.polynomial.specs.Vanishing.{vanishAt};
 ghost use Rattle.lists.specs.AtRoots.{everyNth};
 ghost use Rattle.lists.specs.Correcting.{Columned, Correcting};
-ghost use Rattle.lists.specs.Noughts.{Noughts};
+ghost use Rattle.lists.specs.ZeroPadding.{ZeroFrom};
 ghost use Rattle.lists.specs.OneInversion.{product, Inverted};
 ghost use Rattle.lists.specs.Steps.{Through};
 ghost use Rattle.lists.specs.Sums.{products, PowersTo};
@@ -240,7 +240,7 @@ fn divisors(field: u32, xs: &[u32], out: &mut [u32])
 // The value at x of a polynomial with no more coefficients than `room`, lent for the powers of x, has words.
 fn value_by(field: u32, f: &[u32], x: u32, room: &mut [u32]) -> u32
     requires { ⌜ (0 < length (now room)) × ((length (now room) ≤ length (now f)) × (length (now room) ≤ 65536)) ⌝ }
-    requires { ⌜ Noughts (fieldOf field) (now f) (length (now room)) ⌝ }
+    requires { ⌜ ZeroFrom (fieldOf field) (now f) (length (now room)) ⌝ }
     ensures { λ r. ⌜ r ≡ evaluate (fieldOf field) (now (f .entry)) x ⌝ }
 {
     powers(field, x, room);
@@ -339,7 +339,7 @@ pub fn interpolated(field: u32, xs: &[u32], ys: &[u32], q: &mut [u32], v: &mut [
 fn growth(field: u32, c: u32, e: usize, out: &mut [u32])
     requires { ⌜ e < length (now out) ⌝ }
     ensures { λ _. ⌜ ((x : ℕ) → evaluate (fieldOf field) (now (out .exit)) x ≡ evaluate (fieldOf field) (geometric (fieldOf field) c e) x) ⌝ }
-    ensures { λ _. ⌜ Noughts (fieldOf field) (now (out .exit)) (suc e) ⌝ }
+    ensures { λ _. ⌜ ZeroFrom (fieldOf field) (now (out .exit)) (suc e) ⌝ }
 {
     fill(0, out);
     powers(field, c, &mut out[..e + 1]);

@@ -3,15 +3,13 @@ use Prim.Native.Nat.{ℕ, zero, suc, _*_, _^_, _<_}
 use mathlib.Core.Path.{_≡_, _∙_}
 use mathlib.Core.List.{List}
 use native.Mathlib.Nat.{not-suc-le-zero}
-use native.Mathlib.Omega.{arith}
-use lib.ListN.{length, getD, length-append}
+use lib.ListN.{length, getD}
 use Rattle.definition.specs.Field.{Field, primeField, fieldOf, reciprocal}
 use Rattle.definition.specs.Sheet.{Level, shiftCount}
 use Rattle.definition.specs.Polynomial.{Sample, correctedValue}
 use Rattle.definition.specs.Transcript.{Round}
-use Rattle.definition.specs.Deciding.{answers, tableFunction, nextFunction}
+use Rattle.definition.specs.Deciding.{tableFunction, nextFunction}
 use Rattle.lists.specs.Correcting.{Correcting}
-use Rattle.polynomial.specs.Pairs.{pair-length}
 use Rattle.rounds.specs.declared.Function.{Function}
 use Rattle.rounds.specs.PointsIn.{pointIn, point-in}
 use Rattle.domain.specs.Powers.{Powers}
@@ -36,12 +34,6 @@ serves-first field ω b pw table ac vg how k w scaled spaced folded e = record {
 }
 
 -- ---- after a round
-
--- G has a sample, since a round has an out coin
-pub answers-some : (F : Field ℕ) (ω : ℕ) (b : Level) (f : ℕ → ℕ) (r : ℕ) (ρ : Round ℕ) → 0 < length (ρ .coins .outs) →
-    length (ρ .replies) ≡ length (ρ .coins .outs) → 0 < length (answers F ω b f r ρ)
-unfolding answers
-answers-some F ω b f r ρ h e = rw length-append (omega (arith, pair-length (ρ .coins .outs) (ρ .replies) e))
 
 -- the value by the coefficients is the definition's corrected value
 value-next : (field n : ℕ) (g : List (Sample ℕ)) (ac vg : List ℕ) (c x y : ℕ) → 0 < n → Correcting field g c n ac vg →

@@ -6,7 +6,7 @@ use mathlib.Core.Path.{_≡_, refl, sym, ap, _∙_, subst}
 use lib.ListN.{length, getD, drop, take, set, length-set}
 use Rattle.definition.specs.Field.{Field, fieldOf}
 use Rattle.field.specs.Answer.{inversionOf}
-use Rattle.lists.proofs.Inverting.{one-nought}
+use Rattle.lists.proofs.Inverting.{one-is-zero}
 use Rattle.lists.proofs.invert_all.Statement.{statement}
 use Rattle.lists.proofs.invert_all.Tie as tie
 
@@ -31,7 +31,7 @@ same-length-2 c = search needs
 returns : tie.Need-returns
 returns c =
     let a = c .before .before .before .before .before .before .before .before .before .before .args in
-    one-nought (a .field) (a .values .now) (c .before .before .before .before .before .products-behind .ensures .0) (ap inversionOf (sym (c .enum-told .given .1)) ∙ c .before .before .inv .ensures)
+    one-is-zero (a .field) (a .values .now) (c .before .before .before .before .before .products-behind .ensures .0) (ap inversionOf (sym (c .enum-told .given .1)) ∙ c .before .before .inv .ensures)
 
 share-requires : tie.Need-share-requires
 share-requires c κs =

@@ -4,7 +4,7 @@ use Prim.Native.Nat.{ℕ, suc, _+_, _-_, _*_, _≤_, _<_}
 use native.Mathlib.Omega.{arith}
 use mathlib.Core.Path.{_≡_, refl, sym, ap, _∙_, subst}
 use lib.ListN.{length, getD, drop, take, set, length-set}
-use Rattle.lists.proofs.Interpolating.{through-none, filled-noughts}
+use Rattle.lists.proofs.Interpolating.{through-none, filled-zeros}
 use Rattle.lists.proofs.start.Statement.{statement}
 use Rattle.lists.proofs.start.Tie as tie
 
@@ -28,7 +28,7 @@ returns c =
     let a = c .before .before .before .before .before .before .before .before .before .before .args in
     let q = c .before .before .before .before .before .before .fill in
     let v = c .before .before .fill2 in
-    through-none (a .field) (q .last .1 .0) (v .last .1 .0) (omega (arith, v .kept .1 .0)) (filled-noughts (a .field) (a .q .now) (q .last .1 .0) (q .ensures)) (filled-noughts (a .field) (a .v .now) (v .last .1 .0) (v .ensures))
+    through-none (a .field) (q .last .1 .0) (v .last .1 .0) (omega (arith, v .kept .1 .0)) (filled-zeros (a .field) (a .q .now) (q .last .1 .0) (q .ensures)) (filled-zeros (a .field) (a .v .now) (v .last .1 .0) (v .ensures))
 
 pub start-spec : {M : Type 1} → statement M
 start-spec =

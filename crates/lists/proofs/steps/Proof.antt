@@ -5,7 +5,7 @@ use mathlib.Core.Path.{_≡_, refl, sym, ap, _∙_, subst}
 use lib.ListN.{length, getD, drop, take, set, length-set}
 use borrow.Author.Needs.{needs}
 use Rattle.definition.specs.Field.{fieldOf, reciprocal}
-use Rattle.polynomial.specs.Newton.{vanishAt}
+use Rattle.polynomial.specs.Vanishing.{vanishAt}
 use Rattle.lists.specs.Steps.{Through}
 use Rattle.lists.proofs.Interpolating.{through-first}
 use Rattle.lists.proofs.steps.Statement.{statement}
