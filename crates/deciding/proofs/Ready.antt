@@ -1,5 +1,6 @@
 -- What the functions hand to each other, over plain numbers and lists: what a call requires, and what it gives, in the words of the stream.
 use Prim.Native.Nat.{ℕ, _+_, _*_, _/_, _^_, _≤_, _<_}
+use native.Mathlib.Nat.{mul-le-mul-right}
 use native.Mathlib.Omega.{arith}
 use mathlib.Core.Path.{_≡_, refl, sym, ap, _∙_, subst}
 use mathlib.Core.List.{List, zipWith}
@@ -92,9 +93,21 @@ module _ (w : List ℕ) {points answers factors : ℕ} (st : Stand) (how : Funct
       )
 
   pub final-ready : st .level ≡ getD w 4 0 → (table finals : List ℕ) → table ≡ tableOf w st → finals ≡ finalsOf w st →
-      Fits points (length table) how (getD w 3 0) × Below (how .step) finals
+      Fits points (length table) how (getD w 3 0) × (Below (how .step) finals × (length finals ≤ 50))
+  unfolding finalsOf
   final-ready end table finals et ef =
-      (fits-table table et, subst (λ (n : ℕ). Below n finals) (sym (ok .step)) (subst (λ (js : List ℕ). Below (st .size / getD w 3 0) js) (sym ef) (final-inside w st (ok .place) end .below)))
+      let i = final-inside w st (ok .place) end in
+      let nf = ap length ef ∙ part-length w (st .at + st .degree / getD w 3 0) (getD w (6 + st .level) 0) (i .there) in (
+        fits-table table et,
+        (subst (λ (n : ℕ). Below n finals) (sym (ok .step)) (subst (λ (js : List ℕ). Below (st .size / getD w 3 0) js) (sym ef) (i .below)), omega (arith, nf, i .few)),
+      )
+
+-- places for the fractions, for as many values
+pub sizes-for : {n t b f k k′ : ℕ} → k ≡ k′ → (n * k ≤ t) × ((n * k ≤ b) × ((n * k ≤ f) × (n ≤ 4096))) → (n * k′ ≤ t) × ((n * k′ ≤ b) × ((n * k′ ≤ f) × (n ≤ 4096)))
+sizes-for e h = rw (sym e) h
+
+pub most-places : (n k : ℕ) → n ≤ 50 → k ≤ 16 → n * k ≤ 800
+most-places n k l h = omega (arith, mul-le-mul-right k l)
 
 -- ---- answers
 

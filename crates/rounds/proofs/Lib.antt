@@ -1,3 +1,5 @@
 pub mod RootValues
 pub mod Turns
+pub mod Places
 pub mod Shifts
+pub mod Ready

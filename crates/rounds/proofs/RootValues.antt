@@ -9,7 +9,9 @@ use lib.Seq.{getD-take, length-take-le, take-at}
 use Rattle.definition.specs.Field.{Field, primeField, fieldOf, foundOr, power, reciprocal}
 use Rattle.definition.specs.Polynomial.{evaluate, geometric}
 use mathlib.Core.Option.{some}
+use Rattle.algebra.specs.Laws.{FieldLaws}
 use Rattle.algebra.specs.PrimeField.{laws}
+use Rattle.algebra.specs.Solver.{_:*_, _:=_, solve₃}
 use Rattle.domain.specs.Filled.{Filled}
 use Rattle.polynomial.specs.Inverses.{Nonzero}
 use Rattle.lists.specs.AtRoots.{everyNth, sums-at}
@@ -18,7 +20,8 @@ use Rattle.lists.specs.Sums.{products}
 use Rattle.tables.specs.Halving.{Halves, Table}
 use Rattle.rounds.specs.declared.Function.{Function}
 use Rattle.rounds.specs.PointsIn.{pointIn, ShiftPoint}
-use Rattle.rounds.specs.Round.{Clear, Fits, Rooted, correctedIn, vanishingIn, growthIn, valueOf, valueIn, rootIn, folded, root-number, point-room}
+use Rattle.rounds.specs.Prepared.{Fraction, rootBy, valueBy}
+use Rattle.rounds.specs.Round.{Clear, Fits, Rooted, correctedIn, numeratorIn, vanishingIn, growthIn, valueOf, valueIn, rootIn, folded, root-number, point-room}
 
 -- ---- a polynomial's values at the roots
 
@@ -151,49 +154,54 @@ module _ (field : ℕ) (pw table ac vg : List ℕ) (how : Function) (k : ℕ) (f
 
 -- ---- the quotient
 
-pub quotient-is : (field words : ℕ) (ac vg : List ℕ) (x y : ℕ) {a d v g r : ℕ} → a ≡ evaluate (fieldOf field) (take words ac) x → d ≡ evaluate (fieldOf field) (vanishingIn words vg) x →
-    fieldOf field .inverse d ≡ some v → g ≡ evaluate (fieldOf field) (growthIn words vg) x →
-    r ≡ fieldOf field ._⊗_ (fieldOf field ._⊗_ (fieldOf field ._⊖_ y a) v) g → r ≡ correctedIn (fieldOf field) words ac vg x y
-unfolding correctedIn reciprocal foundOr fieldOf primeField
-quotient-is field words ac vg x y {a} {d} {v} ea ed ev eg er =
-    let F = fieldOf field in
-    let u : v ≡ reciprocal F (evaluate F (vanishingIn words vg) x) = sym (ap (foundOr 0) ev) ∙ ap (reciprocal F) ed in
-    er ∙ (λ i. F ._⊗_ (F ._⊗_ (F ._⊖_ y (ea i)) (u i)) (eg i))
+-- the numerator, by the inverse of V, is the corrected value
+pub fraction-is : (field words : ℕ) (ac vg : List ℕ) (x y : ℕ) {top bottom v : ℕ} → top ≡ numeratorIn (fieldOf field) words ac vg x y →
+    bottom ≡ evaluate (fieldOf field) (vanishingIn words vg) x → Nonzero field (evaluate (fieldOf field) (vanishingIn words vg) x) →
+    correctedIn (fieldOf field) words ac vg x y ≡ v → Fraction field v top bottom
+unfolding correctedIn reciprocal foundOr
+fraction-is field words ac vg x y {top} {bottom} {v} et eb h ev = (
+  (λ z. h (ap (laws field .reduce) (sym eb) ∙ z)),
+  (λ u e.
+      let F = fieldOf field in
+      let d = F ._⊖_ y (evaluate F (take words ac) x) in
+      let g = evaluate F (growthIn words vg) x in
+      let w : u ≡ reciprocal F (evaluate F (vanishingIn words vg) x) = sym (ap (foundOr (F .𝟘)) e) ∙ ap (reciprocal F) eb in
+      (λ i. F ._⊗_ (et i) (w i)) ∙ exchanged F (laws field) d g (reciprocal F (evaluate F (vanishingIn words vg) x)) ∙ ev),
+)
+  where
+    exchanged : (F : Field ℕ) (L : FieldLaws F) (d g u : ℕ) → F ._⊗_ (F ._⊗_ d g) u ≡ F ._⊗_ (F ._⊗_ d u) g
+    exchanged F L = solve₃ F L (λ d g u. d :* g :* u := d :* u :* g) tt
 
 -- ---- loops over the roots
 
 pub table-place : {points n : ℕ} {how : Function} {k : ℕ} (fits : Fits points n how k) {j : ℕ} → j < how .step → (m : ℕ) → m < k → j + how .step * m < n
 table-place {how = how} fits {j} l m u = let same : j + how .step * m ≡ j + m * how .step = omega arith in omega (arith, same, root-number fits l m u)
 
-pub corrected-turn : (field : ℕ) (f : ℕ → ℕ) (old new : List ℕ) (m a v g : ℕ) {d q r : ℕ} → Filled f old new m → d ≡ fieldOf field ._⊖_ (getD new m 0) a → q ≡ fieldOf field ._⊗_ d v →
-    r ≡ fieldOf field ._⊗_ q g → r ≡ fieldOf field ._⊗_ (fieldOf field ._⊗_ (fieldOf field ._⊖_ (getD old m 0) a) v) g
-corrected-turn field f old new m a v g t ed eq er =
+pub numerator-turn : (field : ℕ) (f : ℕ → ℕ) (old new : List ℕ) (m a g : ℕ) {d r : ℕ} → Filled f old new m → d ≡ fieldOf field ._⊖_ (getD new m 0) a →
+    r ≡ fieldOf field ._⊗_ d g → r ≡ fieldOf field ._⊗_ (fieldOf field ._⊖_ (getD old m 0) a) g
+numerator-turn field f old new m a g t ed er =
     let F = fieldOf field in
-    er ∙ ap (λ (x : ℕ). F ._⊗_ x g) (eq ∙ ap (λ (x : ℕ). F ._⊗_ x v) (ed ∙ ap (λ (x : ℕ). F ._⊖_ x a) (t .left m (le-refl m))))
+    er ∙ ap (λ (x : ℕ). F ._⊗_ x g) (ed ∙ ap (λ (x : ℕ). F ._⊖_ x a) (t .left m (le-refl m)))
 
--- ---- the corrected values at the roots, from those of A, V and the geometric sum
+-- ---- numerators and denominators at the roots
 
-module _ (field words : ℕ) (ac vg : List ℕ) (x : ℕ → ℕ) (k : ℕ) (v₁ : List ℕ) (room : k ≤ length v₁)
-    (ev : (m : ℕ) → m < k → getD v₁ m 0 ≡ evaluate (fieldOf field) (vanishingIn words vg) (x m)) where
-  divisor : (m : ℕ) → m < k → getD (take k v₁) m 0 ≡ evaluate (fieldOf field) (vanishingIn words vg) (x m)
-  divisor m l = getD-take k v₁ m 0 l ∙ ev m l
+pub numerators-are : (field words : ℕ) (ac vg : List ℕ) (x : ℕ → ℕ) (old new a g : List ℕ) → ((m : ℕ) → m < length old → getD a m 0 ≡ evaluate (fieldOf field) (take words ac) (x m)) →
+    ((m : ℕ) → m < length old → getD g m 0 ≡ evaluate (fieldOf field) (growthIn words vg) (x m)) →
+    Filled (λ m. fieldOf field ._⊗_ (fieldOf field ._⊖_ (getD old m 0) (getD a m 0)) (getD g m 0)) old new (length old) →
+    (m : ℕ) → m < length old → getD new m 0 ≡ numeratorIn (fieldOf field) words ac vg (x m) (getD old m 0)
+numerators-are field words ac vg x old new a g ea eg t m l =
+    let F = fieldOf field in
+    t .passed m l ∙ (λ i. F ._⊗_ (F ._⊖_ (getD old m 0) (ea m l i)) (eg m l i))
 
-  pub divisors-nonzero : ((m : ℕ) → m < k → Nonzero field (evaluate (fieldOf field) (vanishingIn words vg) (x m))) → (m : ℕ) → m < length (take k v₁) → Nonzero field (getD (take k v₁) m 0)
-  divisors-nonzero h m l z =
-      let u : m < k = omega (arith, length-take-le k v₁ room) in
-      h m u (ap (laws field .reduce) (sym (divisor m u)) ∙ z)
-
-  pub quotients-are : (a₁ g₁ l old new : List ℕ) → length old ≡ k → length l ≡ length (take k v₁) →
-      ((m : ℕ) → m < k → getD a₁ m 0 ≡ evaluate (fieldOf field) (take words ac) (x m)) → ((m : ℕ) → m < k → getD g₁ m 0 ≡ evaluate (fieldOf field) (growthIn words vg) (x m)) →
-      ((m : ℕ) → m < length (take k v₁) → fieldOf field .inverse (getD (take k v₁) m 0) ≡ some (getD l m 0)) →
-      Filled (λ m. fieldOf field ._⊗_ (fieldOf field ._⊗_ (fieldOf field ._⊖_ (getD old m 0) (getD a₁ m 0)) (getD (l ++ drop k v₁) m 0)) (getD g₁ m 0)) old new (length old) →
-      (m : ℕ) → m < k → getD new m 0 ≡ correctedIn (fieldOf field) words ac vg (x m) (getD old m 0)
-  quotients-are a₁ g₁ l old new size ll ea eg ei t m u =
-      let F = fieldOf field in
-      let long : length (take k v₁) ≡ k = length-take-le k v₁ room in
-      quotient-is field words ac vg (x m) (getD old m 0) (ea m u) (divisor m u) (ei m (omega arith)) (eg m u)
-      (t .passed m (omega arith)
-      ∙ ap (λ (v : ℕ). F ._⊗_ (F ._⊗_ (F ._⊖_ (getD old m 0) (getD a₁ m 0)) v) (getD g₁ m 0)) (List·getD-append l (drop k v₁) 0 m (omega arith)))
+module _ (field : ℕ) (pw table ac vg : List ℕ) (how : Function) (k : ℕ) (fits : Fits (length pw) (length table) how k) (clear : Clear field pw (length table) vg how) where
+  pub fractions-are : (j : ℕ) → j < how .step → 0 < how .words → (m : ℕ) → m < k → {y top bottom : ℕ} → y ≡ getD table (j + how .step * m) 0 →
+      top ≡ numeratorIn (fieldOf field) (how .words) ac vg (getD pw (how .scale * j + how .scale * how .step * m) 0) y →
+      bottom ≡ evaluate (fieldOf field) (vanishingIn (how .words) vg) (getD pw (how .scale * j + how .scale * how .step * m) 0) →
+      Fraction field (rootIn field pw table ac vg how j m) top bottom
+  fractions-are j l more m u {y} ey et eb =
+      let x = getD pw (how .scale * j + how .scale * how .step * m) 0 in
+      fraction-is field (how .words) ac vg x y et eb (roots-nonzero field pw table vg how k fits clear j l more m u)
+      (value-next field pw table ac vg how k fits j m more ey refl)
 
 -- the powers of the shift point, in a part of their places
 pub part-powers : (field y count : ℕ) (room front : List ℕ) → count ≤ length room → length front ≡ length (take count room) →
@@ -204,3 +212,19 @@ part-powers field y count room front inside same e =
     let long : length front ≡ count = same ∙ length-take-le count room inside in
     let whole : take count (front ++ drop count room) ≡ front = take-at front (drop count room) count long in
     (ap length whole ∙ long, whole ∙ e ∙ ap (λ (n : ℕ). geometric (fieldOf field) y (n - 1)) (sym same ∙ sym (ap length whole)))
+
+-- ---- the value at a root, by what is prepared
+
+module _ (field : ℕ) (table tops inverses : List ℕ) (how : Function) (k i j m : ℕ) where
+  pub root-first : {v : ℕ} → how .words ≡ 0 → v ≡ getD table (j + how .step * m) 0 → v ≡ rootBy field table tops inverses how k i j m
+  unfolding rootBy
+  root-first e ev = rw e ev
+
+  pub root-next : {v : ℕ} → 0 < how .words → v ≡ fieldOf field ._⊗_ (getD tops (i * k + m) 0) (getD inverses (i * k + m) 0) → v ≡ rootBy field table tops inverses how k i j m
+  unfolding rootBy
+  root-next h ev = ev ∙ go (how .words) h
+    where
+      go : (words : ℕ) → 0 < words → fieldOf field ._⊗_ (getD tops (i * k + m) 0) (getD inverses (i * k + m) 0)
+          ≡ valueBy (fieldOf field) words (getD table (j + how .step * m) 0) (getD tops (i * k + m) 0) (getD inverses (i * k + m) 0)
+      go zero l = absurd (not-suc-le-zero l)
+      go (suc words) l = refl

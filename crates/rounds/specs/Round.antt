@@ -27,6 +27,10 @@ unfoldable pub correctedIn : {A : Type 0} → Field A → ℕ → List A → Lis
 correctedIn F words ac vg x y =
     F ._⊗_ (F ._⊗_ (F ._⊖_ y (evaluate F (take words ac) x)) (reciprocal F (evaluate F (vanishingIn words vg) x))) (evaluate F (growthIn words vg) x)
 
+-- its numerator, where V's value is the denominator
+abbrev pub numeratorIn : {A : Type 0} → Field A → ℕ → List A → List A → A → A → A
+numeratorIn F words ac vg x y = F ._⊗_ (F ._⊖_ y (evaluate F (take words ac) x)) (evaluate F (growthIn words vg) x)
+
 -- the value at x, where the table has y: y itself where there are no samples, else the corrected value
 unfoldable pub valueOf : {A : Type 0} → Field A → ℕ → List A → List A → A → A → A
 valueOf F zero ac vg x y = y

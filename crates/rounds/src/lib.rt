@@ -22,12 +22,13 @@ ghost use Rattle.definition.specs.Polynomial.{evaluate};
 ghost use Rattle.domain.specs.Filled.{Filled};
 ghost use Rattle.field.specs.Answer.{inversionOf};
 ghost use Rattle.outcome.specs.Meaning.{placeOf};
-ghost use Rattle.polynomial.specs.Inverses.{Nonzero};
 ghost use Rattle.samples.specs.Samples.{kept, sifted, Room};
 ghost use Rattle.rounds.specs.Halving.{joined, halving, exponentOf};
 ghost use Rattle.rounds.specs.PointsIn.{backIn, shiftIn, ShiftPoint};
-ghost use Rattle.rounds.specs.Round.{Fits, Below, Clear, Rooted, vanishingIn, correctedIn, halfOf, rootIn, foldIn, sampleIn};
-ghost use Rattle.rounds.specs.RoundLaws.{Answered, Compared};
+ghost use Rattle.rounds.specs.Prepared.{Fraction, Fractions, Prepared, numbered, rootBy, foldBy, sampleBy};
+ghost use Rattle.rounds.specs.Round.{Fits, Below, Clear, Rooted, vanishingIn, numeratorIn, halfOf, rootIn, sampleIn};
+ghost use Rattle.rounds.specs.RoundLaws.{Answered, Compared, differsIn};
+ghost use Rattle.definition.specs.Lists.{firstTrue};
 
 // How the function of a level is worked out: its point m stands at scale·m in pw, the roots of a shift point have numbers that are `step` apart, and the first
 // `words` of the coefficients are in use. Before the first round there are no samples, no words, and the table's own values are the function's.
@@ -72,21 +73,20 @@ fn at_roots(
     tables::on_roots(field, &sums[..k], pw, at, step, &mut out[..k]);
 }
 
-// Each value y, where A has a, V the inverse v and the geometric sum g, becomes (y - a)·v·g.
-fn correct(field: u32, a: &[u32], v: &[u32], g: &[u32], values: &mut [u32])
-    requires { ⌜ (length (now values) ≤ length (now a)) × ((length (now values) ≤ length (now v)) × (length (now values) ≤ length (now g))) ⌝ }
-    ensures { λ _. ⌜ Filled (λ m. fieldOf field ._⊗_ (fieldOf field ._⊗_ (fieldOf field ._⊖_ (getD (now (values .entry)) m 0) (getD (now (a .entry)) m 0)) (getD (now (v .entry)) m 0)) (getD (now (g .entry)) m 0)) (now (values .entry)) (now (values .exit)) (length (now (values .entry))) ⌝ }
+// Each value y, where A has a and the geometric sum g, becomes (y - a)·g.
+fn numerators(field: u32, a: &[u32], g: &[u32], values: &mut [u32])
+    requires { ⌜ (length (now values) ≤ length (now a)) × (length (now values) ≤ length (now g)) ⌝ }
+    ensures { λ _. ⌜ Filled (λ m. fieldOf field ._⊗_ (fieldOf field ._⊖_ (getD (now (values .entry)) m 0) (getD (now (a .entry)) m 0)) (getD (now (g .entry)) m 0)) (now (values .entry)) (now (values .exit)) (length (now (values .entry))) ⌝ }
 {
     let mut m = 0;
     while m < values.len() {
         let difference = field::sub(field, values[m], a[m]);
-        let quotient = field::mul(field, difference, v[m]);
-        values[m] = field::mul(field, quotient, g[m]);
+        values[m] = field::mul(field, difference, g[m]);
         m += 1;
     }
 }
 
-// The corrected values at the k roots, where the table has `values` and `powers` are those of the shift point. V is 0 at none of them, and one inversion serves all.
+// Numerators and denominators of the corrected values at the k roots, where `tops` has the table's values and `powers` are those of the shift point.
 fn quotients(
     field: u32,
     pw: &[u32],
@@ -96,17 +96,17 @@ fn quotients(
     at: usize,
     step: usize,
     powers: &[u32],
-    values: &mut [u32],
+    tops: &mut [u32],
+    bottoms: &mut [u32],
 )
-    requires { ⌜ (length (now ac) ≡ 66) × (length (now vg) ≡ 132) ⌝ }
-    requires { ⌜ Rooted field (now pw) at step (length (now values)) (now powers) ⌝ }
-    requires { ⌜ (how .words ≡ length (now values) * length (now powers)) × (how .words ≤ 66) ⌝ }
-    requires { ⌜ ((m : ℕ) → m < length (now values) → Nonzero field (evaluate (fieldOf field) (vanishingIn (how .words) (now vg)) (getD (now pw) (at + step * m) 0))) ⌝ }
-    ensures { λ _. ⌜ ((m : ℕ) → m < length (now (values .entry)) → getD (now (values .exit)) m 0 ≡ correctedIn (fieldOf field) (how .words) (now (ac .entry)) (now (vg .entry)) (getD (now (pw .entry)) (at + step * m) 0) (getD (now (values .entry)) m 0)) ⌝ }
+    requires { ⌜ (length (now ac) ≡ 66) × ((length (now vg) ≡ 132) × (length (now bottoms) ≡ length (now tops))) ⌝ }
+    requires { ⌜ Rooted field (now pw) at step (length (now tops)) (now powers) ⌝ }
+    requires { ⌜ (how .words ≡ length (now tops) * length (now powers)) × (how .words ≤ 66) ⌝ }
+    ensures { λ _. ⌜ ((m : ℕ) → m < length (now (tops .entry)) → getD (now (tops .exit)) m 0 ≡ numeratorIn (fieldOf field) (how .words) (now (ac .entry)) (now (vg .entry)) (getD (now (pw .entry)) (at + step * m) 0) (getD (now (tops .entry)) m 0)) ⌝ }
+    ensures { λ _. ⌜ ((m : ℕ) → m < length (now (tops .entry)) → getD (now (bottoms .exit)) m 0 ≡ evaluate (fieldOf field) (vanishingIn (how .words) (now (vg .entry))) (getD (now (pw .entry)) (at + step * m) 0)) ⌝ }
 {
-    let k = values.len();
+    let k = tops.len();
     let mut a = roots();
-    let mut v = roots();
     let mut g = roots();
     at_roots(
         field,
@@ -126,7 +126,7 @@ fn quotients(
         at,
         step,
         k,
-        &mut v,
+        bottoms,
     );
     at_roots(
         field,
@@ -138,12 +138,7 @@ fn quotients(
         k,
         &mut g,
     );
-    let mut behind = roots();
-    let found = lists::invert_all(field, &mut v[..k], &mut behind);
-    let Inverses::Found = found else {
-        return;
-    };
-    correct(field, &a, &v, &g, values);
+    numerators(field, &a, &g, tops);
 }
 
 // The table's values at the k roots of shift point j.
@@ -158,8 +153,8 @@ fn gather_table(table: &[u32], step: usize, j: usize, values: &mut [u32])
     }
 }
 
-// The function's values at the k roots of shift point j into `values`: the table's, and where there are samples these are corrected.
-fn gather(
+// The function's values at the k roots of shift point j as fractions, where there are samples.
+fn fractions(
     field: u32,
     pw: &[u32],
     table: &[u32],
@@ -167,18 +162,16 @@ fn gather(
     vg: &[u32],
     how: Function,
     j: usize,
-    values: &mut [u32],
+    tops: &mut [u32],
+    bottoms: &mut [u32],
 )
     requires { ⌜ (length (now ac) ≡ 66) × ((length (now vg) ≡ 132) × (Clear field (now pw) (length (now table)) (now vg) how)) ⌝ }
-    requires { ⌜ Fits (length (now pw)) (length (now table)) how (length (now values)) ⌝ }
-    requires { ⌜ j < how .step ⌝ }
-    ensures { λ _. ⌜ ((m : ℕ) → m < length (now (values .entry)) → getD (now (values .exit)) m 0 ≡ rootIn field (now (pw .entry)) (now (table .entry)) (now (ac .entry)) (now (vg .entry)) how j m) ⌝ }
+    requires { ⌜ Fits (length (now pw)) (length (now table)) how (length (now tops)) ⌝ }
+    requires { ⌜ (j < how .step) × ((0 < how .words) × (length (now bottoms) ≡ length (now tops))) ⌝ }
+    ensures { λ _. ⌜ ((m : ℕ) → m < length (now (tops .entry)) → Fraction field (rootIn field (now (pw .entry)) (now (table .entry)) (now (ac .entry)) (now (vg .entry)) how j m) (getD (now (tops .exit)) m 0) (getD (now (bottoms .exit)) m 0)) ⌝ }
 {
-    let k = values.len();
-    gather_table(table, how.step, j, values);
-    if how.words == 0 {
-        return;
-    }
+    let k = tops.len();
+    gather_table(table, how.step, j, tops);
     let count = how.words / k;
     let y = shift_point(pw, how.scale, j, k);
     let mut powers = columns();
@@ -192,8 +185,110 @@ fn gather(
         how.scale * j,
         how.scale * how.step,
         &powers[..count],
-        values,
+        tops,
+        bottoms,
     );
+}
+
+// The fractions of one coin after the other, k places each.
+fn all_fractions(
+    field: u32,
+    pw: &[u32],
+    table: &[u32],
+    ac: &[u32],
+    vg: &[u32],
+    how: Function,
+    k: usize,
+    js: &[u32],
+    tops: &mut [u32],
+    bottoms: &mut [u32],
+)
+    requires { ⌜ (length (now ac) ≡ 66) × ((length (now vg) ≡ 132) × (Clear field (now pw) (length (now table)) (now vg) how)) ⌝ }
+    requires { ⌜ Fits (length (now pw)) (length (now table)) how k ⌝ }
+    requires { ⌜ (Below (how .step) (now js)) × ((0 < how .words) × ((length (now js) * k ≤ length (now tops)) × (length (now js) * k ≤ length (now bottoms)))) ⌝ }
+    ensures { λ _. ⌜ Fractions field (rootIn field (now (pw .entry)) (now (table .entry)) (now (ac .entry)) (now (vg .entry)) how) k (now (js .entry)) (now (tops .exit)) (now (bottoms .exit)) (length (now (js .entry))) ⌝ }
+{
+    let mut coin = 0;
+    while coin < js.len() {
+        let at = coin * k;
+        fractions(
+            field,
+            pw,
+            table,
+            ac,
+            vg,
+            how,
+            wide(js[coin]),
+            &mut tops[at..at + k],
+            &mut bottoms[at..at + k],
+        );
+        coin += 1;
+    }
+}
+
+// The fractions of all coins, and then their denominators' inverses by one inversion; nothing where there are no samples. No denominator is 0.
+fn prepare(
+    field: u32,
+    pw: &[u32],
+    table: &[u32],
+    ac: &[u32],
+    vg: &[u32],
+    how: Function,
+    k: usize,
+    js: &[u32],
+    tops: &mut [u32],
+    bottoms: &mut [u32],
+    behind: &mut [u32],
+)
+    requires { ⌜ (length (now ac) ≡ 66) × ((length (now vg) ≡ 132) × (Clear field (now pw) (length (now table)) (now vg) how)) ⌝ }
+    requires { ⌜ Fits (length (now pw)) (length (now table)) how k ⌝ }
+    requires { ⌜ Below (how .step) (now js) ⌝ }
+    requires { ⌜ (length (now js) * k ≤ length (now tops)) × ((length (now js) * k ≤ length (now bottoms)) × ((length (now js) * k ≤ length (now behind)) × (length (now js) ≤ 4096))) ⌝ }
+    ensures { λ _. ⌜ Prepared field (now (table .entry)) how k (rootIn field (now (pw .entry)) (now (table .entry)) (now (ac .entry)) (now (vg .entry)) how) (now (js .entry)) (now (tops .exit)) (now (bottoms .exit)) ⌝ }
+{
+    if how.words == 0 {
+        return;
+    }
+    all_fractions(field, pw, table, ac, vg, how, k, js, tops, bottoms);
+    let n = js.len() * k;
+    let found = lists::invert_all(field, &mut bottoms[..n], behind);
+    let Inverses::Found = found else {
+        return;
+    };
+}
+
+// Each value becomes a numerator times the inverse of its denominator, from place `at` on.
+fn quotients_from(field: u32, tops: &[u32], inverses: &[u32], at: usize, values: &mut [u32])
+    requires { ⌜ (at + length (now values) ≤ length (now tops)) × (at + length (now values) ≤ length (now inverses)) ⌝ }
+    ensures { λ _. ⌜ Filled (λ m. fieldOf field ._⊗_ (getD (now (tops .entry)) (at + m) 0) (getD (now (inverses .entry)) (at + m) 0)) (now (values .entry)) (now (values .exit)) (length (now (values .entry))) ⌝ }
+{
+    let mut m = 0;
+    while m < values.len() {
+        values[m] = field::mul(field, tops[at + m], inverses[at + m]);
+        m += 1;
+    }
+}
+
+// The function's values at the k roots of shift point j, the index number i: the table's, or where there are samples the fractions prepared.
+fn gather(
+    field: u32,
+    table: &[u32],
+    tops: &[u32],
+    inverses: &[u32],
+    how: Function,
+    i: usize,
+    j: usize,
+    values: &mut [u32],
+)
+    requires { ⌜ (i * length (now values) + length (now values) ≤ length (now tops)) × (i * length (now values) + length (now values) ≤ length (now inverses)) ⌝ }
+    requires { ⌜ ((m : ℕ) → m < length (now values) → j + how .step * m < length (now table)) ⌝ }
+    ensures { λ _. ⌜ ((m : ℕ) → m < length (now (values .entry)) → getD (now (values .exit)) m 0 ≡ rootBy field (now (table .entry)) (now (tops .entry)) (now (inverses .entry)) how (length (now (values .entry))) i j m) ⌝ }
+{
+    if how.words == 0 {
+        gather_table(table, how.step, j, values);
+        return;
+    }
+    quotients_from(field, tops, inverses, i * values.len(), values);
 }
 
 // What the inversion of 2 answers.
@@ -273,26 +368,27 @@ fn fold_values(
     values[0]
 }
 
-// The fold at shift index j with coin r.
+// The fold at shift index j, number i of a list, with coin r.
 fn fold_at(
     field: u32,
     pw: &[u32],
     table: &[u32],
-    ac: &[u32],
-    vg: &[u32],
+    tops: &[u32],
+    inverses: &[u32],
     how: Function,
+    i: usize,
     j: usize,
     r: u32,
     two: Inversion,
     values: &mut [u32],
 ) -> u32
-    requires { ⌜ (length (now ac) ≡ 66) × ((length (now vg) ≡ 132) × (Clear field (now pw) (length (now table)) (now vg) how)) ⌝ }
+    requires { ⌜ (i * length (now values) + length (now values) ≤ length (now tops)) × (i * length (now values) + length (now values) ≤ length (now inverses)) ⌝ }
     requires { ⌜ Fits (length (now pw)) (length (now table)) how (length (now values)) ⌝ }
     requires { ⌜ j < how .step ⌝ }
     requires { ⌜ inversionOf two ≡ fieldOf field .inverse 2 ⌝ }
-    ensures { λ v. ⌜ v ≡ foldIn field (now (pw .entry)) (now (table .entry)) (now (ac .entry)) (now (vg .entry)) how (length (now (values .entry))) r j ⌝ }
+    ensures { λ v. ⌜ v ≡ foldBy field (now (pw .entry)) (now (table .entry)) (now (tops .entry)) (now (inverses .entry)) how (length (now (values .entry))) r i j ⌝ }
 {
-    gather(field, pw, table, ac, vg, how, j, values);
+    gather(field, table, tops, inverses, how, i, j, values);
     fold_values(
         field,
         pw,
@@ -326,27 +422,28 @@ pub struct Point {
     pub y: u32,
 }
 
-// The sample at shift index j: the shift point, and the fold there.
-pub fn sample_at(
+// The sample at shift index j, number i of a list: the shift point, and the fold there.
+fn sample_at(
     field: u32,
     pw: &[u32],
     table: &[u32],
-    ac: &[u32],
-    vg: &[u32],
+    tops: &[u32],
+    inverses: &[u32],
     how: Function,
+    i: usize,
     j: usize,
     r: u32,
     two: Inversion,
     values: &mut [u32],
 ) -> Point
-    requires { ⌜ (length (now ac) ≡ 66) × ((length (now vg) ≡ 132) × (Clear field (now pw) (length (now table)) (now vg) how)) ⌝ }
+    requires { ⌜ (i * length (now values) + length (now values) ≤ length (now tops)) × (i * length (now values) + length (now values) ≤ length (now inverses)) ⌝ }
     requires { ⌜ Fits (length (now pw)) (length (now table)) how (length (now values)) ⌝ }
     requires { ⌜ j < how .step ⌝ }
     requires { ⌜ inversionOf two ≡ fieldOf field .inverse 2 ⌝ }
-    ensures { λ v. ⌜ record { point = v .x; value = v .y } ≡ sampleIn field (now (pw .entry)) (now (table .entry)) (now (ac .entry)) (now (vg .entry)) how (length (now (values .entry))) r j ⌝ }
+    ensures { λ v. ⌜ record { point = v .x; value = v .y } ≡ sampleBy field (now (pw .entry)) (now (table .entry)) (now (tops .entry)) (now (inverses .entry)) how (length (now (values .entry))) r i j ⌝ }
 {
     let x = shift_point(pw, how.scale, j, values.len());
-    let y = fold_at(field, pw, table, ac, vg, how, j, r, two, values);
+    let y = fold_at(field, pw, table, tops, inverses, how, i, j, r, two, values);
     Point { x: x, y: y }
 }
 
@@ -355,8 +452,8 @@ fn put_shifts(
     field: u32,
     pw: &[u32],
     table: &[u32],
-    ac: &[u32],
-    vg: &[u32],
+    tops: &[u32],
+    inverses: &[u32],
     how: Function,
     r: u32,
     two: Inversion,
@@ -365,12 +462,12 @@ fn put_shifts(
     px: &mut [u32],
     py: &mut [u32],
 ) -> Gathered
-    requires { ⌜ (length (now ac) ≡ 66) × ((length (now vg) ≡ 132) × (Clear field (now pw) (length (now table)) (now vg) how)) ⌝ }
+    requires { ⌜ (length (now shifts) * length (now values) ≤ length (now tops)) × (length (now shifts) * length (now values) ≤ length (now inverses)) ⌝ }
     requires { ⌜ Fits (length (now pw)) (length (now table)) how (length (now values)) ⌝ }
     requires { ⌜ Below (how .step) (now shifts) ⌝ }
     requires { ⌜ (length (now py) ≡ length (now px)) × (length (now shifts) ≤ length (now px)) ⌝ }
     requires { ⌜ inversionOf two ≡ fieldOf field .inverse 2 ⌝ }
-    ensures { λ v. ⌜ kept v (now (px .exit)) (now (py .exit)) ≡ sifted field (map (sampleIn field (now (pw .entry)) (now (table .entry)) (now (ac .entry)) (now (vg .entry)) how (length (now (values .entry))) r) (now (shifts .entry))) ⌝ }
+    ensures { λ v. ⌜ kept v (now (px .exit)) (now (py .exit)) ≡ sifted field (numbered (sampleBy field (now (pw .entry)) (now (table .entry)) (now (tops .entry)) (now (inverses .entry)) how (length (now (values .entry))) r) 0 (now (shifts .entry))) ⌝ }
     ensures { λ v. ⌜ Room (length (now (px .entry))) (length (now (shifts .entry))) v ⌝ }
 {
     let mut k = px.len();
@@ -381,9 +478,10 @@ fn put_shifts(
             field,
             pw,
             table,
-            ac,
-            vg,
+            tops,
+            inverses,
             how,
+            i,
             wide(shifts[i]),
             r,
             two,
@@ -409,6 +507,9 @@ pub fn push_shifts(
     r: u32,
     shifts: &[u32],
     values: &mut [u32],
+    tops: &mut [u32],
+    bottoms: &mut [u32],
+    behind: &mut [u32],
     px: &mut [u32],
     py: &mut [u32],
 ) -> Gathered
@@ -416,16 +517,31 @@ pub fn push_shifts(
     requires { ⌜ Fits (length (now pw)) (length (now table)) how (length (now values)) ⌝ }
     requires { ⌜ Below (how .step) (now shifts) ⌝ }
     requires { ⌜ (length (now py) ≡ length (now px)) × (length (now shifts) ≤ length (now px)) ⌝ }
+    requires { ⌜ (length (now shifts) * length (now values) ≤ length (now tops)) × ((length (now shifts) * length (now values) ≤ length (now bottoms)) × ((length (now shifts) * length (now values) ≤ length (now behind)) × (length (now shifts) ≤ 4096))) ⌝ }
     ensures { λ v. ⌜ kept v (now (px .exit)) (now (py .exit)) ≡ sifted field (map (sampleIn field (now (pw .entry)) (now (table .entry)) (now (ac .entry)) (now (vg .entry)) how (length (now (values .entry))) r) (now (shifts .entry))) ⌝ }
     ensures { λ v. ⌜ Room (length (now (px .entry))) (length (now (shifts .entry))) v ⌝ }
 {
-    let two = invert_two(field);
-    put_shifts(
+    let k = values.len();
+    prepare(
         field,
         pw,
         table,
         ac,
         vg,
+        how,
+        k,
+        shifts,
+        tops,
+        bottoms,
+        behind,
+    );
+    let two = invert_two(field);
+    put_shifts(
+        field,
+        pw,
+        table,
+        tops,
+        bottoms,
         how,
         r,
         two,
@@ -449,6 +565,9 @@ pub fn answer(
     outs: &[u32],
     replies: &[u32],
     values: &mut [u32],
+    tops: &mut [u32],
+    bottoms: &mut [u32],
+    behind: &mut [u32],
     px: &mut [u32],
     py: &mut [u32],
 ) -> Gathered
@@ -456,10 +575,26 @@ pub fn answer(
     requires { ⌜ Fits (length (now pw)) (length (now table)) how (length (now values)) ⌝ }
     requires { ⌜ Below (how .step) (now shifts) ⌝ }
     requires { ⌜ (length (now py) ≡ length (now px)) × ((length (now replies) ≡ length (now outs)) × (length (now outs) + length (now shifts) ≤ length (now px))) ⌝ }
+    requires { ⌜ (length (now shifts) * length (now values) ≤ length (now tops)) × ((length (now shifts) * length (now values) ≤ length (now bottoms)) × ((length (now shifts) * length (now values) ≤ length (now behind)) × (length (now shifts) ≤ 4096))) ⌝ }
     ensures { λ v. ⌜ Answered field (now (pw .entry)) (now (table .entry)) (now (ac .entry)) (now (vg .entry)) how (length (now (values .entry))) r (now (shifts .entry)) (now (outs .entry)) (now (replies .entry)) (kept v (now (px .exit)) (now (py .exit))) ⌝ }
     ensures { λ v. ⌜ Room (length (now (px .entry))) (length (now (outs .entry)) + length (now (shifts .entry))) v ⌝ }
 {
-    let s = push_shifts(field, pw, table, ac, vg, how, r, shifts, values, px, py);
+    let s = push_shifts(
+        field,
+        pw,
+        table,
+        ac,
+        vg,
+        how,
+        r,
+        shifts,
+        values,
+        tops,
+        bottoms,
+        behind,
+        px,
+        py,
+    );
     let Gathered::From(k) = s else {
         return Gathered::Clash;
     };
@@ -471,8 +606,8 @@ fn compare(
     field: u32,
     pw: &[u32],
     table: &[u32],
-    ac: &[u32],
-    vg: &[u32],
+    tops: &[u32],
+    inverses: &[u32],
     how: Function,
     r: u32,
     two: Inversion,
@@ -480,11 +615,11 @@ fn compare(
     finals: &[u32],
     values: &mut [u32],
 ) -> Found
-    requires { ⌜ (length (now ac) ≡ 66) × ((length (now vg) ≡ 132) × (Clear field (now pw) (length (now table)) (now vg) how)) ⌝ }
+    requires { ⌜ (length (now finals) * length (now values) ≤ length (now tops)) × (length (now finals) * length (now values) ≤ length (now inverses)) ⌝ }
     requires { ⌜ Fits (length (now pw)) (length (now table)) how (length (now values)) ⌝ }
     requires { ⌜ Below (how .step) (now finals) ⌝ }
     requires { ⌜ inversionOf two ≡ fieldOf field .inverse 2 ⌝ }
-    ensures { λ v. ⌜ Compared field (now (pw .entry)) (now (table .entry)) (now (ac .entry)) (now (vg .entry)) how (length (now (values .entry))) r (now (coefficients .entry)) (now (finals .entry)) (placeOf v) ⌝ }
+    ensures { λ v. ⌜ placeOf v ≡ firstTrue 0 (numbered (λ i j. differsIn field (now (coefficients .entry)) (sampleBy field (now (pw .entry)) (now (table .entry)) (now (tops .entry)) (now (inverses .entry)) how (length (now (values .entry))) r i j)) 0 (now (finals .entry))) ⌝ }
 {
     let mut i = 0;
     while i < finals.len() {
@@ -492,9 +627,10 @@ fn compare(
             field,
             pw,
             table,
-            ac,
-            vg,
+            tops,
+            inverses,
             how,
+            i,
             wide(finals[i]),
             r,
             two,
@@ -521,19 +657,37 @@ pub fn first_difference(
     coefficients: &[u32],
     finals: &[u32],
     values: &mut [u32],
+    tops: &mut [u32],
+    bottoms: &mut [u32],
+    behind: &mut [u32],
 ) -> Found
     requires { ⌜ (length (now ac) ≡ 66) × ((length (now vg) ≡ 132) × (Clear field (now pw) (length (now table)) (now vg) how)) ⌝ }
     requires { ⌜ Fits (length (now pw)) (length (now table)) how (length (now values)) ⌝ }
     requires { ⌜ Below (how .step) (now finals) ⌝ }
+    requires { ⌜ (length (now finals) * length (now values) ≤ length (now tops)) × ((length (now finals) * length (now values) ≤ length (now bottoms)) × ((length (now finals) * length (now values) ≤ length (now behind)) × (length (now finals) ≤ 4096))) ⌝ }
     ensures { λ v. ⌜ Compared field (now (pw .entry)) (now (table .entry)) (now (ac .entry)) (now (vg .entry)) how (length (now (values .entry))) r (now (coefficients .entry)) (now (finals .entry)) (placeOf v) ⌝ }
 {
-    let two = invert_two(field);
-    compare(
+    let k = values.len();
+    prepare(
         field,
         pw,
         table,
         ac,
         vg,
+        how,
+        k,
+        finals,
+        tops,
+        bottoms,
+        behind,
+    );
+    let two = invert_two(field);
+    compare(
+        field,
+        pw,
+        table,
+        tops,
+        bottoms,
         how,
         r,
         two,

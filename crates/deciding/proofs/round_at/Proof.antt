@@ -82,7 +82,7 @@ answer-requires c κs =
     let r = answer-ready (a .w .now) (a .stand) (a .how) ok (s .pre .1 .0) (p₁ .result .now) (p₂ .result .now) (p₃ .result .now) (p₄ .result .now)
     (p₁ .ensures) (p₂ .ensures) (p₃ .ensures) (p₄ .ensures) in
     let clear = clear-table (a .w .now) (a .stand) (a .how) ok (a .pw .now) (a .vg .now) (p₁ .result .now) (p₁ .ensures) (s .pre .1 .1 .1) in
-    ((ok .in-answers, (ok .in-factors, clear)), (r .0, (r .1 .0, (omega (arith, s .pre .1 .1 .0), (r .1 .1 .0, omega (arith, s .pre .1 .1 .0, r .1 .1 .1))))))
+    ((ok .in-answers, (ok .in-factors, clear)), (r .0, (r .1 .0, ((omega (arith, s .pre .1 .1 .0), (r .1 .1 .0, omega (arith, s .pre .1 .1 .0, r .1 .1 .1))), omega (arith, s .pre .1 .1 .0)))))
 
 same-length : tie.Need-same-length
 same-length c = search needs
