@@ -6,10 +6,11 @@ ghost use Prim.Native.Nat.{ℕ, suc, _+_, _-_, _*_, _/_, _%_, _≤_, _<_};
 ghost use mathlib.Core.List.{[], _∷_};
 ghost use mathlib.Core.Option.{some};
 ghost use lib.ListN.{length, getD, take, drop};
-ghost use Rattle.definition.specs.Field.{Field, primeOf, fieldOf, reciprocal};
+ghost use Rattle.definition.specs.Field.{Field, primeOf, fieldOf, power, reciprocal};
 ghost use Rattle.definition.specs.Polynomial.{pair, evaluate, geometric};
 ghost use Rattle.algebra.specs.Different.{Apart};
 ghost use Rattle.domain.specs.Filled.{Filled};
+ghost use Rattle.domain.specs.Powers.{Powers};
 ghost use Rattle.polynomial.specs.Vanishing.{vanishAt};
 ghost use Rattle.lists.specs.AtRoots.{everyNth};
 ghost use Rattle.lists.specs.Correcting.{Columned, Correcting};
@@ -112,6 +113,32 @@ pub fn powers(field: u32, x: u32, out: &mut [u32])
     if 1 < out.len() {
         out[1] = field::reduce(field, x as u64);
         later_powers(field, x, out);
+    }
+}
+
+// s places on, where n places go round.
+fn further(n: usize, place: usize, s: usize) -> usize
+    requires { ⌜ (place < n) × ((s ≤ n) × (n ≤ 4096)) ⌝ }
+    ensures { λ r. ⌜ (r ≡ (place + s) % n) × (r < n) ⌝ }
+{
+    let next = place + s;
+    if next < n {
+        return next;
+    }
+    next - n
+}
+
+// The powers of ω^s, from 1 on, where pw is the table of the powers of ω, which goes round: no product.
+pub fn powers_in(pw: &[u32], s: usize, out: &mut [u32])
+    requires { ⌜ (0 < length (now pw)) × ((length (now pw) ≤ 4096) × ((s ≤ length (now pw)) × (0 < length (now out)))) ⌝ }
+    ensures { λ _. ⌜ ((field ω : ℕ) → Powers field ω (now (pw .entry)) → now (out .exit) ≡ geometric (fieldOf field) (power (fieldOf field) ω s) (length (now (out .entry)) - 1)) ⌝ }
+{
+    let mut place = pw.len() - 1;
+    let mut i = 0;
+    while i < out.len() {
+        out[i] = pw[place];
+        place = further(pw.len(), place, s);
+        i += 1;
     }
 }
 

@@ -1,5 +1,5 @@
 -- The values at the k roots of a shift point: by sums of products and a table by halves, corrected where there are samples. Assumes nothing.
-use Prim.Native.Nat.{ℕ, zero, suc, _+_, _-_, _*_, _/_, _≤_, _<_}
+use Prim.Native.Nat.{ℕ, zero, suc, _+_, _-_, _*_, _/_, _%_, _≤_, _<_}
 use mathlib.Core.Path.{_≡_, refl, sym, ap, _∙_, subst}
 use mathlib.Core.List.{List, _++_}
 use native.Mathlib.Nat.{le-refl, mul-div-cancel-left, mul-le-mul-left, mul-le-mul-right, not-suc-le-zero}
@@ -11,17 +11,19 @@ use Rattle.definition.specs.Polynomial.{evaluate, geometric}
 use mathlib.Core.Option.{some}
 use Rattle.algebra.specs.Laws.{FieldLaws}
 use Rattle.algebra.specs.PrimeField.{laws}
+use Rattle.algebra.specs.RootsOfUnity.{power-mul}
 use Rattle.algebra.specs.Solver.{_:*_, _:=_, solve₃}
 use Rattle.domain.specs.Filled.{Filled}
+use Rattle.domain.specs.Roots.{around}
 use Rattle.polynomial.specs.Inverses.{Nonzero}
 use Rattle.lists.specs.AtRoots.{everyNth, sums-at}
 use Rattle.lists.specs.Residues.{root-powers}
 use Rattle.lists.specs.Sums.{products}
 use Rattle.tables.specs.Halving.{Halves, Table}
 use Rattle.rounds.specs.declared.Function.{Function}
-use Rattle.rounds.specs.PointsIn.{pointIn, ShiftPoint}
+use Rattle.rounds.specs.PointsIn.{pointIn}
 use Rattle.rounds.specs.Prepared.{Fraction, rootBy, valueBy}
-use Rattle.rounds.specs.Round.{Clear, Fits, Rooted, correctedIn, numeratorIn, vanishingIn, growthIn, valueOf, valueIn, rootIn, folded, root-number, point-room}
+use Rattle.rounds.specs.Round.{Clear, Fits, Rooted, correctedIn, numeratorIn, vanishingIn, growthIn, valueOf, valueIn, rootIn, first-point, folded, root-number, point-room}
 
 -- ---- a polynomial's values at the roots
 
@@ -89,11 +91,14 @@ module _ {points n : ℕ} {how : Function} {k : ℕ} (fits : Fits points n how k
     (let whole : how .scale * (k * how .step) ≡ how .scale * n = ap (λ (m : ℕ). how .scale * m) (fits .roots) in omega (arith, whole, fits .room)),
   )
 
+  pub exponent-small : {j : ℕ} → j < how .step → k + k * (how .scale * j) ≤ 131072
+  exponent-small {j} l = let first : how .scale * j ≤ 4096 = omega (arith, first-point fits l, fits .small) in omega (arith, fits .few, mul-le-mul-left k first)
+
   pub root-place : (j m : ℕ) → how .scale * (j + m * how .step) ≡ how .scale * j + how .scale * how .step * m
   root-place j m = omega arith
 
-pub rooted : (field : ℕ) (pw table vg : List ℕ) (how : Function) (k : ℕ) → Fits (length pw) (length table) how k → Clear field pw (length table) vg how →
-    (j y : ℕ) (powers : List ℕ) → j < how .step → ShiftPoint pw (how .scale) k j y → 0 < how .words → length powers ≡ how .words / k →
+pub rooted : (field : ℕ) (pw table vg : List ℕ) (how : Function) (k : ℕ) → Fits (length pw) (length table) how k → (clear : Clear field pw (length table) vg how) →
+    (j y : ℕ) (powers : List ℕ) → j < how .step → y ≡ power (fieldOf field) (power (fieldOf field) (clear .ω) (1 + how .scale * j)) k → 0 < how .words → length powers ≡ how .words / k →
     powers ≡ geometric (fieldOf field) y (length powers - 1) → Rooted field pw (how .scale * j) (how .scale * how .step) k powers
 rooted field pw table vg how k fits clear j y powers l shift pos size list = record {
   ω = clear .ω;
@@ -120,7 +125,15 @@ rooted field pw table vg how k fits clear j y powers l shift pos size list = rec
         let next : 1 + (how .scale * j + d * m) ≡ e + m * d = omega arith in
         let round : power F ω (d * k) ≡ F .𝟙 = ap (power F ω) (roots-spaced fits l .1) ∙ clear .powers .round in
         ap (λ (x : ℕ). power F x k) (clear .powers .entry _ inside ∙ ap (power F ω) next)
-        ∙ root-powers F (laws field) ω e d k m round ∙ sym (shift field ω (clear .powers))
+        ∙ root-powers F (laws field) ω e d k m round ∙ sym shift
+
+-- the exponent of the shift point, in the table
+pub exponent-is : (field ω n k e : ℕ) → power (fieldOf field) ω n ≡ fieldOf field .𝟙 → power (fieldOf field) ω ((k + k * e) % n) ≡ power (fieldOf field) (power (fieldOf field) ω (1 + e)) k
+exponent-is field ω n k e round =
+    let F = fieldOf field in
+    let times : 0 + (k + k * e) ≡ (1 + e) * k = omega arith in
+    let none : (k + k * e) % n ≡ 0 + (k + k * e) % n = omega arith in
+    ap (power F ω) none ∙ around F (laws field) ω 0 (k + k * e) n round ∙ ap (power F ω) times ∙ sym (power-mul F (laws field) ω (1 + e) k)
 
 -- V is 0 at no root
 pub roots-nonzero : (field : ℕ) (pw table vg : List ℕ) (how : Function) (k : ℕ) (fits : Fits (length pw) (length table) how k) → (clear : Clear field pw (length table) vg how) →

@@ -153,7 +153,7 @@ fn gather_table(table: &[u32], step: usize, j: usize, values: &mut [u32])
     }
 }
 
-// The function's values at the k roots of shift point j as fractions, where there are samples.
+// The function's values at the k roots of shift point j as fractions, where there are samples. The powers of the shift point stand in the table too.
 fn fractions(
     field: u32,
     pw: &[u32],
@@ -173,9 +173,9 @@ fn fractions(
     let k = tops.len();
     gather_table(table, how.step, j, tops);
     let count = how.words / k;
-    let y = shift_point(pw, how.scale, j, k);
+    let exponent = (k + k * (how.scale * j)) % pw.len();
     let mut powers = columns();
-    lists::powers(field, y, &mut powers[..count]);
+    lists::powers_in(pw, exponent, &mut powers[..count]);
     quotients(
         field,
         pw,
