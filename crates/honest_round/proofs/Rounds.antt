@@ -18,7 +18,7 @@ use Rattle.honest_round.specs.Levels.{shifts-are}
 use Rattle.distinct.specs.Points.{InTable, differentPoints, distinct-points}
 use Rattle.honest_round.specs.Sizes.{shifts-inside, sizes}
 use Rattle.domain.specs.Parts.{begun, front-stays}
-use Rattle.honest_round.specs.Standing.{RoundDealt, Standing, coinsNext, correctedFrom, fieldAt, foldFrom, repetitionsOf, rootAt, roundFrom, shiftsNext}
+use Rattle.honest_round.specs.Standing.{RoundDealt, Standing, coinsNext, correctedFrom, fieldAt, foldAfter, foldFrom, repetitionsOf, rootAt, roundFrom, shiftsNext}
 
 -- the coins after the replies are a combination coin, a fold coin and indices
 later-words : (v : List ℕ) → 2 ≤ length v → v ≡ getD v 0 0 ∷ getD v 1 0 ∷ drop 2 v
@@ -102,7 +102,7 @@ module _ (w : List ℕ) (i : ℕ) (coins : List ℕ) (dealt : RoundDealt w i coi
 pub folded-next : (w : List ℕ) (i d folded : ℕ) (coins g g₁ next front back : List ℕ) {r : ℕ} → d ≤ length next → length front ≡ length (take d next) →
     front ≡ correctedFrom w i (take (length (take d next)) g) coins → r ≡ getD coins (outsOf w + 1) 0 →
     folded ≤ length g₁ → length back ≡ length (take folded g₁) → back ≡ foldFrom w r (take d (begun next front d)) →
-    take folded (begun g₁ back folded) ≡ foldFrom w (getD coins (outsOf w + 1) 0) (correctedFrom w i (take d g) coins)
+    take folded (begun g₁ back folded) ≡ foldAfter w i (take d g) coins
 folded-next w i d folded coins g g₁ next front back fits same is coin room long fold =
     let n = length-take-le d next fits in
     let f = front-stays next front d fits same ∙ is ∙ ap (λ (m : ℕ). correctedFrom w i (take m g) coins) n in

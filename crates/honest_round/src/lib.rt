@@ -8,7 +8,7 @@ ghost use Rattle.definition.specs.Field.{fieldOf};
 ghost use Rattle.definition.specs.Polynomial.{evaluate};
 ghost use Rattle.completeness.specs.Numbered.{roundsOf};
 ghost use Rattle.honest_round.specs.Tables.{LevelTable};
-ghost use Rattle.honest_round.specs.Standing.{OnLevel, RoundDealt, Standing, correctedFrom, foldFrom, roundCount, roundFrom};
+ghost use Rattle.honest_round.specs.Standing.{OnLevel, RoundDealt, Standing, correctedFrom, foldAfter, foldFrom, roundCount, roundFrom};
 
 // A copy of words.
 pub fn copy(src: &[u32], out: &mut [u32])
@@ -146,7 +146,7 @@ fn fold_coin(w: &[u32], coins: &[u32]) -> u32
 
 // One round after a level whose polynomial's fold, of d coefficients, stands at the front of g: its words; the corrected polynomial of the next level, in
 // the first d places of next; and that polynomial's fold, of `folded` coefficients, at the front of g again.
-pub fn step(
+fn step_by(
     w: &[u32],
     pw: &[u32],
     level: usize,
@@ -162,10 +162,50 @@ pub fn step(
     requires { ⌜ (RoundDealt (now w) level (now coins)) × ((d ≤ length (now g)) × (d ≤ length (now next))) ⌝ }
     requires { ⌜ length (now out) ≡ roundCount (now w) level ⌝ }
     ensures { λ _. ⌜ now (out .exit) ≡ roundFrom (now (w .entry)) level (take d (now (g .entry))) (now (coins .entry)) ⌝ }
-    ensures { λ _.
-        ⌜ take folded (now (g .exit)) ≡ foldFrom (now (w .entry)) (getD (now (coins .entry)) (getD (now (w .entry)) 5 0 + 1) 0) (correctedFrom (now (w .entry)) level (take d (now (g .entry))) (now (coins .entry))) ⌝ }
+    ensures { λ _. ⌜ take folded (now (g .exit)) ≡ foldAfter (now (w .entry)) level (take d (now (g .entry))) (now (coins .entry)) ⌝ }
 {
     round(w, pw, level, scale, &g[..d], coins, out);
     correct(w, pw, level, scale, coins, g, &mut next[..d]);
     fold(w, fold_coin(w, coins), &next[..d], &mut g[..folded]);
+}
+
+// Places for the fold of a polynomial of at most 2,048 coefficients, or for the next polynomial.
+pub fn fold_room() -> [u32; 1024]
+    ensures { λ r. ⌜ length r ≡ 1024 ⌝ }
+{
+    [0u32; 1024]
+}
+
+// The same, of at most 128.
+pub fn few_fold_room() -> [u32; 64]
+    ensures { λ r. ⌜ length r ≡ 64 ⌝ }
+{
+    [0u32; 64]
+}
+
+// The round, with places of its own for the next polynomial. A small one is spared the clearing of many.
+pub fn step(
+    w: &[u32],
+    pw: &[u32],
+    level: usize,
+    scale: usize,
+    d: usize,
+    folded: usize,
+    coins: &[u32],
+    g: &mut [u32],
+    out: &mut [u32],
+)
+    requires { ⌜ (Standing (now w) (now pw) level scale (getD (now w) 3 0 * d)) × ((level < roundsOf (now w)) × (d ≡ getD (now w) 3 0 * folded)) ⌝ }
+    requires { ⌜ (RoundDealt (now w) level (now coins)) × (d ≤ length (now g)) ⌝ }
+    requires { ⌜ length (now out) ≡ roundCount (now w) level ⌝ }
+    ensures { λ _. ⌜ now (out .exit) ≡ roundFrom (now (w .entry)) level (take d (now (g .entry))) (now (coins .entry)) ⌝ }
+    ensures { λ _. ⌜ take folded (now (g .exit)) ≡ foldAfter (now (w .entry)) level (take d (now (g .entry))) (now (coins .entry)) ⌝ }
+{
+    if d <= 64 {
+        let mut few = few_fold_room();
+        step_by(w, pw, level, scale, d, folded, coins, g, &mut few, out);
+    } else {
+        let mut next = fold_room();
+        step_by(w, pw, level, scale, d, folded, coins, g, &mut next, out);
+    }
 }
