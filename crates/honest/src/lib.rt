@@ -10,7 +10,7 @@ ghost use Rattle.definition.specs.Prover.{honestStream};
 ghost use Rattle.definition.specs.Sheet.{rootOfUnity, sheetOf};
 ghost use Rattle.completeness.specs.Numbered.{Allowed};
 ghost use Rattle.domain.specs.Powers.{Powers};
-ghost use Rattle.honest_round.specs.Standing.{DealtFrom, RestAfter, Standing, openingFrom, restCount, wordsFrom};
+ghost use Rattle.honest_words.specs.Standing.{DealtFrom, RestAfter, Standing, openingFrom, restCount, wordsFrom};
 
 // The number of coins of the round after a level: the out coins, the combination coin, the fold coin and the shift indices.
 fn round_coins(w: &[u32], level: usize) -> usize
@@ -35,8 +35,8 @@ fn finals(g: &[u32], coins: &[u32], out: &mut [u32])
     ensures { λ _. ⌜ now (out .exit) ≡ now (g .entry) ++ now (coins .entry) ⌝ }
 {
     let d = g.len();
-    honest_round::copy(g, &mut out[..d]);
-    honest_round::copy(coins, &mut out[d..]);
+    honest_words::copy(g, &mut out[..d]);
+    honest_words::copy(coins, &mut out[d..]);
 }
 
 // All words after the fold coin of a level whose polynomial's fold, of d coefficients, stands at the front of g: a round and the words after its fold coin,
@@ -105,7 +105,7 @@ fn transcript(w: &[u32], pw: &[u32], f: &[u32], coins: &[u32], g: &mut [u32], ou
     ensures { λ _. ⌜ now (out .exit) ≡ wordsFrom (now (w .entry)) (now (f .entry)) (now (coins .entry)) ⌝ }
 {
     let n = pw.len();
-    honest_round::table(w, pw, 1, f, &mut out[..n]);
+    honest_words::table(w, pw, 1, f, &mut out[..n]);
     after_first(w, pw, f, coins, g, &mut out[n..]);
 }
 
@@ -116,7 +116,7 @@ fn stream_by(w: &[u32], pw: &[u32], f: &[u32], coins: &[u32], g: &mut [u32], out
     requires { ⌜ length (now out) ≡ wordsDue (sheetOf (now w)) ⌝ }
     ensures { λ _. ⌜ now (out .exit) ≡ honestStream (now (w .entry)) (now (f .entry)) (now (coins .entry)) ⌝ }
 {
-    honest_round::copy(w, &mut out[..12]);
+    honest_words::copy(w, &mut out[..12]);
     transcript(w, pw, f, coins, g, &mut out[12..]);
 }
 

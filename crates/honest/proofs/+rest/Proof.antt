@@ -6,8 +6,8 @@ use mathlib.Core.Path.{_∙_, refl, subst, sym}
 use lib.ListN.{length, getD, take}
 use lib.Seq.{length-take-le}
 use borrow.Author.Needs.{needs}
-use Rattle.honest_round.specs.Sizes.{sizes}
-use Rattle.honest_round.specs.Standing.{DealtFrom}
+use Rattle.honest_words.specs.Sizes.{sizes}
+use Rattle.honest_words.specs.Standing.{DealtFrom}
 use Rattle.honest.proofs.Onward.{Onward, all-left, not-last, onward, words-end, words-join, words-last}
 use Rattle.domain.specs.Parts.{begun-long, filled-long, joined, others-long}
 use borrow.Fn.Kinds.{In}

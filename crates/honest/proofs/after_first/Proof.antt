@@ -6,8 +6,8 @@ use mathlib.Core.Path.{_∙_, ap, subst, sym}
 use lib.ListN.{length, getD, length-set}
 use lib.Seq.{length-take-le}
 use Rattle.domain.specs.Parts.{begun-long, front-stays}
-use Rattle.honest_round.specs.Sizes.{sizes}
-use Rattle.honest_round.specs.Standing.{DealtFrom, Standing, restFrom}
+use Rattle.honest_words.specs.Sizes.{sizes}
+use Rattle.honest_words.specs.Standing.{DealtFrom, Standing, restFrom}
 use Rattle.honest.proofs.Onward.{all-left, first-fold}
 use Rattle.honest.proofs.Stored.{stored-join, stored-long, stored-others}
 use borrow.Author.Needs.{needs}

@@ -3,7 +3,7 @@ use native.Mathlib.Omega.{arith}
 use mathlib.Core.Path.{_∙_, sym}
 use lib.Seq.{length-take-le}
 use Rattle.completeness.specs.Allowed.{allowed-long}
-use Rattle.honest_round.specs.Standing.{wordsFrom}
+use Rattle.honest_words.specs.Standing.{wordsFrom}
 use Rattle.honest.specs.Beginning.{first-coin, first-count, first-dealt, first-standing, stream-is, words-first}
 use Rattle.domain.specs.Parts.{begun-long, joined, others-long}
 use borrow.Author.Needs.{needs}

@@ -6,7 +6,7 @@ use lib.Seq.{length-take-le}
 use Rattle.completeness.specs.LevelsByNumber.{undivided}
 use Rattle.completeness.specs.Numbered.{levelOf}
 use Rattle.domain.specs.Parts.{joined, others-long}
-use Rattle.honest_round.specs.Standing.{openingFrom}
+use Rattle.honest_words.specs.Standing.{openingFrom}
 use borrow.Author.Needs.{needs}
 use Rattle.honest.proofs.transcript.Statement.{statement}
 use Rattle.honest.proofs.transcript.Tie as tie

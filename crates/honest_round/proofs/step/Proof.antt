@@ -1,6 +1,6 @@
 -- `honest_round::step` meets its contract: the places are enough. Assumes nothing.
 use native.Mathlib.Omega.{arith}
-use Rattle.honest_round.specs.Sizes.{fold-most}
+use Rattle.honest_words.specs.Sizes.{fold-most}
 use borrow.Author.Needs.{needs}
 use Rattle.honest_round.proofs.step.Statement.{statement}
 use Rattle.honest_round.proofs.step.Tie as tie

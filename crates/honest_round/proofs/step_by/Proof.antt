@@ -5,7 +5,7 @@ use mathlib.Core.Path.{_∙_, ap, sym}
 use lib.ListN.{length, getD}
 use lib.Seq.{length-take-le}
 use Rattle.domain.specs.Parts.{front-there}
-use Rattle.honest_round.specs.Sizes.{sizes}
+use Rattle.honest_words.specs.Sizes.{sizes}
 use Rattle.honest_round.proofs.Rounds.{fewer, folded-next, lent}
 use borrow.Author.Needs.{needs}
 use Rattle.honest_round.proofs.step_by.Statement.{statement}
