@@ -1,12 +1,12 @@
--- `honest_round::after_table` meets its contract. Assumes nothing.
+-- `honest_words::after_table` meets its contract. Assumes nothing.
 use native.Mathlib.Omega.{arith}
 use mathlib.Core.Path.{sym}
 use lib.ListN.{length}
 use lib.Seq.{length-take-le}
 use Rattle.domain.specs.Parts.{joined}
 use borrow.Author.Needs.{needs}
-use Rattle.honest_round.proofs.after_table.Statement.{statement}
-use Rattle.honest_round.proofs.after_table.Tie as tie
+use Rattle.honest_words.proofs.after_table.Statement.{statement}
+use Rattle.honest_words.proofs.after_table.Tie as tie
 
 slice-relend-prefix-copy : tie.Need-slice-relend-prefix-copy
 slice-relend-prefix-copy c = search needs

@@ -1,12 +1,12 @@
--- `honest_round::copy` meets its contract: from place i on stand the words. Assumes nothing.
+-- `honest_words::copy` meets its contract: from place i on stand the words. Assumes nothing.
 use Prim.Native.Nat.{_≤_}
 use native.Mathlib.Omega.{arith}
 use mathlib.Core.Path.{_≡_, _∙_, refl}
 use mathlib.Core.List.{map}
 use lib.ListN.{length, drop, length-set}
-use Rattle.honest_round.proofs.Filling.{fill-start, fill-turn, fill-end, map-same}
-use Rattle.honest_round.proofs.copy.Statement.{statement}
-use Rattle.honest_round.proofs.copy.Tie as tie
+use Rattle.honest_words.proofs.Filling.{fill-start, fill-turn, fill-end, map-same}
+use Rattle.honest_words.proofs.copy.Statement.{statement}
+use Rattle.honest_words.proofs.copy.Tie as tie
 
 abbrev Inv-loop : tie.InvT-loop
 Inv-loop src out₀ i₀ out i = (i ≤ length src) × ((length out ≡ length out₀) × (drop i out ≡ map (λ x. x) (drop i src)))

@@ -15,8 +15,8 @@ use Rattle.completeness.specs.Numbered.{levelOf, roundsOf}
 use Rattle.completeness.specs.SheetRules.{Exponents, exponents}
 use Rattle.tables.specs.Halving.{Halves}
 use Rattle.tables.specs.OnDomain.{DomainTable}
-use Rattle.honest_round.specs.Standing.{OnLevel, fieldAt, rootAt}
-use Rattle.honest_round.specs.Sizes.{sizes}
+use Rattle.honest_words.specs.Standing.{OnLevel, fieldAt, rootAt}
+use Rattle.honest_words.specs.Sizes.{sizes}
 
 -- out is the table of f over the domain of each level with this scale and size
 abbrev pub LevelTable : List ℕ → List ℕ → ℕ → ℕ → List ℕ → Type 0

@@ -1,16 +1,16 @@
--- `honest_round::round` meets its contract: the table, and the words after it. Assumes nothing.
+-- `honest_words::round` meets its contract: the table, and the words after it. Assumes nothing.
 use Prim.Native.Nat.{_+_, _*_, _/_}
 use native.Mathlib.Omega.{arith}
 use mathlib.Core.Path.{_∙_, sym}
 use lib.ListN.{length, getD, take}
 use lib.Seq.{length-take-le}
 use Rattle.completeness.specs.Numbered.{levelOf}
-use Rattle.honest_round.specs.Sizes.{next-on-level, next-scale, next-size, sizes}
+use Rattle.honest_words.specs.Sizes.{next-on-level, next-scale, next-size, sizes}
 use Rattle.domain.specs.Parts.{begun-long, joined, others-long}
-use Rattle.honest_round.proofs.Rounds.{later-long, outs-long, round-is}
+use Rattle.honest_words.proofs.Words.{later-long, outs-long, round-is}
 use borrow.Author.Needs.{needs}
-use Rattle.honest_round.proofs.round.Statement.{statement}
-use Rattle.honest_round.proofs.round.Tie as tie
+use Rattle.honest_words.proofs.round.Statement.{statement}
+use Rattle.honest_words.proofs.round.Tie as tie
 
 shared-slice-read-s : tie.Need-shared-slice-read-s
 shared-slice-read-s c = search needs

@@ -1,4 +1,4 @@
--- `honest_round::values` meets its contract: from place i on stand the values. Assumes nothing.
+-- `honest_words::values` meets its contract: from place i on stand the values. Assumes nothing.
 use Prim.Native.Nat.{_≤_}
 use native.Mathlib.Omega.{arith}
 use mathlib.Core.Path.{_≡_, refl}
@@ -6,9 +6,9 @@ use mathlib.Core.List.{map}
 use lib.ListN.{length, drop, length-set}
 use Rattle.definition.specs.Field.{fieldOf}
 use Rattle.definition.specs.Polynomial.{evaluate}
-use Rattle.honest_round.proofs.Filling.{fill-start, fill-turn, fill-end}
-use Rattle.honest_round.proofs.values.Statement.{statement}
-use Rattle.honest_round.proofs.values.Tie as tie
+use Rattle.honest_words.proofs.Filling.{fill-start, fill-turn, fill-end}
+use Rattle.honest_words.proofs.values.Statement.{statement}
+use Rattle.honest_words.proofs.values.Tie as tie
 
 abbrev Inv-loop : tie.InvT-loop
 Inv-loop field g xs out₀ i₀ out i = (i ≤ length xs) × ((length out ≡ length out₀) × (drop i out ≡ map (evaluate (fieldOf field) g) (drop i xs)))

@@ -53,6 +53,10 @@ roundFrom w i g coins = roundWords (honestRound (fieldAt w) (rootAt w) g (coinsN
 unfoldable pub correctedFrom : List ℕ → ℕ → List ℕ → List ℕ → List ℕ
 correctedFrom w i g coins = nextPoly (fieldAt w) (rootAt w) (levelOf w i) g (coinsNext w i coins)
 
+-- the fold of that polynomial at the round's fold coin
+abbrev pub foldAfter : List ℕ → ℕ → List ℕ → List ℕ → List ℕ
+foldAfter w i g coins = foldFrom w (getD coins (outsOf w + 1) 0) (correctedFrom w i g coins)
+
 -- the number of words of round i + 1: table, out coins, replies, two coins and the shift indices
 abbrev pub roundCount : List ℕ → ℕ → ℕ
 roundCount w i = levelOf w (i + 1) .size + outsOf w + outsOf w + 2 + repetitionsOf w i

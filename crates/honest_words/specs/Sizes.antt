@@ -7,16 +7,12 @@ use mathlib.Core.List.{List}
 use mathlib.Core.Path.{_≡_, sym, ap, _∙_}
 use lib.ListN.{length, getD}
 use lib.Pow.{pow-mono, pow-pos}
-use Rattle.definition.specs.Sheet.{shiftCount}
-use Rattle.algebra.specs.ListFacts.{All}
-use Rattle.completeness.specs.ByPlace.{at-place}
 use Rattle.completeness.specs.LevelsByNumber.{folded}
 use Rattle.completeness.specs.Numbered.{levelOf, outsOf, roundsOf}
 use Rattle.completeness.specs.SheetLevels
 use Rattle.completeness.specs.SheetRules.{exponents}
 use Rattle.sheet.specs.Bounds.{ranges}
-use Rattle.distinct.specs.Points.{InTable}
-use Rattle.honest_round.specs.Standing.{OnLevel, Standing, repetitionsOf}
+use Rattle.honest_words.specs.Standing.{OnLevel, Standing, repetitionsOf}
 
 -- the bounds of the sheet's words, of the polynomial, of its fold and of the scale
 pub record Sizes (w : List ℕ) (i scale count points : ℕ) : Type 0 where
@@ -58,18 +54,6 @@ sizes w pw i scale count st =
   where
     small : (j : ℕ) → j ≤ 5 → scale ≡ 2 ^ j → scale ≤ 32
     small j h e = omega (arith, pow-mono h)
-
--- the place in the table of each shift index
-pub shifts-inside : (w : List ℕ) (i scale count points : ℕ) (js : List ℕ) → Sizes w i scale count points → All (λ j. j < shiftCount (levelOf w i)) js →
-    InTable points scale js
-unfolding shiftCount
-shifts-inside w i scale count points js z below = λ m l.
-    inside (getD js m 0) (levelOf w i .size) (at-place (λ j. j < levelOf w i .size / getD w 3 0) js 0 below m l) (z .whole)
-  where
-    inside : (j n : ℕ) → j < n / getD w 3 0 → scale * n ≡ points → scale * j < points
-    inside j n h e =
-        let g : j + 1 ≤ n = omega (arith, div-le-self n (getD w 3 0)) in
-        omega (arith, mul-le-mul-left scale g, z .scaled)
 
 module _ (w pw : List ℕ) (i scale m : ℕ) (st : Standing w pw i scale (getD w 3 0 * m)) where
   pub one-fold : getD w 3 0 * m / getD w 3 0 ≡ m

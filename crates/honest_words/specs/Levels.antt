@@ -17,7 +17,7 @@ use Rattle.completeness.specs.FileSize.{rest-length}
 use Rattle.completeness.specs.LayoutFacts.{Dealt}
 use Rattle.completeness.specs.ListLaws.{drop-take}
 use Rattle.completeness.specs.Numbered.{levelOf, outsOf, roundsOf}
-use Rattle.honest_round.specs.Standing.{DealtFrom, RoundDealt, coinsNext, correctedFrom, fieldAt, foldFrom, levelsAfter, repetitionsOf, restCount, restFrom, rootAt, roundCount, roundFrom, shiftsNext}
+use Rattle.honest_words.specs.Standing.{DealtFrom, RoundDealt, coinsNext, correctedFrom, fieldAt, foldFrom, levelsAfter, repetitionsOf, restCount, restFrom, rootAt, roundCount, roundFrom, shiftsNext}
 
 -- the words of the rest over given levels
 abbrev restOver : List ℕ → ℕ → List Level → List ℕ → ℕ → List ℕ → List ℕ

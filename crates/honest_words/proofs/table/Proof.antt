@@ -1,9 +1,9 @@
--- `honest_round::table` meets its contract. Assumes nothing.
+-- `honest_words::table` meets its contract. Assumes nothing.
 use lib.ListN.{length}
-use Rattle.honest_round.specs.Tables.{level-asks, level-table}
+use Rattle.honest_words.specs.Tables.{level-asks, level-table}
 use borrow.Author.Needs.{needs}
-use Rattle.honest_round.proofs.table.Statement.{statement}
-use Rattle.honest_round.proofs.table.Tie as tie
+use Rattle.honest_words.proofs.table.Statement.{statement}
+use Rattle.honest_words.proofs.table.Tie as tie
 
 shared-slice-read-on-domain : tie.Need-shared-slice-read-on-domain
 shared-slice-read-on-domain c = search needs

@@ -1,12 +1,12 @@
--- `honest_round::after_outs` meets its contract. Assumes nothing.
+-- `honest_words::after_outs` meets its contract. Assumes nothing.
 use native.Mathlib.Omega.{arith}
 use mathlib.Core.Path.{sym}
 use lib.ListN.{length}
 use lib.Seq.{length-take-le}
 use Rattle.domain.specs.Parts.{joined}
 use borrow.Author.Needs.{needs}
-use Rattle.honest_round.proofs.after_outs.Statement.{statement}
-use Rattle.honest_round.proofs.after_outs.Tie as tie
+use Rattle.honest_words.proofs.after_outs.Statement.{statement}
+use Rattle.honest_words.proofs.after_outs.Tie as tie
 
 slice-relend-prefix-values : tie.Need-slice-relend-prefix-values
 slice-relend-prefix-values c = search needs
