@@ -1,6 +1,6 @@
 //! The benchmark's baselines do the model's work: the same verdicts, blocks and tables.
 
-use tevrolig_model::baseline::{prove, verify};
+use tevrolig_model::baseline::{lists, prove, verify};
 use tevrolig_model::generate::{self, Rng};
 use tevrolig_model::{encode, prove as model_prove, verify as model_verify, Answer};
 
@@ -18,6 +18,7 @@ fn verdicts() {
         let verdict = model_verify(&file);
         assert_eq!(verify::verify::<false>(&file), verdict, "seed {seed}");
         assert_eq!(verify::verify::<true>(&file), verdict, "seed {seed}");
+        assert_eq!(lists::verify(&file), verdict, "seed {seed}");
     }
 }
 

@@ -1,7 +1,7 @@
 //! Verify, prove and encode in the archive beside the same algorithms in Rust, in one run: ratios first.
 //!
-//! Two baselines take turns with the archive: plain Rust, and Rust tuned by hand as the proved code is (one remainder for a product and
-//! a sum, two points in one walk). Each figure is the least time of a call over several rounds. With an argument the rows for the plots
+//! Two baselines take turns with the archive: plain Rust, and Rust tuned by hand (one remainder for a product and a sum, two points in one
+//! walk); and of verify a third, by the coefficient lists of the proved code. Each figure is the least time of a call over several rounds. With an argument the rows for the plots
 //! are written to that folder, as `verify.rows`, `prove.rows` and `encode.rows`.
 
 use std::fmt::Write as _;
@@ -12,9 +12,9 @@ use tevrolig_model::baseline;
 use tevrolig_model::generate::{self, Rng};
 use tevrolig_model::stream;
 
-/// The least time of one call in microseconds, for each of three functions that take turns.
-fn least(calls: usize, mut work: [&mut dyn FnMut(); 3]) -> [f64; 3] {
-    let mut best = [f64::MAX; 3];
+/// The least time of one call in microseconds, for each of the functions, which take turns.
+fn least<const N: usize>(calls: usize, mut work: [&mut dyn FnMut(); N]) -> [f64; N] {
+    let mut best = [f64::MAX; N];
     for _ in 0..15 {
         for (function, least) in work.iter_mut().zip(&mut best) {
             let start = Instant::now();
@@ -52,13 +52,12 @@ impl Order {
         (2_000_000 / self.file.len()).max(5)
     }
 
-    fn verify(&self) -> [f64; 3] {
+    fn verify(&self) -> [f64; 4] {
         let file = self.file.as_slice();
         assert_eq!(tevrolig::verify(file).outcome, tevrolig::Outcome::Accepted);
-        assert_eq!(
-            baseline::verify::verify::<false>(file),
-            tevrolig_model::verify(file)
-        );
+        let verdict = tevrolig_model::verify(file);
+        assert_eq!(baseline::verify::verify::<false>(file), verdict);
+        assert_eq!(baseline::lists::verify(file), verdict);
         least(
             self.calls(),
             [
@@ -70,6 +69,9 @@ impl Order {
                 },
                 &mut || {
                     black_box(baseline::verify::verify::<true>(black_box(file)));
+                },
+                &mut || {
+                    black_box(baseline::lists::verify(black_box(file)));
                 },
             ],
         )
@@ -134,15 +136,28 @@ impl Order {
     }
 }
 
-fn show(what: &str, order: &Order, [proved, plain, tuned]: [f64; 3]) {
+/// A row: the ratios of the first time to each other, the times, and the order.
+fn show(what: &str, order: &Order, times: &[f64]) {
     let words: Vec<String> = order.sheet.iter().map(u32::to_string).collect();
+    let ratio = |i: usize| {
+        times.get(i).map_or("    -".to_string(), |time| {
+            format!("{:5.2}", times[0] / time)
+        })
+    };
+    let time = |i: usize| {
+        times
+            .get(i)
+            .map_or("        -".to_string(), |time| format!("{time:9.1}"))
+    };
     println!(
-        "{:5.2} {:5.2}  {:9.1} {:9.1} {:9.1}  {:6}  {:7}{}",
-        proved / plain,
-        proved / tuned,
-        proved,
-        plain,
-        tuned,
+        "{} {} {}  {} {} {} {}  {:6}  {:7}{}",
+        ratio(1),
+        ratio(2),
+        ratio(3),
+        time(0),
+        time(1),
+        time(2),
+        time(3),
         order.file.len(),
         what,
         words.join(" ")
@@ -151,8 +166,8 @@ fn show(what: &str, order: &Order, [proved, plain, tuned]: [f64; 3]) {
 
 fn main() {
     let folder = std::env::args().nth(1).map(PathBuf::from);
-    println!("ratio to Rust      microseconds a call");
-    println!("plain tuned     proved     plain     tuned   bytes  sheet");
+    println!("ratio to Rust            microseconds a call");
+    println!("plain tuned lists     proved     plain     tuned     lists   bytes  sheet");
     let named = [
         [2, 4096, 2048, 2, 5, 2, 48, 48, 48, 48, 48, 48],
         [2, 4096, 2048, 16, 1, 2, 48, 48, 0, 0, 0, 0],
@@ -163,9 +178,9 @@ fn main() {
     ];
     for sheet in &named {
         let order = Order::new(sheet);
-        show("verify ", &order, order.verify());
-        show("prove  ", &order, order.prove());
-        show("encode ", &order, order.encode());
+        show("verify ", &order, &order.verify());
+        show("prove  ", &order, &order.prove());
+        show("encode ", &order, &order.encode());
     }
 
     // What the pass over the file and its ranges takes: a file whose first out coin lies in its domain is refused right after it.
@@ -177,13 +192,9 @@ fn main() {
     assert_eq!(refused.line(), "refused 7 6157 0");
     let pass = least(
         order.calls(),
-        [
-            &mut || {
-                black_box(tevrolig::verify(black_box(&order.file)));
-            },
-            &mut || (),
-            &mut || (),
-        ],
+        [&mut || {
+            black_box(tevrolig::verify(black_box(&order.file)));
+        }],
     )[0];
     println!(
         "the pass over the largest file, its ranges and its points: {pass:.1} of {whole:.1} microseconds, {:.0} %",
@@ -198,12 +209,15 @@ fn main() {
     let sheets = sheets.chain(by_coins.iter().map(|s| ("tk", s[3] * s[6], s)));
     for (kind, value, sheet) in sheets {
         let order = Order::new(sheet);
-        let mut times = vec![order.verify(), order.prove()];
+        let verify = order.verify();
+        let prove = order.prove();
+        let mut times = vec![(verify[0], verify[1]), (prove[0], prove[1])];
         if kind == "n0" {
-            times.push(order.encode());
+            let encode = order.encode();
+            times.push((encode[0], encode[1]));
         }
-        for (rows, times) in rows.iter_mut().zip(times) {
-            writeln!(rows, "{kind} {value} {:.2} {:.2}", times[0], times[1]).expect("a string");
+        for (rows, (proved, plain)) in rows.iter_mut().zip(times) {
+            writeln!(rows, "{kind} {value} {proved:.2} {plain:.2}").expect("a string");
         }
     }
     for (name, rows) in ["verify", "prove", "encode"].iter().zip(rows) {

@@ -17,6 +17,8 @@ use Rattle.definition.specs.Layout.{limit, message, out, restLayout, roundLayou
 use Rattle.definition.specs.Polynomial.{Sample, distinct, pair, points}
 use Rattle.definition.specs.Sheet.{Level, rootOfUnity, sheetOf}
 use Rattle.algebra.specs.Different.{Apart, Differ}
+use Rattle.algebra.specs.Division.{vanishing-nonzero}
+use Rattle.algebra.specs.Evaluation.{reduce-evaluate}
 use Rattle.algebra.specs.Laws.{FieldLaws}
 use Rattle.algebra.specs.ListFacts.{All, all-append, all-map, all-map₂, all-of-map, everywhere}
 use Rattle.algebra.specs.PrimeField.{laws}
@@ -24,6 +26,7 @@ use Rattle.algebra.specs.RootsOfUnity.{odd-even-differ, power-mul}
 use Rattle.completeness.specs.Divisors as completeness
 use Rattle.completeness.specs.FairCoins.{outside-differs, reduced}
 use Rattle.domain.specs.OutCoins.{firstInside, orElse}
+use Rattle.lists.specs.Correcting.{Correcting}
 use Rattle.polynomial.specs.Pairs.{points-pair}
 use Rattle.samples.specs.SampleLaws.{sifted-some}
 use Rattle.rounds.specs.declared.Function.{Function}
@@ -60,8 +63,8 @@ none-inside field ω l w at (suc count) h e =
 
 -- ---- a round from a place
 
-module _ (w pw xs cs : List ℕ) (st : Stand) (how : Function) (ok : Standing w (length pw) (length xs) (length cs) st how) (more : st .level < getD w 4 0)
-    (s : Served w pw xs cs st how) where
+module _ (w pw ac vg : List ℕ) (st : Stand) (how : Function) (ok : Standing w (length pw) (length ac) (length vg) st how) (more : st .level < getD w 4 0)
+    (s : Served w pw ac vg st how) where
   abbrev field : ℕ
   field = getD w 0 0
 
@@ -127,7 +130,7 @@ module _ (w pw xs cs : List ℕ) (st : Stand) (how : Function) (ok : Standing w 
       all-append _ (outsOf w st) _ (all-map₂ (outsOf w st) out-elements outs-outside (λ x e o. outside-differs F L (s .ω) l x e o m h))
       (all-of-map _ (shiftPoint F (s .ω) b) (shiftsOf w st) (everywhere (shiftsOf w st) (λ j. shift-off m j)))
 
-  module _ (px py : List ℕ) (j : ℕ) (long : length py ≡ length px) (a : Sifted w pw xs cs st how (some (pair (drop j px) (drop j py)))) where
+  module _ (px py : List ℕ) (j : ℕ) (long : length py ≡ length px) (a : Sifted w pw ac vg st how (some (pair (drop j px) (drop j py)))) where
     kept-is : pair (drop j px) (drop j py) ≡ distinct F (answers F (s .ω) b (s .f) (st .fold) (roundOf w st))
     unfolding roundOf
     kept-is = sifted-some field (answers F (s .ω) b (s .f) (st .fold) (roundOf w st)) (pair (drop j px) (drop j py)) (a (s .ω) b (s .f) (roundOf w st) refl refl refl (s .serves)) .1
@@ -141,10 +144,22 @@ module _ (w pw xs cs : List ℕ) (st : Stand) (how : Function) (ok : Standing w 
     samples-apart = subst (Apart F) points-are (completeness.samples-apart F L (s .ω) b (s .f) (st .fold) (roundOf w st) out-elements)
 
     -- quotient: no point of the next domain is one of them
-    pub clear-next : (pc : List ℕ) → Standing w (length pw) (length px) (length pc) (nextStand w st) (nextFunction w st (how .scale) j) →
-        Clear field pw (nextStand w st .size) px (nextFunction w st (how .scale) j)
-    unfolding pointIn levelOf nextFunction roundOf
-    clear-next pc next m h =
+    points-off : (m : ℕ) → m < l .size → All (λ a. Differ F (point F (s .ω) l m) a) (points (pair (drop j px) (drop j py)))
+    unfolding roundOf
+    points-off m h =
         let off = completeness.samples-off F L (s .ω) b (s .f) (st .fold) (roundOf w st) (point F (s .ω) l m) (coins-off m h) in
-        subst (λ (x : ℕ). All (λ a. Differ F x a) (drop j px)) (sym (point-in (s .serves .powers) l (next .scale) m (point-room (next .fits) m h)))
-        (subst (All (λ a. Differ F (point F (s .ω) l m) a)) points-are off)
+        subst (λ (g : List (Sample ℕ)). All (λ a. Differ F (point F (s .ω) l m) a) (points g)) (sym kept-is) off
+
+    pub clear-next : (c words : ℕ) (pa pv : List ℕ) → Standing w (length pw) (length pa) (length pv) (nextStand w st) (nextFunction w st (how .scale) words) →
+        Correcting field (pair (drop j px) (drop j py)) c words pa pv → Clear field pw (nextStand w st .size) pv (nextFunction w st (how .scale) words)
+    unfolding pointIn levelOf nextFunction
+    clear-next c words pa pv next given = record {
+      ω = s .ω;
+      powers = s .serves .powers;
+      nonzero = λ m h some z.
+          let x = getD pw (2 * how .scale * m) 0 in
+          let at : x ≡ point F (s .ω) l m = point-in (s .serves .powers) l (next .scale) m (point-room (next .fits) m h) in
+          vanishing-nonzero F L (points (pair (drop j px) (drop j py))) x
+          (subst (λ (y : ℕ). All (λ a. Differ F y a) (points (pair (drop j px) (drop j py)))) (sym at) (points-off m h))
+          (sym (given .vanish x) ∙ sym (reduce-evaluate F L _ x) ∙ z);
+    }

@@ -7,8 +7,6 @@ use mathlib.Core.List.{List, [], _∷_, zipWith}
 use mathlib.Core.Option.{none}
 use lib.ListN.{length, getD, take, drop, replicate, length-append, length-drop, length-replicate}
 use lib.Seq.{drop-cons, drop-drop, getD-drop}
-use Rattle.algebra.specs.Different.{Differ}
-use Rattle.algebra.specs.ListFacts.{All}
 use Rattle.completeness.specs.SheetRules.{exponents}
 use Rattle.completeness.specs.Tests.{at-passes}
 use Rattle.definition.specs.Deciding.{decide, decideRest, readsOf, tableFunction}
@@ -87,9 +85,9 @@ module _ (w : List ℕ) (passed : sheetTest w ≡ accepted) (due : wordsDue (she
     first-size : getD w 1 0 ≡ 2 ^ (suc (exponents w passed .a) - 0)
     first-size = exponents w passed .size ∙ ap (λ (m : ℕ). 2 ^ m) (sym (sub-zero (suc (exponents w passed .a))))
 
-    first-fits : (from : ℕ) → Fits (getD w 1 0) (getD w 1 0) (firstFunction w from) (getD w 3 0)
+    first-fits : Fits (getD w 1 0) (getD w 1 0) (firstFunction w) (getD w 3 0)
     unfolding firstFunction
-    first-fits from =
+    first-fits =
         let s = shaped in
         let x = exponents w passed in
         record {
@@ -100,6 +98,9 @@ module _ (w : List ℕ) (passed : sheetTest w ≡ accepted) (due : wordsDue (she
           roots = divided w x 0 (getD w 1 0) first-size (omega arith);
           room = omega arith;
           small = s .size;
+          columns = 0;
+          whole = omega arith;
+          used = omega arith;
         }
 
     pub placed-first : Placed w (firstStand w)
@@ -113,48 +114,47 @@ module _ (w : List ℕ) (passed : sheetTest w ≡ accepted) (due : wordsDue (she
       reads = omega arith;
     }
 
-    pub standing-first : (points samples coefficients from : ℕ) → points ≡ getD w 1 0 → from ≤ samples → samples ≤ coefficients →
-        Standing w points samples coefficients (firstStand w) (firstFunction w from)
+    pub standing-first : (points answers factors : ℕ) → points ≡ getD w 1 0 → answers ≡ 66 → factors ≡ 132 → Standing w points answers factors (firstStand w) (firstFunction w)
     unfolding firstStand firstFunction
-    standing-first points samples coefficients from e h g = record {
+    standing-first points answers factors e h g = record {
       place = placed-first;
       exponents = exponents w passed;
       size = first-size;
-      fits = subst (λ (n : ℕ). Fits n (getD w 1 0) (firstFunction w from) (getD w 3 0)) (sym e) (first-fits from);
-      from = h;
-      enough = g;
+      fits = subst (λ (n : ℕ). Fits n (getD w 1 0) (firstFunction w) (getD w 3 0)) (sym e) first-fits;
+      in-answers = h;
+      in-factors = g;
       scale = refl;
       step = refl;
     }
 
-  first-serves : (pw xs cs : List ℕ) (from : ℕ) → Powers (getD w 0 0) (rootOfUnity (sheetOf w)) pw → drop from xs ≡ [] →
+  first-serves : (pw ac vg : List ℕ) → Powers (getD w 0 0) (rootOfUnity (sheetOf w)) pw →
       Serves (getD w 0 0) (rootOfUnity (sheetOf w)) (levelOf w (firstStand w))
-      (tableFunction (fieldOf (getD w 0 0)) (rootOfUnity (sheetOf w)) (levelOf w (firstStand w)) (tableOf w (firstStand w)) .value) pw (tableOf w (firstStand w)) xs cs (firstFunction w from) (getD w 3 0)
+      (tableFunction (fieldOf (getD w 0 0)) (rootOfUnity (sheetOf w)) (levelOf w (firstStand w)) (tableOf w (firstStand w)) .value) pw (tableOf w (firstStand w)) ac vg (firstFunction w) (getD w 3 0)
   unfolding firstFunction firstStand levelOf shiftCount
-  first-serves pw xs cs from p e =
-      serves-first (getD w 0 0) (rootOfUnity (sheetOf w)) (levelOf w (firstStand w)) pw (tableOf w (firstStand w)) xs cs (firstFunction w from) (getD w 3 0) p refl refl refl e
+  first-serves pw ac vg p =
+      serves-first (getD w 0 0) (rootOfUnity (sheetOf w)) (levelOf w (firstStand w)) pw (tableOf w (firstStand w)) ac vg (firstFunction w) (getD w 3 0) p refl refl refl refl
 
-  pub served-first : (pw xs cs : List ℕ) (from : ℕ) → Powers (getD w 0 0) (rootOfUnity (sheetOf w)) pw → drop from xs ≡ [] → outsFrom w (firstStand w) ≡ none →
-      Served w pw xs cs (firstStand w) (firstFunction w from)
+  pub served-first : (pw ac vg : List ℕ) → Powers (getD w 0 0) (rootOfUnity (sheetOf w)) pw → outsFrom w (firstStand w) ≡ none →
+      Served w pw ac vg (firstStand w) (firstFunction w)
   unfolding firstFunction
-  served-first pw xs cs from p e outside = record {
+  served-first pw ac vg p outside = record {
     ω = _;
     f = _;
-    serves = first-serves pw xs cs from p e;
+    serves = first-serves pw ac vg p;
     root = refl;
-    clear = λ m l. subst (λ (t : List ℕ). All (λ a. Differ (fieldOf (getD w 0 0)) (getD pw (1 * m) 0) a) t) (sym e) tt;
+    clear = record { ω = _; powers = p; nonzero = λ m l some. absurd (omega arith) };
     outside = outside;
   }
 
   -- the definition's deciding is that from the first place on
-  pub first-step : (pw xs cs : List ℕ) (from : ℕ) {v : Verdict} → Powers (getD w 0 0) (rootOfUnity (sheetOf w)) pw → drop from xs ≡ [] →
-      Decided w pw xs cs (firstStand w) (firstFunction w from) v →
+  pub first-step : (pw ac vg : List ℕ) {v : Verdict} → Powers (getD w 0 0) (rootOfUnity (sheetOf w)) pw →
+      Decided w pw ac vg (firstStand w) (firstFunction w) v →
       v ≡ decide (primeField (sheetOf w .prime)) (rootOfUnity (sheetOf w)) (firstLevel (sheetOf w)) (readTranscript (sheetOf w) (drop 12 w))
   unfolding decide readTranscript sheetOf fieldOf tableFunction restOf firstStand tableOf readsOf
-  first-step pw xs cs from p e d =
+  first-step pw ac vg p d =
       let ω = rootOfUnity (sheetOf w) in
       let F = fieldOf (getD w 0 0) in
       let n = getD w 1 0 in
-      d ω _ [] (first-serves pw xs cs from p e) refl
+      d ω _ [] (first-serves pw ac vg p) refl
       ∙ (λ i. decideRest F ω (sym first-level i) (tableFunction F ω (sym first-level i) (take n (drop 12 w))) (sym first-fold i) []
       (readRest (getD w 5 0) (sym first-level i) (sym later-levels i) (sym first-words i)))

@@ -15,6 +15,7 @@ use Rattle.completeness.specs.SheetRules.{Exponents}
 use Rattle.definition.specs.Field.{primeOf}
 use Rattle.definition.specs.Layout.{coin, index, laterCount, limit, message, out, restLayout, roundLayout}
 use Rattle.definition.specs.Sheet.{Level, finalCount, shiftCount}
+use Rattle.lists.specs.Correcting.{Columned}
 use Rattle.rounds.specs.declared.Function.{Function}
 use Rattle.rounds.specs.Round.{Below, Fits}
 use Rattle.deciding.specs.declared.Stand.{Stand}
@@ -171,9 +172,9 @@ module _ (w : List ℕ) (x : Exponents w) (level n : ℕ) (size : n ≡ 2 ^ (suc
       (omega arith, omega arith)
 
 -- the next level's points are in the table of points
-next-fits : (points n k from c : ℕ) (how : Function) → Fits points n how k → 2 * (n / 2) ≡ n → k * (n / 2 / k) ≡ n / 2 →
-    Fits points (n / 2) (record { scale = 2 * how .scale; step = n / 2 / k; from = from; coin = c }) k
-next-fits points n k from c how f even whole = record {
+next-fits : (points n k words : ℕ) (how : Function) → Fits points n how k → 2 * (n / 2) ≡ n → k * (n / 2 / k) ≡ n / 2 → Columned k words →
+    Fits points (n / 2) (record { scale = 2 * how .scale; step = n / 2 / k; words = words }) k
+next-fits points n k words how f even whole few = record {
   log = f .log;
   two = f .two;
   few = f .few;
@@ -181,6 +182,9 @@ next-fits points n k from c how f even whole = record {
   roots = whole;
   room = go (how .scale) (f .room);
   small = f .small;
+  columns = few .1 .1 .0;
+  whole = few .1 .1 .1;
+  used = few .1 .0;
 }
   where
     go : (s : ℕ) → s * n ≡ points → 2 * s * (n / 2) ≡ points
@@ -203,20 +207,20 @@ placed-next w st ok more =
       reads = omega (arith, ok .reads, r .fewer);
     }
 
-pub standing-next : (w : List ℕ) {points samples coefficients : ℕ} (st : Stand) (how : Function) → Standing w points samples coefficients st how →
-    st .level < getD w 4 0 → (samples′ coefficients′ j : ℕ) → j ≤ samples′ → samples′ ≤ coefficients′ →
-    Standing w points samples′ coefficients′ (nextStand w st) (nextFunction w st (how .scale) j)
+pub standing-next : (w : List ℕ) {points answers factors : ℕ} (st : Stand) (how : Function) → Standing w points answers factors st how →
+    st .level < getD w 4 0 → (answers′ factors′ words : ℕ) → answers′ ≡ 66 → factors′ ≡ 132 → Columned (getD w 3 0) words →
+    Standing w points answers′ factors′ (nextStand w st) (nextFunction w st (how .scale) words)
 unfolding nextStand nextFunction
-standing-next w st how ok more samples′ coefficients′ j hj hc =
+standing-next w st how ok more answers′ factors′ words ha hf few =
     let x = ok .exponents in
     let half = halved w x (st .level) (st .size) (ok .size) more in
     record {
       place = placed-next w st (ok .place) more;
       exponents = x;
       size = half .1;
-      fits = next-fits _ (st .size) (getD w 3 0) j _ how (ok .fits) (half .0) (divided w x (st .level + 1) (st .size / 2) (half .1) (omega arith));
-      from = hj;
-      enough = hc;
+      fits = next-fits _ (st .size) (getD w 3 0) words how (ok .fits) (half .0) (divided w x (st .level + 1) (st .size / 2) (half .1) (omega arith)) few;
+      in-answers = ha;
+      in-factors = hf;
       scale = scale-next (how .scale) (st .level) (ok .scale);
       step = refl;
     }

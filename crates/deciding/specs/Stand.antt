@@ -52,9 +52,9 @@ nextStand w st = record {
   reads = st .reads + repetitionsOf w st * getD w 3 0;
 }
 
--- how the next level's function is worked out, where this level's has the scale, with the round's samples from number `from` on
+-- how the next level's function is worked out, where this level's has the scale, with so many words of coefficients
 unfoldable pub nextFunction : List ℕ → Stand → ℕ → ℕ → Function
-nextFunction w st scale from = record { scale = 2 * scale; step = nextSize st / getD w 3 0; from = from; coin = getD w (coinsAt w st) 0 }
+nextFunction w st scale words = record { scale = 2 * scale; step = nextSize st / getD w 3 0; words = words }
 
 -- the first place: at level 0, after fold coin 0
 unfoldable pub firstStand : List ℕ → Stand
@@ -68,9 +68,9 @@ firstStand w = record {
   reads = 0;
 }
 
--- how table 0 is read: with no samples, which a number `from` past the last says
-unfoldable pub firstFunction : List ℕ → ℕ → Function
-firstFunction w from = record { scale = 1; step = getD w 1 0 / getD w 3 0; from = from; coin = 0 }
+-- how table 0 is read: with no samples and so no coefficients
+unfoldable pub firstFunction : List ℕ → Function
+firstFunction w = record { scale = 1; step = getD w 1 0 / getD w 3 0; words = 0 }
 
 -- the level's table
 unfoldable pub tableOf : List ℕ → Stand → List ℕ

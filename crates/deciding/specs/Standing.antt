@@ -51,38 +51,38 @@ pub record RoundInside (w : List ℕ) (st : Stand) : Type 0 where
   pub reads : st .reads ≤ 8192
 
 -- At a place with a way to work out the level's function: the roots of shift points and their points are in the tables, whose sizes are powers of two. The
--- numbers are those of points, samples and coefficients lent.
-pub record Standing (w : List ℕ) (points samples coefficients : ℕ) (st : Stand) (how : Function) : Type 0 where
+-- numbers are those of points, of coefficients of A, and of V and the geometric sum.
+pub record Standing (w : List ℕ) (points answers factors : ℕ) (st : Stand) (how : Function) : Type 0 where
   pub place : Placed w st
   pub exponents : Exponents w
   pub size : st .size ≡ 2 ^ (suc (exponents .a) - st .level)
   pub fits : Fits points (st .size) how (getD w 3 0)
-  pub from : how .from ≤ samples
-  pub enough : samples ≤ coefficients
+  pub in-answers : answers ≡ 66
+  pub in-factors : factors ≡ 132
   pub scale : how .scale ≡ 2 ^ st .level
   pub step : how .step ≡ st .size / getD w 3 0
 
--- The words in hand are those of some function at the level, for the sheet's ω. No point of the level's domain is the point of a sample, and no out coin still to
--- come lies in its domain, so that nothing is divided by 0.
-pub record Served (w pw xs cs : List ℕ) (st : Stand) (how : Function) : Type 0 where
+-- The words in hand are those of some function at the level, for the sheet's ω. At no point of the level's domain is V 0, and no out coin still to come
+-- lies in its domain, so that nothing is divided by 0.
+pub record Served (w pw ac vg : List ℕ) (st : Stand) (how : Function) : Type 0 where
   pub ω : ℕ
   pub f : ℕ → ℕ
-  pub serves : Serves (getD w 0 0) ω (levelOf w st) f pw (tableOf w st) xs cs how (getD w 3 0)
+  pub serves : Serves (getD w 0 0) ω (levelOf w st) f pw (tableOf w st) ac vg how (getD w 3 0)
   pub root : ω ≡ rootOfUnity (sheetOf w)
-  pub clear : Clear (getD w 0 0) pw (st .size) xs how
+  pub clear : Clear (getD w 0 0) pw (st .size) vg how
   pub outside : outsFrom w st ≡ none
 
 -- v is the definition's verdict from the place on, for every ω and function that the words in hand are those of, and all places read with as many reads
 abbrev pub Decided : List ℕ → List ℕ → List ℕ → List ℕ → Stand → Function → Verdict → Type 0
-Decided w pw xs cs st how v =
-    (ω : ℕ) (f : ℕ → ℕ) (used : List Place) → Serves (getD w 0 0) ω (levelOf w st) f pw (tableOf w st) xs cs how (getD w 3 0) → st .reads ≡ readsOf used →
+Decided w pw ac vg st how v =
+    (ω : ℕ) (f : ℕ → ℕ) (used : List Place) → Serves (getD w 0 0) ω (levelOf w st) f pw (tableOf w st) ac vg how (getD w 3 0) → st .reads ≡ readsOf used →
     v ≡ decideRest (fieldOf (getD w 0 0)) ω (levelOf w st) (record { value = f; places = ownPlace (levelOf w st) }) (st .fold) used (restOf w st)
 
 -- g is G of the next round, for every ω and function that the words in hand are those of
 abbrev pub Sifted : List ℕ → List ℕ → List ℕ → List ℕ → Stand → Function → Option (List (Sample ℕ)) → Type 0
-Sifted w pw xs cs st how g =
-    Answered (getD w 0 0) pw (tableOf w st) xs cs how (getD w 3 0) (st .fold) (shiftsOf w st) (outsOf w st) (repliesOf w st) g
+Sifted w pw ac vg st how g =
+    Answered (getD w 0 0) pw (tableOf w st) ac vg how (getD w 3 0) (st .fold) (shiftsOf w st) (outsOf w st) (repliesOf w st) g
 
 -- v is the place of the first final index at which the final polynomial differs, for every ω and function that the words in hand are those of
 abbrev pub Differing : List ℕ → List ℕ → List ℕ → List ℕ → Stand → Function → Option ℕ → Type 0
-Differing w pw xs cs st how v = Compared (getD w 0 0) pw (tableOf w st) xs cs how (getD w 3 0) (st .fold) (coefficientsOf w st) (finalsOf w st) v
+Differing w pw ac vg st how v = Compared (getD w 0 0) pw (tableOf w st) ac vg how (getD w 3 0) (st .fold) (coefficientsOf w st) (finalsOf w st) v

@@ -18,17 +18,17 @@ use Rattle.definition.specs.Sheet.{Level, shiftCount}
 use Rattle.definition.specs.Transcript.{Rest, Round, round}
 use Rattle.definition.specs.Verdict.{Verdict, accepted, refuseAt, refused}
 use Rattle.domain.specs.OutCoins.{first-below}
-use Rattle.polynomial.specs.Newton.{newton}
+use Rattle.lists.specs.Correcting.{Correcting}
 use Rattle.samples.specs.SampleLaws.{sifted-none, sifted-some}
 use Rattle.rounds.specs.declared.Function as how
-use Rattle.rounds.specs.NextRound.{answers-some, sampled, serves-next}
+use Rattle.rounds.specs.NextRound.{serves-next}
 use Rattle.rounds.specs.Reads.{reads-add, reads-all, reads-are, reads-until}
 use Rattle.rounds.specs.Round.{Fits}
 use Rattle.rounds.specs.RoundLaws.{Serves}
 use Rattle.deciding.specs.declared.Stand.{Stand}
 use Rattle.deciding.specs.Divisors.{clear-next, outside-next}
 use Rattle.deciding.specs.Inside.{final-inside, round-inside}
-use Rattle.deciding.specs.Stand.{coefficientsOf, finalsOf, levelOf, nextFunction, nextStand, outsOf, repetitionsOf, repliesOf, restOf, roundOf, shiftsOf, tableOf}
+use Rattle.deciding.specs.Stand.{coefficientsOf, coinsAt, finalsOf, levelOf, nextFunction, nextStand, outsOf, repetitionsOf, repliesOf, restOf, roundOf, shiftsOf, tableOf}
 use Rattle.deciding.specs.Standing.{Decided, Differing, Served, Sifted, Standing}
 use Rattle.deciding.specs.Words.{rest-end, rest-next}
 
@@ -58,7 +58,7 @@ part-length w at n h = length-take-le n (drop at w) (rw length-drop (omega arith
 
 -- ---- a round from a place
 
-module _ (w pw xs cs : List ℕ) (st : Stand) (how : how.Function) (ok : Standing w (length pw) (length xs) (length cs) st how) (more : st .level < getD w 4 0) where
+module _ (w pw ac vg : List ℕ) (st : Stand) (how : how.Function) (ok : Standing w (length pw) (length ac) (length vg) st how) (more : st .level < getD w 4 0) where
   shifts-length : length (shiftsOf w st) ≡ repetitionsOf w st
   unfolding shiftsOf
   shifts-length = part-length w _ (repetitionsOf w st) (round-inside w st (ok .place) more .there)
@@ -68,17 +68,7 @@ module _ (w pw xs cs : List ℕ) (st : Stand) (how : how.Function) (ok : Standin
   reads-next used e =
       sym (reads-add used _ ∙ (λ i. sym e i + (reads-are (levelOf w st) (levelOf w st) (shiftsOf w st) ∙ ap (λ (n : ℕ). n * getD w 3 0) shifts-length) i))
 
-  outs-some : 0 < length (roundOf w st .coins .outs)
-  unfolding roundOf outsOf
-  outs-some = omega (arith, ok .place .sheet .out, part-length w (st .at + st .size / 2) (getD w 5 0) (omega (arith, round-inside w st (ok .place) more .there)))
-
-  replies-long : length (roundOf w st .replies) ≡ length (roundOf w st .coins .outs)
-  unfolding roundOf outsOf repliesOf
-  replies-long =
-      let r = round-inside w st (ok .place) more .there in
-      part-length w (st .at + st .size / 2 + getD w 5 0) (getD w 5 0) (omega arith) ∙ sym (part-length w (st .at + st .size / 2) (getD w 5 0) (omega arith))
-
-  pub clash-step : Sifted w pw xs cs st how none → Decided w pw xs cs st how (record { outcome = refused 8 (nextStand w st .level); reads = nextStand w st .reads })
+  pub clash-step : Sifted w pw ac vg st how none → Decided w pw ac vg st how (record { outcome = refused 8 (nextStand w st .level); reads = nextStand w st .reads })
   unfolding roundOf levelOf
   clash-step a = λ ω f used sv e.
       let field = getD w 0 0 in
@@ -91,65 +81,65 @@ module _ (w pw xs cs : List ℕ) (st : Stand) (how : how.Function) (ok : Standin
       ∙ round-clash F ω b fn (st .fold) used ρ (restOf w (nextStand w st)) c
       ∙ (λ i. record { outcome = refused 8 (nextStand w st .level); reads = sym (reads-next used e) i }))
 
-  serves-after : (px py pc : List ℕ) (j ω : ℕ) (f : ℕ → ℕ) → Standing w (length pw) (length px) (length pc) (nextStand w st) (nextFunction w st (how .scale) j) →
-      length py ≡ length px → Sifted w pw xs cs st how (some (pair (drop j px) (drop j py))) → drop j pc ≡ newton (fieldOf (getD w 0 0)) (drop j px) (drop j py) →
-      Serves (getD w 0 0) ω (levelOf w st) f pw (tableOf w st) xs cs how (getD w 3 0) →
+  serves-after : (px py pa pv : List ℕ) (j words ω : ℕ) (f : ℕ → ℕ) → Standing w (length pw) (length pa) (length pv) (nextStand w st) (nextFunction w st (how .scale) words) →
+      Sifted w pw ac vg st how (some (pair (drop j px) (drop j py))) → 0 < words →
+      Correcting (getD w 0 0) (pair (drop j px) (drop j py)) (getD w (coinsAt w st) 0) words pa pv →
+      Serves (getD w 0 0) ω (levelOf w st) f pw (tableOf w st) ac vg how (getD w 3 0) →
       Serves (getD w 0 0) ω (levelOf w (nextStand w st))
       (definition.nextFunction (fieldOf (getD w 0 0)) ω (distinct (fieldOf (getD w 0 0)) (answers (fieldOf (getD w 0 0)) ω (levelOf w st) f (st .fold) (roundOf w st))) (roundOf w st) .value)
-      pw (tableOf w (nextStand w st)) px pc (nextFunction w st (how .scale) j) (getD w 3 0)
+      pw (tableOf w (nextStand w st)) pa pv (nextFunction w st (how .scale) words) (getD w 3 0)
   unfolding roundOf levelOf nextStand nextFunction tableOf shiftCount
-  serves-after px py pc j ω f next long a newtons sv =
+  serves-after px py pa pv j words ω f next a more-words given sv =
       let field = getD w 0 0 in
       let F = fieldOf field in
       let b = levelOf w st in
       let ρ = roundOf w st in
       let e = a ω b f ρ refl refl refl sv in
-      let g = sampled field (answers F ω b f (st .fold) ρ) px py pc j (answers-some F ω b f (st .fold) ρ outs-some replies-long) long e newtons in
+      let g = sifted-some field (answers F ω b f (st .fold) ρ) (pair (drop j px) (drop j py)) e .1 in
       let there = round-inside w st (ok .place) more .there in
       let n = part-length w (st .at) (st .size / 2) (omega arith) in
-      serves-next field ω ρ pw px py pc (nextFunction w st (how .scale) j) g (sv .powers) (next .scale) refl (getD w 3 0) refl refl
-      (subst (λ (m : ℕ). Fits (length pw) m (nextFunction w st (how .scale) j) (getD w 3 0)) (sym n) (next .fits))
+      serves-next field ω ρ pw pa pv (nextFunction w st (how .scale) words) more-words (subst (λ (t : List (Sample ℕ)). Correcting field t (getD w (coinsAt w st) 0) words pa pv) g given)
+      (sv .powers) (next .scale) (getD w 3 0) refl refl (subst (λ (m : ℕ). Fits (length pw) m (nextFunction w st (how .scale) words) (getD w 3 0)) (sym n) (next .fits))
 
-  pub served-next : (px py pc : List ℕ) (j : ℕ) → Standing w (length pw) (length px) (length pc) (nextStand w st) (nextFunction w st (how .scale) j) →
-      length py ≡ length px → Sifted w pw xs cs st how (some (pair (drop j px) (drop j py))) → drop j pc ≡ newton (fieldOf (getD w 0 0)) (drop j px) (drop j py) →
-      Served w pw xs cs st how → Served w pw px pc (nextStand w st) (nextFunction w st (how .scale) j)
-  served-next px py pc j next long a newtons s = record {
-    ω = s .ω;
-    f = _;
-    serves = serves-after px py pc j (s .ω) (s .f) next long a newtons (s .serves);
-    root = s .root;
-    clear = clear-next w pw xs cs st how ok more s px py j long a pc next;
-    outside = outside-next w pw xs cs st how ok more s;
-  }
+  module _ (px py pa pv : List ℕ) (j words : ℕ) (next : Standing w (length pw) (length pa) (length pv) (nextStand w st) (nextFunction w st (how .scale) words))
+      (a : Sifted w pw ac vg st how (some (pair (drop j px) (drop j py)))) (more-words : 0 < words)
+      (given : Correcting (getD w 0 0) (pair (drop j px) (drop j py)) (getD w (coinsAt w st) 0) words pa pv) where
+    pub served-next : length py ≡ length px → Served w pw ac vg st how → Served w pw pa pv (nextStand w st) (nextFunction w st (how .scale) words)
+    served-next long s = record {
+      ω = s .ω;
+      f = _;
+      serves = serves-after px py pa pv j words (s .ω) (s .f) next a more-words given (s .serves);
+      root = s .root;
+      clear = clear-next w pw ac vg st how ok more s px py j long a _ words pa pv next given;
+      outside = outside-next w pw ac vg st how ok more s;
+    }
 
-  pub next-step : (px py pc : List ℕ) (j : ℕ) {v : Verdict} → Standing w (length pw) (length px) (length pc) (nextStand w st) (nextFunction w st (how .scale) j) →
-      length py ≡ length px → Sifted w pw xs cs st how (some (pair (drop j px) (drop j py))) → drop j pc ≡ newton (fieldOf (getD w 0 0)) (drop j px) (drop j py) →
-      Decided w pw px pc (nextStand w st) (nextFunction w st (how .scale) j) v → Decided w pw xs cs st how v
-  unfolding roundOf levelOf nextStand
-  next-step px py pc j next long a newtons d = λ ω f used sv e.
-      let field = getD w 0 0 in
-      let F = fieldOf field in
-      let b = levelOf w st in
-      let ρ = roundOf w st in
-      let fn : Function ℕ = record { value = f; places = ownPlace b } in
-      let g = distinct F (answers F ω b f (st .fold) ρ) in
-      let now = used ++ placesOf b (ownPlace b) (shiftsOf w st) in
-      let c = sifted-some field (answers F ω b f (st .fold) ρ) (pair (drop j px) (drop j py)) (a ω b f ρ refl refl refl sv) in
-      d ω (definition.nextFunction F ω g ρ .value) now (serves-after px py pc j ω f next long a newtons sv) (reads-next used e)
-      ∙ ap (λ (h : Function ℕ). decideRest F ω (levelOf w (nextStand w st)) h (nextStand w st .fold) now (restOf w (nextStand w st))) (next-places F ω g ρ)
-      ∙ sym (ap (decideRest F ω b fn (st .fold) used) (rest-next w st (ok .place .sheet .long) (ok .place .sheet .rounds) more)
-      ∙ round-on F ω b fn (st .fold) used ρ (restOf w (nextStand w st)) (c .0))
+    pub next-step : {v : Verdict} → Decided w pw pa pv (nextStand w st) (nextFunction w st (how .scale) words) v → Decided w pw ac vg st how v
+    unfolding roundOf levelOf nextStand
+    next-step d = λ ω f used sv e.
+        let field = getD w 0 0 in
+        let F = fieldOf field in
+        let b = levelOf w st in
+        let ρ = roundOf w st in
+        let fn : Function ℕ = record { value = f; places = ownPlace b } in
+        let g = distinct F (answers F ω b f (st .fold) ρ) in
+        let now = used ++ placesOf b (ownPlace b) (shiftsOf w st) in
+        let c = sifted-some field (answers F ω b f (st .fold) ρ) (pair (drop j px) (drop j py)) (a ω b f ρ refl refl refl sv) in
+        d ω (definition.nextFunction F ω g ρ .value) now (serves-after px py pa pv j words ω f next a more-words given sv) (reads-next used e)
+        ∙ ap (λ (h : Function ℕ). decideRest F ω (levelOf w (nextStand w st)) h (nextStand w st .fold) now (restOf w (nextStand w st))) (next-places F ω g ρ)
+        ∙ sym (ap (decideRest F ω b fn (st .fold) used) (rest-next w st (ok .place .sheet .long) (ok .place .sheet .rounds) more)
+        ∙ round-on F ω b fn (st .fold) used ρ (restOf w (nextStand w st)) (c .0))
 
 -- ---- the final comparison from a place
 
-module _ (w pw xs cs : List ℕ) (st : Stand) (how : how.Function) (ok : Standing w (length pw) (length xs) (length cs) st how) (end : st .level ≡ getD w 4 0) where
+module _ (w pw ac vg : List ℕ) (st : Stand) (how : how.Function) (ok : Standing w (length pw) (length ac) (length vg) st how) (end : st .level ≡ getD w 4 0) where
   finals-length : length (finalsOf w st) ≡ repetitionsOf w st
   unfolding finalsOf
   finals-length = part-length w _ (repetitionsOf w st) (final-inside w st (ok .place) end .there)
 
   -- the place of a difference is that of a final index
-  pub place-few : (place : ℕ) → Differing w pw xs cs st how (some place) →
-      Served w pw xs cs st how → place < 48
+  pub place-few : (place : ℕ) → Differing w pw ac vg st how (some place) →
+      Served w pw ac vg st how → place < 48
   unfolding differences
   place-few place a s =
       let F = fieldOf (getD w 0 0) in
@@ -164,8 +154,8 @@ module _ (w pw xs cs : List ℕ) (st : Stand) (how : how.Function) (ok : Standin
       )
 
   -- the reads of the final comparison are k for each index treated
-  pub same-step : Differing w pw xs cs st how none →
-      Decided w pw xs cs st how (record { outcome = accepted; reads = st .reads + repetitionsOf w st * getD w 3 0 })
+  pub same-step : Differing w pw ac vg st how none →
+      Decided w pw ac vg st how (record { outcome = accepted; reads = st .reads + repetitionsOf w st * getD w 3 0 })
   unfolding decideRest decideFinal levelOf refuseAt
   same-step a = λ ω f used sv e.
       let F = fieldOf (getD w 0 0) in
@@ -180,8 +170,8 @@ module _ (w pw xs cs : List ℕ) (st : Stand) (how : how.Function) (ok : Standin
       ∙ (λ i. record { outcome = refuseAt 9 (sym z i); reads = readsOf (used ++ placesOf b (ownPlace b) (treated js (sym z i))) })
       ∙ (λ i. record { outcome = accepted; reads = reads i }))
 
-  pub differ-step : (place : ℕ) → Differing w pw xs cs st how (some place) →
-      Decided w pw xs cs st how (record { outcome = refused 9 place; reads = st .reads + (place + 1) * getD w 3 0 })
+  pub differ-step : (place : ℕ) → Differing w pw ac vg st how (some place) →
+      Decided w pw ac vg st how (record { outcome = refused 9 place; reads = st .reads + (place + 1) * getD w 3 0 })
   unfolding decideRest decideFinal levelOf refuseAt
   differ-step place a = λ ω f used sv e.
       let F = fieldOf (getD w 0 0) in

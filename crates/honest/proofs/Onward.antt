@@ -8,9 +8,9 @@ use mathlib.Core.Path.{_≡_, sym, ap, _∙_, subst}
 use lib.ListN.{length, getD, take, drop, length-drop}
 use lib.Seq.{take-all}
 use Rattle.completeness.specs.Numbered.{levelOf, outsOf, roundsOf}
-use Rattle.honest_round.specs.Levels.{count-more, count-none, dealt-more, dealt-none, rest-more, rest-none}
-use Rattle.honest_round.specs.Sizes.{next-size, next-standing, one-fold, sizes}
-use Rattle.honest_round.specs.Standing.{DealtFrom, RestAfter, RoundDealt, Standing, correctedFrom, foldFrom, repetitionsOf, restCount, restFrom, roundCount, roundFrom}
+use Rattle.honest_words.specs.Levels.{count-more, count-none, dealt-more, dealt-none, rest-more, rest-none}
+use Rattle.honest_words.specs.Sizes.{next-size, next-standing, one-fold, sizes}
+use Rattle.honest_words.specs.Standing.{DealtFrom, RestAfter, RoundDealt, Standing, correctedFrom, foldFrom, repetitionsOf, restCount, restFrom, roundCount, roundFrom}
 
 pub not-last : (i m : ℕ) → i ≤ m → (i ≡ m → ⊥) → i < m
 not-last i m h e = omega arith

@@ -19,7 +19,7 @@ use Rattle.completeness.specs.SheetLevels.{enough-words}
 use Rattle.domain.specs.Powers.{Powers}
 use Rattle.sheet.specs.Bounds.{ranges}
 use Rattle.sheet.specs.Sizes.{coins-due-sum}
-use Rattle.honest_round.specs.Standing.{DealtFrom, Standing, fieldAt, levelsAfter, restCount, restFrom, rootAt, wordsFrom}
+use Rattle.honest_words.specs.Standing.{DealtFrom, Standing, fieldAt, levelsAfter, restCount, restFrom, rootAt, wordsFrom}
 
 module _ {w f coins : List ℕ} (ok : Allowed w f coins) where
   pub first-standing : (pw : List ℕ) → Powers (getD w 0 0) (rootAt w) pw → length pw ≡ getD w 1 0 → Standing w pw 0 1 (length f)

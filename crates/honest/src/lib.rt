@@ -1,6 +1,6 @@
 // The honest prover's words, from level to level as the definition goes. Each function is lent exactly the places of the words that it writes, so that its
 // promise is one equation, and the coins still to come. pw is the table of the points of domain 0: point j of level i stands at scale·j in it, where scale
-// is 2^i. Two polynomials have places that are lent from above: g, the fold of a level's polynomial, and next, the polynomial of the next level.
+// is 2^i. g has places for the fold of each level's polynomial, one after the other.
 ghost use mathlib.Core.Path.{_≡_};
 ghost use mathlib.Core.List.{_++_};
 ghost use Prim.Native.Nat.{_+_, _*_, _/_, _≤_, _<_};
@@ -10,7 +10,7 @@ ghost use Rattle.definition.specs.Prover.{honestStream};
 ghost use Rattle.definition.specs.Sheet.{rootOfUnity, sheetOf};
 ghost use Rattle.completeness.specs.Numbered.{Allowed};
 ghost use Rattle.domain.specs.Powers.{Powers};
-ghost use Rattle.honest_round.specs.Standing.{DealtFrom, RestAfter, Standing, openingFrom, restCount, wordsFrom};
+ghost use Rattle.honest_words.specs.Standing.{DealtFrom, RestAfter, Standing, openingFrom, restCount, wordsFrom};
 
 // The number of coins of the round after a level: the out coins, the combination coin, the fold coin and the shift indices.
 fn round_coins(w: &[u32], level: usize) -> usize
@@ -35,12 +35,12 @@ fn finals(g: &[u32], coins: &[u32], out: &mut [u32])
     ensures { λ _. ⌜ now (out .exit) ≡ now (g .entry) ++ now (coins .entry) ⌝ }
 {
     let d = g.len();
-    honest_round::copy(g, &mut out[..d]);
-    honest_round::copy(coins, &mut out[d..]);
+    honest_words::copy(g, &mut out[..d]);
+    honest_words::copy(coins, &mut out[d..]);
 }
 
 // All words after the fold coin of a level whose polynomial's fold, of d coefficients, stands at the front of g: a round and the words after its fold coin,
-// or the final ones. What g and next hold afterwards is of no use.
+// or the final ones. What g holds afterwards is of no use.
 fn rest(
     w: &[u32],
     pw: &[u32],
@@ -49,10 +49,9 @@ fn rest(
     d: usize,
     coins: &[u32],
     g: &mut [u32],
-    next: &mut [u32],
     out: &mut [u32],
 )
-    requires { ⌜ (Standing (now w) (now pw) level scale (getD (now w) 3 0 * d)) × ((d ≤ length (now g)) × (d ≤ length (now next))) ⌝ }
+    requires { ⌜ (Standing (now w) (now pw) level scale (getD (now w) 3 0 * d)) × (d ≤ length (now g)) ⌝ }
     requires { ⌜ (DealtFrom (now w) level (now coins)) × (length (now out) ≡ restCount (now w) level) ⌝ }
     ensures { λ _. ⌜ RestAfter (now (w .entry)) level (take d (now (g .entry))) (now (coins .entry)) (now (out .exit)) ⌝ }
 {
@@ -71,7 +70,6 @@ fn rest(
             folded,
             coins,
             g,
-            next,
             &mut out[..written],
         );
         rest(
@@ -82,23 +80,14 @@ fn rest(
             folded,
             &coins[used..],
             g,
-            next,
             &mut out[written..],
         );
     }
 }
 
-// The words after table 0: fold coin 0, and those after it. There are places for the fold of f in g, and as many in next.
-fn after_first(
-    w: &[u32],
-    pw: &[u32],
-    f: &[u32],
-    coins: &[u32],
-    g: &mut [u32],
-    next: &mut [u32],
-    out: &mut [u32],
-)
-    requires { ⌜ (Standing (now w) (now pw) 0 1 (length (now f))) × ((length (now f) ≤ 2 * length (now g)) × (length (now g) ≤ length (now next))) ⌝ }
+// The words after table 0: fold coin 0, and those after it. There are places for the fold of f in g.
+fn after_first(w: &[u32], pw: &[u32], f: &[u32], coins: &[u32], g: &mut [u32], out: &mut [u32])
+    requires { ⌜ (Standing (now w) (now pw) 0 1 (length (now f))) × (length (now f) ≤ 2 * length (now g)) ⌝ }
     requires { ⌜ (0 < length (now coins)) × ((DealtFrom (now w) 0 (drop 1 (now coins))) × (length (now out) ≡ 1 + restCount (now w) 0)) ⌝ }
     ensures { λ _. ⌜ now (out .exit) ≡ openingFrom (now (w .entry)) (now (f .entry)) (now (coins .entry)) ⌝ }
 {
@@ -106,59 +95,29 @@ fn after_first(
     let d = honest_round::fold_length(w, f.len());
     honest_round::fold(w, r, f, &mut g[..d]);
     out[0] = r;
-    rest(w, pw, 0, 1, d, &coins[1..], g, next, &mut out[1..]);
+    rest(w, pw, 0, 1, d, &coins[1..], g, &mut out[1..]);
 }
 
 // The words after the sheet: table 0, fold coin 0, and those after it.
-fn transcript(
-    w: &[u32],
-    pw: &[u32],
-    f: &[u32],
-    coins: &[u32],
-    g: &mut [u32],
-    next: &mut [u32],
-    out: &mut [u32],
-)
-    requires { ⌜ (Standing (now w) (now pw) 0 1 (length (now f))) × ((length (now f) ≤ 2 * length (now g)) × (length (now g) ≤ length (now next))) ⌝ }
+fn transcript(w: &[u32], pw: &[u32], f: &[u32], coins: &[u32], g: &mut [u32], out: &mut [u32])
+    requires { ⌜ (Standing (now w) (now pw) 0 1 (length (now f))) × (length (now f) ≤ 2 * length (now g)) ⌝ }
     requires { ⌜ (0 < length (now coins)) × ((DealtFrom (now w) 0 (drop 1 (now coins))) × (length (now out) ≡ getD (now w) 1 0 + (1 + restCount (now w) 0))) ⌝ }
     ensures { λ _. ⌜ now (out .exit) ≡ wordsFrom (now (w .entry)) (now (f .entry)) (now (coins .entry)) ⌝ }
 {
     let n = pw.len();
-    honest_round::table(w, pw, 1, f, &mut out[..n]);
-    after_first(w, pw, f, coins, g, next, &mut out[n..]);
+    honest_words::table(w, pw, 1, f, &mut out[..n]);
+    after_first(w, pw, f, coins, g, &mut out[n..]);
 }
 
 // The words of the honest stream, by the table of the points of domain 0: the sheet, table 0, fold coin 0, the rounds, the final coefficients and indices.
-fn stream_by(
-    w: &[u32],
-    pw: &[u32],
-    f: &[u32],
-    coins: &[u32],
-    g: &mut [u32],
-    next: &mut [u32],
-    out: &mut [u32],
-)
-    requires { ⌜ (Allowed (now w) (now f) (now coins)) × ((getD (now w) 2 0 ≤ 2 * length (now g)) × (length (now g) ≤ length (now next))) ⌝ }
+fn stream_by(w: &[u32], pw: &[u32], f: &[u32], coins: &[u32], g: &mut [u32], out: &mut [u32])
+    requires { ⌜ (Allowed (now w) (now f) (now coins)) × (getD (now w) 2 0 ≤ 2 * length (now g)) ⌝ }
     requires { ⌜ (Powers (getD (now w) 0 0) (rootOfUnity (sheetOf (now w))) (now pw)) × (length (now pw) ≡ getD (now w) 1 0) ⌝ }
     requires { ⌜ length (now out) ≡ wordsDue (sheetOf (now w)) ⌝ }
     ensures { λ _. ⌜ now (out .exit) ≡ honestStream (now (w .entry)) (now (f .entry)) (now (coins .entry)) ⌝ }
 {
-    honest_round::copy(w, &mut out[..12]);
-    transcript(w, pw, f, coins, g, next, &mut out[12..]);
-}
-
-// Places for the fold of a polynomial of at most 2,048 coefficients.
-fn fold_room() -> [u32; 1024]
-    ensures { λ r. ⌜ length r ≡ 1024 ⌝ }
-{
-    [0u32; 1024]
-}
-
-// The same, of at most 128.
-fn few_fold_room() -> [u32; 64]
-    ensures { λ r. ⌜ length r ≡ 64 ⌝ }
-{
-    [0u32; 64]
+    honest_words::copy(w, &mut out[..12]);
+    transcript(w, pw, f, coins, g, &mut out[12..]);
 }
 
 // The words of the honest stream, with places for every sheet.
@@ -168,10 +127,9 @@ fn stream_with_all(w: &[u32], f: &[u32], coins: &[u32], out: &mut [u32])
     ensures { λ _. ⌜ now (out .exit) ≡ honestStream (now (w .entry)) (now (f .entry)) (now (coins .entry)) ⌝ }
 {
     let mut pw = domain::points_room();
-    let mut g = fold_room();
-    let mut next = fold_room();
+    let mut g = honest_round::fold_room();
     let size = domain::of_sheet(w, &mut pw);
-    stream_by(w, &pw[..size], f, coins, &mut g, &mut next, out);
+    stream_by(w, &pw[..size], f, coins, &mut g, out);
 }
 
 // The same of a sheet with at most 256 points: a small one is spared the clearing of many places.
@@ -181,10 +139,9 @@ fn stream_with_few(w: &[u32], f: &[u32], coins: &[u32], out: &mut [u32])
     ensures { λ _. ⌜ now (out .exit) ≡ honestStream (now (w .entry)) (now (f .entry)) (now (coins .entry)) ⌝ }
 {
     let mut pw = domain::few_points_room();
-    let mut g = few_fold_room();
-    let mut next = few_fold_room();
+    let mut g = honest_round::few_fold_room();
     let size = domain::of_sheet_within(w, &mut pw);
-    stream_by(w, &pw[..size], f, coins, &mut g, &mut next, out);
+    stream_by(w, &pw[..size], f, coins, &mut g, out);
 }
 
 // The words of the honest stream.

@@ -1,30 +1,38 @@
--- The parts of a round, as the code has them, are the definition's round; and so is the corrected polynomial. Assumes nothing.
-use Prim.Native.Nat.{ℕ, _+_, _-_, _*_, _≤_, _<_}
-use native.Mathlib.Nat.{mul-le-mul-right}
+-- The corrected polynomial, as the code has it, is the definition's; and so is its fold. Assumes nothing.
+use Prim.Native.Nat.{ℕ, _+_, _-_, _*_, _/_, _≤_, _<_}
+use native.Mathlib.Nat.{div-le-self, mul-le-mul-left, mul-le-mul-right}
 use native.Mathlib.Omega.{arith}
 use mathlib.Core.List.{List, [], _∷_, _++_, map}
 use mathlib.Core.Path.{_≡_, refl, sym, ap, _∙_, subst}
 use lib.ListN.{length, getD, take, drop, length-drop}
 use lib.Seq.{getD-drop, getD-take, length-take-le}
 use Rattle.definition.specs.Domain.{shiftPoint}
+use Rattle.definition.specs.Sheet.{shiftCount}
+use Rattle.algebra.specs.ListFacts.{All}
+use Rattle.completeness.specs.ByPlace.{at-place}
 use Rattle.definition.specs.Layout.{laterCount, roundCoins}
-use Rattle.definition.specs.Polynomial.{correctedPoly, distinct, evaluate, points}
-use Rattle.definition.specs.Prover.{honestAnswers, honestRound, nextPoly, tableOf}
-use Rattle.definition.specs.Transcript.{roundWords}
+use Rattle.definition.specs.Polynomial.{correctedPoly, distinct, points}
+use Rattle.definition.specs.Prover.{honestAnswers, nextPoly}
 use Rattle.completeness.specs.Numbered.{levelOf, outsOf}
 use Rattle.correction.specs.Corrected.{Corrected}
 use Rattle.rounds.specs.PointsIn.{shiftIn, shift-in}
-use Rattle.honest_round.specs.Levels.{shifts-are}
+use Rattle.honest_words.specs.Levels.{shifts-are}
 use Rattle.distinct.specs.Points.{InTable, differentPoints, distinct-points}
-use Rattle.honest_round.specs.Sizes.{shifts-inside, sizes}
+use Rattle.honest_words.specs.Sizes.{Sizes, sizes}
 use Rattle.domain.specs.Parts.{begun, front-stays}
-use Rattle.honest_round.specs.Standing.{RoundDealt, Standing, coinsNext, correctedFrom, fieldAt, foldFrom, repetitionsOf, rootAt, roundFrom, shiftsNext}
+use Rattle.honest_words.specs.Standing.{RoundDealt, Standing, coinsNext, correctedFrom, fieldAt, foldAfter, foldFrom, repetitionsOf, rootAt, shiftsNext}
 
--- the coins after the replies are a combination coin, a fold coin and indices
-later-words : (v : List ℕ) → 2 ≤ length v → v ≡ getD v 0 0 ∷ getD v 1 0 ∷ drop 2 v
-later-words [] h = absurd (omega arith)
-later-words (x ∷ []) h = absurd (omega arith)
-later-words (x ∷ y ∷ v) h = refl
+-- the place in the table of each shift index
+shifts-inside : (w : List ℕ) (i scale count points : ℕ) (js : List ℕ) → Sizes w i scale count points → All (λ j. j < shiftCount (levelOf w i)) js →
+    InTable points scale js
+unfolding shiftCount
+shifts-inside w i scale count points js z below = λ m l.
+    inside (getD js m 0) (levelOf w i .size) (at-place (λ j. j < levelOf w i .size / getD w 3 0) js 0 below m l) (z .whole)
+  where
+    inside : (j n : ℕ) → j < n / getD w 3 0 → scale * n ≡ points → scale * j < points
+    inside j n h e =
+        let g : j + 1 ≤ n = omega (arith, div-le-self n (getD w 3 0)) in
+        omega (arith, mul-le-mul-left scale g, z .scaled)
 
 module _ (w : List ℕ) (i : ℕ) (coins : List ℕ) (dealt : RoundDealt w i coins) where
   abbrev s : ℕ
@@ -33,31 +41,13 @@ module _ (w : List ℕ) (i : ℕ) (coins : List ℕ) (dealt : RoundDealt w i coi
   abbrev t : ℕ
   t = repetitionsOf w i
 
-  -- the lengths of the round's coins, as the code cuts them
-  pub outs-long : length (take s coins) ≡ s
-  outs-long = length-take-le s coins (omega (arith, dealt .there))
-
-  pub later-long : length (take (s + 2 + t - s) (drop s coins)) ≡ 2 + t
-  later-long = length-take-le (s + 2 + t - s) (drop s coins) (omega (arith, dealt .there, length-drop s coins)) ∙ omega arith
-
+  -- the length of the shift indices, as the code cuts them
   pub shifts-long : length (take (s + 2 + t - (s + 2)) (drop (s + 2) coins)) ≡ t
   shifts-long = length-take-le (s + 2 + t - (s + 2)) (drop (s + 2) coins) (omega (arith, dealt .there, length-drop (s + 2) coins)) ∙ omega arith
-
-  later-is : take (s + 2 + t - s) (drop s coins) ≡ take (2 + t) (drop s coins)
-  later-is = let e : s + 2 + t - s ≡ 2 + t = omega arith in ap (λ (n : ℕ). take n (drop s coins)) e
 
   shifts-is : take (s + 2 + t - (s + 2)) (drop (s + 2) coins) ≡ shiftsNext w i coins
   unfolding shiftsNext
   shifts-is = let e : s + 2 + t - (s + 2) ≡ t = omega arith in ap (λ (n : ℕ). take n (drop (s + 2) coins)) e
-
-  -- the words of the round
-  pub round-is : (g : List ℕ) →
-      tableOf (fieldAt w) (rootAt w) (levelOf w (i + 1)) g ++ (take s coins ++ (map (evaluate (fieldAt w) g) (take s coins) ++ take (s + 2 + t - s) (drop s coins)))
-      ≡ roundFrom w i g coins
-  unfolding roundFrom roundWords honestRound coinsNext roundCoins laterCount
-  round-is g =
-      ap (λ (v : List ℕ). tableOf (fieldAt w) (rootAt w) (levelOf w (i + 1)) g ++ (take s coins ++ (map (evaluate (fieldAt w) g) (take s coins) ++ v)))
-      (later-is ∙ later-words (take (2 + t) (drop s coins)) (omega (arith, later-long, ap length later-is)))
 
   -- ---- the corrected polynomial
 
@@ -102,7 +92,7 @@ module _ (w : List ℕ) (i : ℕ) (coins : List ℕ) (dealt : RoundDealt w i coi
 pub folded-next : (w : List ℕ) (i d folded : ℕ) (coins g g₁ next front back : List ℕ) {r : ℕ} → d ≤ length next → length front ≡ length (take d next) →
     front ≡ correctedFrom w i (take (length (take d next)) g) coins → r ≡ getD coins (outsOf w + 1) 0 →
     folded ≤ length g₁ → length back ≡ length (take folded g₁) → back ≡ foldFrom w r (take d (begun next front d)) →
-    take folded (begun g₁ back folded) ≡ foldFrom w (getD coins (outsOf w + 1) 0) (correctedFrom w i (take d g) coins)
+    take folded (begun g₁ back folded) ≡ foldAfter w i (take d g) coins
 folded-next w i d folded coins g g₁ next front back fits same is coin room long fold =
     let n = length-take-le d next fits in
     let f = front-stays next front d fits same ∙ is ∙ ap (λ (m : ℕ). correctedFrom w i (take m g) coins) n in

@@ -1,6 +1,5 @@
 pub mod Backwards
-pub mod Newton
 pub mod Pairs
-pub mod NewtonLaws
+pub mod Vanishing
 pub mod GeometricSum
 pub mod Inverses

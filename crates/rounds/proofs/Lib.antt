@@ -1,4 +1,6 @@
-pub mod Roots
 pub mod Half
+pub mod RootValues
 pub mod Turns
+pub mod Places
 pub mod Shifts
+pub mod Ready

@@ -12,7 +12,8 @@ use Rattle.rounds.specs.declared.Function.{Function}
 use Rattle.rounds.specs.Halving.{joined, halving, exponentOf}
 use Rattle.rounds.specs.HalvingLaw.{halving-same}
 use Rattle.rounds.specs.PointsIn.{backIn}
-use Rattle.rounds.specs.Round.{Fits, halfOf, rootIn, foldIn, power-of}
+use Rattle.rounds.specs.Prepared.{foldBy, rootBy}
+use Rattle.rounds.specs.Round.{Fits, halfOf, power-of}
 
 -- ---- two values joined
 
@@ -71,14 +72,14 @@ module _ (F : Field ℕ) (half : ℕ) (back : ℕ → ℕ) (whole : ℕ) where
 
 -- ---- the fold
 
-pub folded : (field : ℕ) (pw table xs cs : List ℕ) (how : Function) (k r j : ℕ) (values : List ℕ) {points n v : ℕ} → Fits points n how k → length values ≡ k →
-    ((m : ℕ) → m < k → getD values m 0 ≡ rootIn field pw table xs cs how j m) →
+pub folded : (field : ℕ) (pw table tops inverses : List ℕ) (how : Function) (k r i j : ℕ) (values : List ℕ) {points n v : ℕ} → Fits points n how k → length values ≡ k →
+    ((m : ℕ) → m < k → getD values m 0 ≡ rootBy field table tops inverses how k i j m) →
     v ≡ halving (fieldOf field) (halfOf field) (backIn pw) (exponentOf (length values)) (1 + how .scale * j) (how .scale * how .step) r (λ m. getD values m 0) →
-    v ≡ foldIn field pw table xs cs how k r j
-unfolding foldIn
-folded field pw table xs cs how k r j values fits long there e =
+    v ≡ foldBy field pw table tops inverses how k r i j
+unfolding foldBy
+folded field pw table tops inverses how k r i j values fits long there e =
     let d = how .scale * how .step in
     let w : ℕ → ℕ = λ m. getD values m 0 in
     e ∙ ap (λ (l : ℕ). halving (fieldOf field) (halfOf field) (backIn pw) (exponentOf l) (1 + how .scale * j) d r w) long
-    ∙ halving-same (fieldOf field) (halfOf field) (backIn pw) (exponentOf k) (1 + how .scale * j) d r w (rootIn field pw table xs cs how j)
+    ∙ halving-same (fieldOf field) (halfOf field) (backIn pw) (exponentOf k) (1 + how .scale * j) d r w (rootBy field table tops inverses how k i j)
     (λ m l. there m (omega (arith, power-of fits)))

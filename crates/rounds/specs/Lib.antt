@@ -4,5 +4,6 @@ pub mod HalvingLaw
 pub mod FoldLaw
 pub mod Round
 pub mod RoundLaws
+pub mod Prepared
 pub mod NextRound
 pub mod Reads

@@ -1,34 +1,48 @@
--- One round of deciding over the words in hand: a table of powers, a table of values, and the points and Newton coefficients of the samples.
-use Prim.Native.Nat.{ℕ, suc, _+_, _*_, _/_, _^_, _≤_, _<_}
+-- One round of deciding over the words in hand: a table of powers, a table of values, and the coefficients of what the table is corrected by.
+use Prim.Native.Nat.{ℕ, zero, suc, _+_, _-_, _*_, _/_, _^_, _≤_, _<_}
 use mathlib.Core.Path.{_≡_, _∙_, ap, sym}
 use mathlib.Core.List.{List, [], _∷_}
 use native.Mathlib.Nat.{suc-mul, mul-le-mul-left, mul-le-mul-right, le-of-eq, pow-suc}
 use native.Mathlib.Omega.{arith}
-use lib.ListN.{length, getD, drop}
+use lib.ListN.{length, getD, take, drop}
 use lib.Pow.{pow-pos}
-use Rattle.definition.specs.Field.{Field, fieldOf, reciprocal}
-use Rattle.algebra.specs.Different.{Differ}
-use Rattle.algebra.specs.ListFacts.{All}
-use Rattle.definition.specs.Polynomial.{Sample}
-use Rattle.polynomial.specs.Newton.{newtonCorrected}
+use Rattle.definition.specs.Field.{Field, fieldOf, power, reciprocal}
+use Rattle.definition.specs.Polynomial.{Sample, evaluate, geometric}
+use Rattle.domain.specs.Powers.{Powers}
+use Rattle.polynomial.specs.Inverses.{Nonzero}
 use Rattle.rounds.specs.declared.Function.{Function}
 use Rattle.rounds.specs.Halving.{halving, exponentOf}
 use Rattle.rounds.specs.HalvingLaw.{exponent-of}
 use Rattle.rounds.specs.PointsIn.{pointIn, shiftIn, backIn}
 
+-- The coefficients of A stand in ac, those of V in vg and those of the geometric sum behind them in vg, from place 66 on; the first `words` of each are in use.
+abbrev pub vanishingIn : {A : Type 0} → ℕ → List A → List A
+vanishingIn words vg = take words vg
+
+abbrev pub growthIn : {A : Type 0} → ℕ → List A → List A
+growthIn words vg = take words (drop 66 vg)
+
+-- the corrected value at x, where the table has y
+unfoldable pub correctedIn : {A : Type 0} → Field A → ℕ → List A → List A → A → A → A
+correctedIn F words ac vg x y =
+    F ._⊗_ (F ._⊗_ (F ._⊖_ y (evaluate F (take words ac) x)) (reciprocal F (evaluate F (vanishingIn words vg) x))) (evaluate F (growthIn words vg) x)
+
+-- its numerator, where V's value is the denominator
+abbrev pub numeratorIn : {A : Type 0} → Field A → ℕ → List A → List A → A → A → A
+numeratorIn F words ac vg x y = F ._⊗_ (F ._⊖_ y (evaluate F (take words ac) x)) (evaluate F (growthIn words vg) x)
+
 -- the value at x, where the table has y: y itself where there are no samples, else the corrected value
-unfoldable pub valueOf : {A : Type 0} → Field A → List A → List A → A → A → A → A
-valueOf F [] cs c x y = y
-valueOf F (a ∷ xs) cs c x y = newtonCorrected F (a ∷ xs) cs c x y
+unfoldable pub valueOf : {A : Type 0} → Field A → ℕ → List A → List A → A → A → A
+valueOf F zero ac vg x y = y
+valueOf F (suc words) ac vg x y = correctedIn F (suc words) ac vg x y
 
 -- the value at point number m
 unfoldable pub valueIn : ℕ → List ℕ → List ℕ → List ℕ → List ℕ → Function → ℕ → ℕ
-valueIn field pw table xs cs how m =
-    valueOf (fieldOf field) (drop (how .from) xs) (drop (how .from) cs) (how .coin) (pointIn pw (how .scale) m) (getD table m 0)
+valueIn field pw table ac vg how m = valueOf (fieldOf field) (how .words) ac vg (pointIn pw (how .scale) m) (getD table m 0)
 
 -- the value at root m of shift point j
 abbrev pub rootIn : ℕ → List ℕ → List ℕ → List ℕ → List ℕ → Function → ℕ → ℕ → ℕ
-rootIn field pw table xs cs how j m = valueIn field pw table xs cs how (j + m * how .step)
+rootIn field pw table ac vg how j m = valueIn field pw table ac vg how (j + m * how .step)
 
 -- 1/2
 unfoldable pub halfOf : ℕ → ℕ
@@ -36,15 +50,15 @@ halfOf field = reciprocal (fieldOf field) 2
 
 -- the fold at shift index j with coin r, by halves of the values at the k roots: the first root is ω^(1 + scale·j), the next are scale·step powers apart
 unfoldable pub foldIn : ℕ → List ℕ → List ℕ → List ℕ → List ℕ → Function → ℕ → ℕ → ℕ → ℕ
-foldIn field pw table xs cs how k r j =
-    halving (fieldOf field) (halfOf field) (backIn pw) (exponentOf k) (1 + how .scale * j) (how .scale * how .step) r (rootIn field pw table xs cs how j)
+foldIn field pw table ac vg how k r j =
+    halving (fieldOf field) (halfOf field) (backIn pw) (exponentOf k) (1 + how .scale * j) (how .scale * how .step) r (rootIn field pw table ac vg how j)
 
 -- the sample at shift index j
 unfoldable pub sampleIn : ℕ → List ℕ → List ℕ → List ℕ → List ℕ → Function → ℕ → ℕ → ℕ → Sample ℕ
-sampleIn field pw table xs cs how k r j = record { point = shiftIn pw (how .scale) k j; value = foldIn field pw table xs cs how k r j }
+sampleIn field pw table ac vg how k r j = record { point = shiftIn pw (how .scale) k j; value = foldIn field pw table ac vg how k r j }
 
 -- The folding number k is a power of two from 2 to 16. A table of n words has k roots of each shift index, and its points are every scale-th in a table of
--- `points` words.
+-- `points` words. The words in use of the coefficients are k columns.
 pub record Fits (points n : ℕ) (how : Function) (k : ℕ) : Type 0 where
   pub log : ℕ
   pub two : k ≡ 2 ^ suc log
@@ -53,10 +67,29 @@ pub record Fits (points n : ℕ) (how : Function) (k : ℕ) : Type 0 where
   pub roots : k * how .step ≡ n
   pub room : how .scale * n ≡ points
   pub small : points ≤ 4096
+  pub columns : ℕ
+  pub whole : how .words ≡ k * columns
+  pub used : how .words ≤ 66
 
--- No point of a table of n values is the point of a sample, so that V, by which a value is divided, differs from 0 there.
-abbrev pub Clear : ℕ → List ℕ → ℕ → List ℕ → Function → Type 0
-Clear field pw n xs how = (m : ℕ) → m < n → All (λ a. Differ (fieldOf field) (getD pw (how .scale * m) 0) a) (drop (how .from) xs)
+-- pw is a table of powers, and at no point of a table of n values is V 0, by which a value is divided.
+pub record Clear (field : ℕ) (pw : List ℕ) (n : ℕ) (vg : List ℕ) (how : Function) : Type 0 where
+  pub ω : ℕ
+  pub powers : Powers field ω pw
+  pub nonzero : (m : ℕ) → m < n → 0 < how .words → Nonzero field (evaluate (fieldOf field) (vanishingIn (how .words) vg) (getD pw (how .scale * m) 0))
+
+-- The k places at, at + step, .. of pw, a table of powers, go once round it; the points there have one k-th power, whose powers are given.
+pub record Rooted (field : ℕ) (pw : List ℕ) (at step k : ℕ) (powers : List ℕ) : Type 0 where
+  pub ω : ℕ
+  pub table : Powers field ω pw
+  pub y : ℕ
+  pub nonempty : 0 < length powers
+  pub short : length powers ≤ 66
+  pub list : powers ≡ geometric (fieldOf field) y (length powers - 1)
+  pub root : (m : ℕ) → m < k → power (fieldOf field) (getD pw (at + step * m) 0) k ≡ y
+  pub log : ℕ
+  pub two : k ≡ 2 ^ log
+  pub few : k ≤ 16
+  pub spaced : (at < step) × (step * k ≡ length pw)
 
 -- each index of a list is below the number of shift points
 abbrev pub Below : ℕ → List ℕ → Type 0

@@ -28,23 +28,23 @@ use Rattle.rounds.specs.FoldLaw.{fold-by-halves}
 use Rattle.rounds.specs.Round.{valueIn, rootIn, halfOf, foldIn, sampleIn, Fits, Below, exponent, first-point, folded, half-way, root-number}
 
 -- The words in hand are those of the function f at level b, whose folding number is k.
-pub record Serves (field ω : ℕ) (b : Level) (f : ℕ → ℕ) (pw table xs cs : List ℕ) (how : Function) (k : ℕ) : Type 0 where
+pub record Serves (field ω : ℕ) (b : Level) (f : ℕ → ℕ) (pw table ac vg : List ℕ) (how : Function) (k : ℕ) : Type 0 where
   pub powers : Powers field ω pw
   pub scale : how .scale ≡ 2 ^ b .number
   pub step : how .step ≡ shiftCount b
   pub fold : k ≡ b .fold
-  pub values : (m : ℕ) → m < length table → valueIn field pw table xs cs how m ≡ f m
+  pub values : (m : ℕ) → m < length table → valueIn field pw table ac vg how m ≡ f m
 
 -- v is the definition's G, for every level, function and round that the words are those of
 abbrev pub Answered : ℕ → List ℕ → List ℕ → List ℕ → List ℕ → Function → ℕ → ℕ → List ℕ → List ℕ → List ℕ → Option (List (Sample ℕ)) → Type 0
-Answered field pw table xs cs how k r shifts outs replies v =
+Answered field pw table ac vg how k r shifts outs replies v =
     (ω : ℕ) (b : Level) (f : ℕ → ℕ) (ρ : Round ℕ) → ρ .coins .outs ≡ outs → ρ .replies ≡ replies → ρ .coins .shifts ≡ shifts →
-    Serves field ω b f pw table xs cs how k → v ≡ sifted field (answers (fieldOf field) ω b f r ρ)
+    Serves field ω b f pw table ac vg how k → v ≡ sifted field (answers (fieldOf field) ω b f r ρ)
 
 -- v is the place of the definition's first difference, for every level and function that the words are those of
 abbrev pub Compared : ℕ → List ℕ → List ℕ → List ℕ → List ℕ → Function → ℕ → ℕ → List ℕ → List ℕ → Option ℕ → Type 0
-Compared field pw table xs cs how k r coefficients finals v =
-    (ω : ℕ) (b : Level) (f : ℕ → ℕ) → Serves field ω b f pw table xs cs how k → v ≡ firstTrue 0 (differences (fieldOf field) ω b f r coefficients finals)
+Compared field pw table ac vg how k r coefficients finals v =
+    (ω : ℕ) (b : Level) (f : ℕ → ℕ) → Serves field ω b f pw table ac vg how k → v ≡ firstTrue 0 (differences (fieldOf field) ω b f r coefficients finals)
 
 -- does the final polynomial differ from a sample?
 unfoldable pub differsIn : ℕ → List ℕ → Sample ℕ → Bool
@@ -69,7 +69,7 @@ pub opposite-signs : (field : ℕ) → minusOne (fieldOf field) ≡ fieldOf fiel
 unfolding fieldOf
 opposite-signs field = signs-differ (primeOf field) (suited field .large)
 
-module _ {field ω : ℕ} {b : Level} {f : ℕ → ℕ} {pw table xs cs : List ℕ} {how : Function} {k : ℕ} (s : Serves field ω b f pw table xs cs how k)
+module _ {field ω : ℕ} {b : Level} {f : ℕ → ℕ} {pw table ac vg : List ℕ} {how : Function} {k : ℕ} (s : Serves field ω b f pw table ac vg how k)
     (fits : Fits (length pw) (length table) how k) (r : ℕ) where
   abbrev F : Field ℕ
   F = fieldOf field
@@ -81,40 +81,40 @@ module _ {field ω : ℕ} {b : Level} {f : ℕ → ℕ} {pw table xs cs : List �
   turn : power F ω (2 ^ fits .log * (2 ^ b .number * shiftCount b)) ≡ minusOne F
   turn = ap (power F ω) ((λ i. 2 ^ fits .log * (sym (s .scale) i * sym (s .step) i)) ∙ sym (half-way fits)) ∙ s .powers .half
 
-  pub fold-is : (j : ℕ) → j < how .step → foldIn field pw table xs cs how k r j ≡ foldAt F ω b f r j
+  pub fold-is : (j : ℕ) → j < how .step → foldIn field pw table ac vg how k r j ≡ foldAt F ω b f r j
   unfolding foldIn
   fold-is j l =
       let half = halfOf field in
       let back = backIn pw in
       let e = 1 + how .scale * j in
       let d = how .scale * how .step in
-      ap (λ (a : ℕ). halving F half back a e d r (rootIn field pw table xs cs how j)) (exponent fits)
-      ∙ halving-same F half back (suc (fits .log)) e d r (rootIn field pw table xs cs how j) (λ m. f (j + m * how .step))
+      ap (λ (a : ℕ). halving F half back a e d r (rootIn field pw table ac vg how j)) (exponent fits)
+      ∙ halving-same F half back (suc (fits .log)) e d r (rootIn field pw table ac vg how j) (λ m. f (j + m * how .step))
       (λ m h. s .values (j + m * how .step) (root-number fits l m (omega (arith, fits .two))))
       ∙ (λ i. halving F half back (suc (fits .log)) (1 + s .scale i * j) (s .scale i * s .step i) r (λ m. f (j + m * s .step i)))
       ∙ fold-by-halves F (laws field) ω half back (opposite-signs field) (two-halves field) (back-power (s .powers) (long l)) b f r j (fits .log) (sym (s .fold) ∙ fits .two) turn
 
-  pub sample-is : (j : ℕ) → j < how .step → sampleIn field pw table xs cs how k r j ≡ record { point = shiftPoint F ω b j; value = foldAt F ω b f r j }
+  pub sample-is : (j : ℕ) → j < how .step → sampleIn field pw table ac vg how k r j ≡ record { point = shiftPoint F ω b j; value = foldAt F ω b f r j }
   unfolding sampleIn
   sample-is j l =
       let some : 0 < k = omega (arith, folded fits) in
       λ i. record { point = shift-in (s .powers) b (s .scale) (s .fold) j some (long l) i; value = fold-is j l i }
 
   samples-are : (js : List ℕ) → Below (how .step) js →
-      map (sampleIn field pw table xs cs how k r) js ≡ map (λ j. record { point = shiftPoint F ω b j; value = foldAt F ω b f r j }) js
+      map (sampleIn field pw table ac vg how k r) js ≡ map (λ j. record { point = shiftPoint F ω b j; value = foldAt F ω b f r j }) js
   samples-are [] l = refl
   samples-are (j ∷ js) l = λ i. sample-is j (l 0 (suc-le-suc zero-le)) i ∷ samples-are js (λ m n. l (suc m) (suc-le-suc n)) i
 
   differences-are : (coefficients js : List ℕ) → Below (how .step) js →
-      map (λ j. differsIn field coefficients (sampleIn field pw table xs cs how k r j)) js ≡ differences F ω b f r coefficients js
+      map (λ j. differsIn field coefficients (sampleIn field pw table ac vg how k r j)) js ≡ differences F ω b f r coefficients js
   unfolding differences differsIn fieldOf primeField
   differences-are coefficients [] l = refl
   differences-are coefficients (j ∷ js) l =
       λ i. differsIn field coefficients (sample-is j (l 0 (suc-le-suc zero-le)) i) ∷ differences-are coefficients js (λ m n. l (suc m) (suc-le-suc n)) i
 
-module _ (field : ℕ) (pw table xs cs : List ℕ) (how : Function) (k r : ℕ) (fits : Fits (length pw) (length table) how k) where
+module _ (field : ℕ) (pw table ac vg : List ℕ) (how : Function) (k r : ℕ) (fits : Fits (length pw) (length table) how k) where
   pub answered : (shifts outs replies : List ℕ) {v : Option (List (Sample ℕ))} → Below (how .step) shifts →
-      v ≡ sifted field (pair outs replies ++ map (sampleIn field pw table xs cs how k r) shifts) → Answered field pw table xs cs how k r shifts outs replies v
+      v ≡ sifted field (pair outs replies ++ map (sampleIn field pw table ac vg how k r) shifts) → Answered field pw table ac vg how k r shifts outs replies v
   unfolding answers
   answered shifts outs replies l e = λ ω b f ρ eo er es s.
       let sample : ℕ → Sample ℕ = λ j. record { point = shiftPoint (fieldOf field) ω b j; value = foldAt (fieldOf field) ω b f r j } in
@@ -122,6 +122,6 @@ module _ (field : ℕ) (pw table xs cs : List ℕ) (how : Function) (k r : ℕ) 
       ∙ (λ i. sifted field (pair (sym eo i) (sym er i) ++ map sample (sym es i)))
 
   pub compared : (coefficients finals : List ℕ) {v : Option ℕ} → Below (how .step) finals →
-      v ≡ firstTrue 0 (map (λ j. differsIn field coefficients (sampleIn field pw table xs cs how k r j)) finals) →
-      Compared field pw table xs cs how k r coefficients finals v
+      v ≡ firstTrue 0 (map (λ j. differsIn field coefficients (sampleIn field pw table ac vg how k r j)) finals) →
+      Compared field pw table ac vg how k r coefficients finals v
   compared coefficients finals l e = λ ω b f s. e ∙ ap (firstTrue 0) (differences-are s fits r coefficients finals l)

@@ -1,104 +1,294 @@
 // One round of deciding: the samples at the out coins and at the shift points, gathered without repeats; and the final comparison.
 //
 // The caller lends the words. pw is the table of the powers of ω, from the first power on to the n0-th, which is 1: point m of domain i is pw[2^i·m], and
-// the inverse of a power stands in the table too. A level's function is worked out from the table sent and from the samples of its round, whose points xs
-// and Newton coefficients cs stand in the last places of their slices.
+// the inverse of a power stands in the table too. A level's function is worked out from the table sent and from the samples of its round: ac has the
+// coefficients of A; vg those of V, and from place 66 on those of the geometric sum. At the k roots of a shift point y = x^k, of which the powers are one list,
+// k sums of products make of each list a polynomial with k coefficients and the same values there.
 //
 // The fold at a shift point divides by 2 and by powers of ω. Its k roots are x·ζ^m, where ζ^(k/2) is -1, so root m and root m + k/2 are opposite. From the values v
 // at x and w at -x the polynomial E + r·O, made of the even and the odd half of the one through all k values, has (v + w + r·(v - w)/x)/2 at x², and at r² what
 // that one has at r. So k values halve to k/2, until one is left. The caller lends `values` for them, k words of scratch. The inverse of 2 is asked for once for
 // all coins of a round; that of a power of ω stands in the table.
 use field::Inversion;
+use lists::Inverses;
 use outcome::Found;
-use polynomial::Two;
 use samples::Gathered;
 ghost use mathlib.Core.Path.{_≡_};
 ghost use mathlib.Core.List.{map};
 ghost use Prim.Native.Nat.{ℕ, _+_, _*_, _^_, _≤_, _<_};
-ghost use lib.ListN.{length, getD};
-ghost use Rattle.definition.specs.Field.{fieldOf};
+ghost use lib.ListN.{length, getD, take, drop};
+ghost use Rattle.definition.specs.Field.{Field, fieldOf};
+ghost use Rattle.definition.specs.Polynomial.{evaluate};
+ghost use Rattle.domain.specs.Filled.{Filled};
 ghost use Rattle.field.specs.Answer.{inversionOf};
 ghost use Rattle.outcome.specs.Meaning.{placeOf};
 ghost use Rattle.samples.specs.Samples.{kept, sifted, Room};
 ghost use Rattle.rounds.specs.Halving.{joined, halving, exponentOf};
 ghost use Rattle.rounds.specs.PointsIn.{backIn, shiftIn, ShiftPoint};
-ghost use Rattle.rounds.specs.Round.{Fits, Below, Clear, halfOf, valueIn, rootIn, foldIn, sampleIn};
-ghost use Rattle.rounds.specs.RoundLaws.{Answered, Compared};
+ghost use Rattle.rounds.specs.Prepared.{Fraction, Fractions, Prepared, numbered, rootBy, foldBy, sampleBy};
+ghost use Rattle.rounds.specs.Round.{Fits, Below, Clear, Rooted, vanishingIn, numeratorIn, halfOf, rootIn, sampleIn};
+ghost use Rattle.rounds.specs.RoundLaws.{Answered, Compared, differsIn};
+ghost use Rattle.definition.specs.Lists.{firstTrue};
 
-// How the function of a level is worked out: its point m stands at scale·m in pw, the roots of a shift point have numbers that are `step` apart, and the
-// samples stand from number `from` on, to correct the table by with the combination coin. Before the first round there are none, and the table's own
-// values are the function's.
+// How the function of a level is worked out: its point m stands at scale·m in pw, the roots of a shift point have numbers that are `step` apart, and the first
+// `words` of the coefficients are in use. Before the first round there are no samples, no words, and the table's own values are the function's.
 pub struct Function {
     pub scale: usize,
     pub step: usize,
-    pub from: usize,
-    pub coin: u32,
+    pub words: usize,
 }
 
-// The function's values at points number m and o.
-fn value_two(
-    field: u32,
-    pw: &[u32],
-    table: &[u32],
-    xs: &[u32],
-    cs: &[u32],
-    how: Function,
-    m: usize,
-    o: usize,
-) -> Two
-    requires { ⌜ (how .from ≤ length (now xs)) × ((length (now xs) ≤ length (now cs)) × (Clear field (now pw) (length (now table)) (now xs) how)) ⌝ }
-    requires { ⌜ (m < length (now table)) × (o < length (now table)) ⌝ }
-    requires { ⌜ (how .scale * m < length (now pw)) × (how .scale * o < length (now pw)) ⌝ }
-    ensures { λ v. ⌜ v .first ≡ valueIn field (now (pw .entry)) (now (table .entry)) (now (xs .entry)) (now (cs .entry)) how m ⌝ }
-    ensures { λ v. ⌜ v .second ≡ valueIn field (now (pw .entry)) (now (table .entry)) (now (xs .entry)) (now (cs .entry)) how o ⌝ }
+// Places for the values at the roots of a shift point, at most 16.
+fn roots() -> [u32; 16]
+    ensures { λ r. ⌜ length r ≡ 16 ⌝ }
 {
-    let y1 = table[m];
-    let y2 = table[o];
-    if how.from == xs.len() {
-        return Two {
-            first: y1,
-            second: y2,
-        };
-    }
-    let x1 = pw[how.scale * m];
-    let x2 = pw[how.scale * o];
-    polynomial::corrected_two(field, xs, cs, how.from, how.coin, x1, y1, x2, y2)
+    [0u32; 16]
 }
 
-// The values at the k roots of shift point j into `values`, two opposite roots at a time.
-fn gather(
+// Places for the powers of a shift point, at most 66 / 2.
+fn columns() -> [u32; 33]
+    ensures { λ r. ⌜ length r ≡ 33 ⌝ }
+{
+    [0u32; 33]
+}
+
+// The values of f at the k roots of a point, whose powers are given, into the first k words of out. The roots stand in pw from place `at` on, step places apart.
+// k sums of products give a polynomial of k coefficients that has f's values there, and its table comes by halves.
+fn at_roots(
+    field: u32,
+    f: &[u32],
+    powers: &[u32],
+    pw: &[u32],
+    at: usize,
+    step: usize,
+    k: usize,
+    out: &mut [u32],
+)
+    requires { ⌜ Rooted field (now pw) at step k (now powers) ⌝ }
+    requires { ⌜ (length (now f) ≡ k * length (now powers)) × (k ≤ length (now out)) ⌝ }
+    ensures { λ _. ⌜ ((m : ℕ) → m < k → getD (now (out .exit)) m 0 ≡ evaluate (fieldOf field) (now (f .entry)) (getD (now (pw .entry)) (at + step * m) 0)) ⌝ }
+{
+    let mut sums = roots();
+    lists::residues(field, f, powers, &mut sums[..k]);
+    tables::on_roots(field, &sums[..k], pw, at, step, &mut out[..k]);
+}
+
+// Each value y, where A has a and the geometric sum g, becomes (y - a)·g.
+fn numerators(field: u32, a: &[u32], g: &[u32], values: &mut [u32])
+    requires { ⌜ (length (now values) ≤ length (now a)) × (length (now values) ≤ length (now g)) ⌝ }
+    ensures { λ _. ⌜ Filled (λ m. fieldOf field ._⊗_ (fieldOf field ._⊖_ (getD (now (values .entry)) m 0) (getD (now (a .entry)) m 0)) (getD (now (g .entry)) m 0)) (now (values .entry)) (now (values .exit)) (length (now (values .entry))) ⌝ }
+{
+    let mut m = 0;
+    while m < values.len() {
+        let difference = field::sub(field, values[m], a[m]);
+        values[m] = field::mul(field, difference, g[m]);
+        m += 1;
+    }
+}
+
+// Numerators and denominators of the corrected values at the k roots, where `tops` has the table's values and `powers` are those of the shift point.
+fn quotients(
+    field: u32,
+    pw: &[u32],
+    ac: &[u32],
+    vg: &[u32],
+    how: Function,
+    at: usize,
+    step: usize,
+    powers: &[u32],
+    tops: &mut [u32],
+    bottoms: &mut [u32],
+)
+    requires { ⌜ (length (now ac) ≡ 66) × ((length (now vg) ≡ 132) × (length (now bottoms) ≡ length (now tops))) ⌝ }
+    requires { ⌜ Rooted field (now pw) at step (length (now tops)) (now powers) ⌝ }
+    requires { ⌜ (how .words ≡ length (now tops) * length (now powers)) × (how .words ≤ 66) ⌝ }
+    ensures { λ _. ⌜ ((m : ℕ) → m < length (now (tops .entry)) → getD (now (tops .exit)) m 0 ≡ numeratorIn (fieldOf field) (how .words) (now (ac .entry)) (now (vg .entry)) (getD (now (pw .entry)) (at + step * m) 0) (getD (now (tops .entry)) m 0)) ⌝ }
+    ensures { λ _. ⌜ ((m : ℕ) → m < length (now (tops .entry)) → getD (now (bottoms .exit)) m 0 ≡ evaluate (fieldOf field) (vanishingIn (how .words) (now (vg .entry))) (getD (now (pw .entry)) (at + step * m) 0)) ⌝ }
+{
+    let k = tops.len();
+    let mut a = roots();
+    let mut g = roots();
+    at_roots(
+        field,
+        lists::part(ac, 0, how.words),
+        powers,
+        pw,
+        at,
+        step,
+        k,
+        &mut a,
+    );
+    at_roots(
+        field,
+        lists::part(vg, 0, how.words),
+        powers,
+        pw,
+        at,
+        step,
+        k,
+        bottoms,
+    );
+    at_roots(
+        field,
+        lists::part(vg, 66, how.words),
+        powers,
+        pw,
+        at,
+        step,
+        k,
+        &mut g,
+    );
+    numerators(field, &a, &g, tops);
+}
+
+// The table's values at the k roots of shift point j.
+fn gather_table(table: &[u32], step: usize, j: usize, values: &mut [u32])
+    requires { ⌜ ((m : ℕ) → m < length (now values) → j + step * m < length (now table)) ⌝ }
+    ensures { λ _. ⌜ Filled (λ m. getD (now (table .entry)) (j + step * m) 0) (now (values .entry)) (now (values .exit)) (length (now (values .entry))) ⌝ }
+{
+    let mut m = 0;
+    while m < values.len() {
+        values[m] = lists::every(table, j, step, m);
+        m += 1;
+    }
+}
+
+// The function's values at the k roots of shift point j as fractions, where there are samples. The powers of the shift point stand in the table too.
+fn fractions(
     field: u32,
     pw: &[u32],
     table: &[u32],
-    xs: &[u32],
-    cs: &[u32],
+    ac: &[u32],
+    vg: &[u32],
     how: Function,
     j: usize,
-    values: &mut [u32],
+    tops: &mut [u32],
+    bottoms: &mut [u32],
 )
-    requires { ⌜ (how .from ≤ length (now xs)) × ((length (now xs) ≤ length (now cs)) × (Clear field (now pw) (length (now table)) (now xs) how)) ⌝ }
-    requires { ⌜ Fits (length (now pw)) (length (now table)) how (length (now values)) ⌝ }
-    requires { ⌜ j < how .step ⌝ }
-    ensures { λ _. ⌜ ((m : ℕ) → m < length (now (values .entry)) → getD (now (values .exit)) m 0 ≡ rootIn field (now (pw .entry)) (now (table .entry)) (now (xs .entry)) (now (cs .entry)) how j m) ⌝ }
+    requires { ⌜ (length (now ac) ≡ 66) × ((length (now vg) ≡ 132) × (Clear field (now pw) (length (now table)) (now vg) how)) ⌝ }
+    requires { ⌜ Fits (length (now pw)) (length (now table)) how (length (now tops)) ⌝ }
+    requires { ⌜ (j < how .step) × ((0 < how .words) × (length (now bottoms) ≡ length (now tops))) ⌝ }
+    ensures { λ _. ⌜ ((m : ℕ) → m < length (now (tops .entry)) → Fraction field (rootIn field (now (pw .entry)) (now (table .entry)) (now (ac .entry)) (now (vg .entry)) how j m) (getD (now (tops .exit)) m 0) (getD (now (bottoms .exit)) m 0)) ⌝ }
 {
-    let step = how.step;
-    let h = values.len() / 2;
-    let mut m = 0;
-    while m < h {
-        let v = value_two(
+    let k = tops.len();
+    gather_table(table, how.step, j, tops);
+    let count = how.words / k;
+    let exponent = (k + k * (how.scale * j)) % pw.len();
+    let mut powers = columns();
+    lists::powers_in(pw, exponent, &mut powers[..count]);
+    quotients(
+        field,
+        pw,
+        ac,
+        vg,
+        how,
+        how.scale * j,
+        how.scale * how.step,
+        &powers[..count],
+        tops,
+        bottoms,
+    );
+}
+
+// The fractions of one coin after the other, k places each.
+fn all_fractions(
+    field: u32,
+    pw: &[u32],
+    table: &[u32],
+    ac: &[u32],
+    vg: &[u32],
+    how: Function,
+    k: usize,
+    js: &[u32],
+    tops: &mut [u32],
+    bottoms: &mut [u32],
+)
+    requires { ⌜ (length (now ac) ≡ 66) × ((length (now vg) ≡ 132) × (Clear field (now pw) (length (now table)) (now vg) how)) ⌝ }
+    requires { ⌜ Fits (length (now pw)) (length (now table)) how k ⌝ }
+    requires { ⌜ (Below (how .step) (now js)) × ((0 < how .words) × ((length (now js) * k ≤ length (now tops)) × (length (now js) * k ≤ length (now bottoms)))) ⌝ }
+    ensures { λ _. ⌜ Fractions field (rootIn field (now (pw .entry)) (now (table .entry)) (now (ac .entry)) (now (vg .entry)) how) k (now (js .entry)) (now (tops .exit)) (now (bottoms .exit)) (length (now (js .entry))) ⌝ }
+{
+    let mut coin = 0;
+    while coin < js.len() {
+        let at = coin * k;
+        fractions(
             field,
             pw,
             table,
-            xs,
-            cs,
+            ac,
+            vg,
             how,
-            j + m * step,
-            j + (h + m) * step,
+            wide(js[coin]),
+            &mut tops[at..at + k],
+            &mut bottoms[at..at + k],
         );
-        values[m] = v.first;
-        values[h + m] = v.second;
+        coin += 1;
+    }
+}
+
+// The fractions of all coins, and then their denominators' inverses by one inversion; nothing where there are no samples. No denominator is 0.
+fn prepare(
+    field: u32,
+    pw: &[u32],
+    table: &[u32],
+    ac: &[u32],
+    vg: &[u32],
+    how: Function,
+    k: usize,
+    js: &[u32],
+    tops: &mut [u32],
+    bottoms: &mut [u32],
+    behind: &mut [u32],
+)
+    requires { ⌜ (length (now ac) ≡ 66) × ((length (now vg) ≡ 132) × (Clear field (now pw) (length (now table)) (now vg) how)) ⌝ }
+    requires { ⌜ Fits (length (now pw)) (length (now table)) how k ⌝ }
+    requires { ⌜ Below (how .step) (now js) ⌝ }
+    requires { ⌜ (length (now js) * k ≤ length (now tops)) × ((length (now js) * k ≤ length (now bottoms)) × ((length (now js) * k ≤ length (now behind)) × (length (now js) ≤ 4096))) ⌝ }
+    ensures { λ _. ⌜ Prepared field (now (table .entry)) how k (rootIn field (now (pw .entry)) (now (table .entry)) (now (ac .entry)) (now (vg .entry)) how) (now (js .entry)) (now (tops .exit)) (now (bottoms .exit)) ⌝ }
+{
+    if how.words == 0 {
+        return;
+    }
+    all_fractions(field, pw, table, ac, vg, how, k, js, tops, bottoms);
+    let n = js.len() * k;
+    let found = lists::invert_all(field, &mut bottoms[..n], behind);
+    let Inverses::Found = found else {
+        return;
+    };
+}
+
+// Each value becomes a numerator times the inverse of its denominator, from place `at` on.
+fn quotients_from(field: u32, tops: &[u32], inverses: &[u32], at: usize, values: &mut [u32])
+    requires { ⌜ (at + length (now values) ≤ length (now tops)) × (at + length (now values) ≤ length (now inverses)) ⌝ }
+    ensures { λ _. ⌜ Filled (λ m. fieldOf field ._⊗_ (getD (now (tops .entry)) (at + m) 0) (getD (now (inverses .entry)) (at + m) 0)) (now (values .entry)) (now (values .exit)) (length (now (values .entry))) ⌝ }
+{
+    let mut m = 0;
+    while m < values.len() {
+        values[m] = field::mul(field, tops[at + m], inverses[at + m]);
         m += 1;
     }
+}
+
+// The function's values at the k roots of shift point j, the index number i: the table's, or where there are samples the fractions prepared.
+fn gather(
+    field: u32,
+    table: &[u32],
+    tops: &[u32],
+    inverses: &[u32],
+    how: Function,
+    i: usize,
+    j: usize,
+    values: &mut [u32],
+)
+    requires { ⌜ (i * length (now values) + length (now values) ≤ length (now tops)) × (i * length (now values) + length (now values) ≤ length (now inverses)) ⌝ }
+    requires { ⌜ ((m : ℕ) → m < length (now values) → j + how .step * m < length (now table)) ⌝ }
+    ensures { λ _. ⌜ ((m : ℕ) → m < length (now (values .entry)) → getD (now (values .exit)) m 0 ≡ rootBy field (now (table .entry)) (now (tops .entry)) (now (inverses .entry)) how (length (now (values .entry))) i j m) ⌝ }
+{
+    if how.words == 0 {
+        gather_table(table, how.step, j, values);
+        return;
+    }
+    quotients_from(field, tops, inverses, i * values.len(), values);
 }
 
 // What the inversion of 2 answers: (p + 1)/2 is found, since p is odd, and no power is taken.
@@ -178,26 +368,27 @@ fn fold_values(
     values[0]
 }
 
-// The fold at shift index j with coin r.
+// The fold at shift index j, number i of a list, with coin r.
 fn fold_at(
     field: u32,
     pw: &[u32],
     table: &[u32],
-    xs: &[u32],
-    cs: &[u32],
+    tops: &[u32],
+    inverses: &[u32],
     how: Function,
+    i: usize,
     j: usize,
     r: u32,
     two: Inversion,
     values: &mut [u32],
 ) -> u32
-    requires { ⌜ (how .from ≤ length (now xs)) × ((length (now xs) ≤ length (now cs)) × (Clear field (now pw) (length (now table)) (now xs) how)) ⌝ }
+    requires { ⌜ (i * length (now values) + length (now values) ≤ length (now tops)) × (i * length (now values) + length (now values) ≤ length (now inverses)) ⌝ }
     requires { ⌜ Fits (length (now pw)) (length (now table)) how (length (now values)) ⌝ }
     requires { ⌜ j < how .step ⌝ }
     requires { ⌜ inversionOf two ≡ fieldOf field .inverse 2 ⌝ }
-    ensures { λ v. ⌜ v ≡ foldIn field (now (pw .entry)) (now (table .entry)) (now (xs .entry)) (now (cs .entry)) how (length (now (values .entry))) r j ⌝ }
+    ensures { λ v. ⌜ v ≡ foldBy field (now (pw .entry)) (now (table .entry)) (now (tops .entry)) (now (inverses .entry)) how (length (now (values .entry))) r i j ⌝ }
 {
-    gather(field, pw, table, xs, cs, how, j, values);
+    gather(field, table, tops, inverses, how, i, j, values);
     fold_values(
         field,
         pw,
@@ -231,27 +422,28 @@ pub struct Point {
     pub y: u32,
 }
 
-// The sample at shift index j: the shift point, and the fold there.
-pub fn sample_at(
+// The sample at shift index j, number i of a list: the shift point, and the fold there.
+fn sample_at(
     field: u32,
     pw: &[u32],
     table: &[u32],
-    xs: &[u32],
-    cs: &[u32],
+    tops: &[u32],
+    inverses: &[u32],
     how: Function,
+    i: usize,
     j: usize,
     r: u32,
     two: Inversion,
     values: &mut [u32],
 ) -> Point
-    requires { ⌜ (how .from ≤ length (now xs)) × ((length (now xs) ≤ length (now cs)) × (Clear field (now pw) (length (now table)) (now xs) how)) ⌝ }
+    requires { ⌜ (i * length (now values) + length (now values) ≤ length (now tops)) × (i * length (now values) + length (now values) ≤ length (now inverses)) ⌝ }
     requires { ⌜ Fits (length (now pw)) (length (now table)) how (length (now values)) ⌝ }
     requires { ⌜ j < how .step ⌝ }
     requires { ⌜ inversionOf two ≡ fieldOf field .inverse 2 ⌝ }
-    ensures { λ v. ⌜ record { point = v .x; value = v .y } ≡ sampleIn field (now (pw .entry)) (now (table .entry)) (now (xs .entry)) (now (cs .entry)) how (length (now (values .entry))) r j ⌝ }
+    ensures { λ v. ⌜ record { point = v .x; value = v .y } ≡ sampleBy field (now (pw .entry)) (now (table .entry)) (now (tops .entry)) (now (inverses .entry)) how (length (now (values .entry))) r i j ⌝ }
 {
     let x = shift_point(pw, how.scale, j, values.len());
-    let y = fold_at(field, pw, table, xs, cs, how, j, r, two, values);
+    let y = fold_at(field, pw, table, tops, inverses, how, i, j, r, two, values);
     Point { x: x, y: y }
 }
 
@@ -260,8 +452,8 @@ fn put_shifts(
     field: u32,
     pw: &[u32],
     table: &[u32],
-    xs: &[u32],
-    cs: &[u32],
+    tops: &[u32],
+    inverses: &[u32],
     how: Function,
     r: u32,
     two: Inversion,
@@ -270,12 +462,12 @@ fn put_shifts(
     px: &mut [u32],
     py: &mut [u32],
 ) -> Gathered
-    requires { ⌜ (how .from ≤ length (now xs)) × ((length (now xs) ≤ length (now cs)) × (Clear field (now pw) (length (now table)) (now xs) how)) ⌝ }
+    requires { ⌜ (length (now shifts) * length (now values) ≤ length (now tops)) × (length (now shifts) * length (now values) ≤ length (now inverses)) ⌝ }
     requires { ⌜ Fits (length (now pw)) (length (now table)) how (length (now values)) ⌝ }
     requires { ⌜ Below (how .step) (now shifts) ⌝ }
     requires { ⌜ (length (now py) ≡ length (now px)) × (length (now shifts) ≤ length (now px)) ⌝ }
     requires { ⌜ inversionOf two ≡ fieldOf field .inverse 2 ⌝ }
-    ensures { λ v. ⌜ kept v (now (px .exit)) (now (py .exit)) ≡ sifted field (map (sampleIn field (now (pw .entry)) (now (table .entry)) (now (xs .entry)) (now (cs .entry)) how (length (now (values .entry))) r) (now (shifts .entry))) ⌝ }
+    ensures { λ v. ⌜ kept v (now (px .exit)) (now (py .exit)) ≡ sifted field (numbered (sampleBy field (now (pw .entry)) (now (table .entry)) (now (tops .entry)) (now (inverses .entry)) how (length (now (values .entry))) r) 0 (now (shifts .entry))) ⌝ }
     ensures { λ v. ⌜ Room (length (now (px .entry))) (length (now (shifts .entry))) v ⌝ }
 {
     let mut k = px.len();
@@ -286,9 +478,10 @@ fn put_shifts(
             field,
             pw,
             table,
-            xs,
-            cs,
+            tops,
+            inverses,
             how,
+            i,
             wide(shifts[i]),
             r,
             two,
@@ -308,29 +501,47 @@ pub fn push_shifts(
     field: u32,
     pw: &[u32],
     table: &[u32],
-    xs: &[u32],
-    cs: &[u32],
+    ac: &[u32],
+    vg: &[u32],
     how: Function,
     r: u32,
     shifts: &[u32],
     values: &mut [u32],
+    tops: &mut [u32],
+    bottoms: &mut [u32],
+    behind: &mut [u32],
     px: &mut [u32],
     py: &mut [u32],
 ) -> Gathered
-    requires { ⌜ (how .from ≤ length (now xs)) × ((length (now xs) ≤ length (now cs)) × (Clear field (now pw) (length (now table)) (now xs) how)) ⌝ }
+    requires { ⌜ (length (now ac) ≡ 66) × ((length (now vg) ≡ 132) × (Clear field (now pw) (length (now table)) (now vg) how)) ⌝ }
     requires { ⌜ Fits (length (now pw)) (length (now table)) how (length (now values)) ⌝ }
     requires { ⌜ Below (how .step) (now shifts) ⌝ }
     requires { ⌜ (length (now py) ≡ length (now px)) × (length (now shifts) ≤ length (now px)) ⌝ }
-    ensures { λ v. ⌜ kept v (now (px .exit)) (now (py .exit)) ≡ sifted field (map (sampleIn field (now (pw .entry)) (now (table .entry)) (now (xs .entry)) (now (cs .entry)) how (length (now (values .entry))) r) (now (shifts .entry))) ⌝ }
+    requires { ⌜ (length (now shifts) * length (now values) ≤ length (now tops)) × ((length (now shifts) * length (now values) ≤ length (now bottoms)) × ((length (now shifts) * length (now values) ≤ length (now behind)) × (length (now shifts) ≤ 4096))) ⌝ }
+    ensures { λ v. ⌜ kept v (now (px .exit)) (now (py .exit)) ≡ sifted field (map (sampleIn field (now (pw .entry)) (now (table .entry)) (now (ac .entry)) (now (vg .entry)) how (length (now (values .entry))) r) (now (shifts .entry))) ⌝ }
     ensures { λ v. ⌜ Room (length (now (px .entry))) (length (now (shifts .entry))) v ⌝ }
 {
+    let k = values.len();
+    prepare(
+        field,
+        pw,
+        table,
+        ac,
+        vg,
+        how,
+        k,
+        shifts,
+        tops,
+        bottoms,
+        behind,
+    );
     let two = invert_two(field);
     put_shifts(
         field,
         pw,
         table,
-        xs,
-        cs,
+        tops,
+        bottoms,
         how,
         r,
         two,
@@ -346,25 +557,44 @@ pub fn answer(
     field: u32,
     pw: &[u32],
     table: &[u32],
-    xs: &[u32],
-    cs: &[u32],
+    ac: &[u32],
+    vg: &[u32],
     how: Function,
     r: u32,
     shifts: &[u32],
     outs: &[u32],
     replies: &[u32],
     values: &mut [u32],
+    tops: &mut [u32],
+    bottoms: &mut [u32],
+    behind: &mut [u32],
     px: &mut [u32],
     py: &mut [u32],
 ) -> Gathered
-    requires { ⌜ (how .from ≤ length (now xs)) × ((length (now xs) ≤ length (now cs)) × (Clear field (now pw) (length (now table)) (now xs) how)) ⌝ }
+    requires { ⌜ (length (now ac) ≡ 66) × ((length (now vg) ≡ 132) × (Clear field (now pw) (length (now table)) (now vg) how)) ⌝ }
     requires { ⌜ Fits (length (now pw)) (length (now table)) how (length (now values)) ⌝ }
     requires { ⌜ Below (how .step) (now shifts) ⌝ }
     requires { ⌜ (length (now py) ≡ length (now px)) × ((length (now replies) ≡ length (now outs)) × (length (now outs) + length (now shifts) ≤ length (now px))) ⌝ }
-    ensures { λ v. ⌜ Answered field (now (pw .entry)) (now (table .entry)) (now (xs .entry)) (now (cs .entry)) how (length (now (values .entry))) r (now (shifts .entry)) (now (outs .entry)) (now (replies .entry)) (kept v (now (px .exit)) (now (py .exit))) ⌝ }
+    requires { ⌜ (length (now shifts) * length (now values) ≤ length (now tops)) × ((length (now shifts) * length (now values) ≤ length (now bottoms)) × ((length (now shifts) * length (now values) ≤ length (now behind)) × (length (now shifts) ≤ 4096))) ⌝ }
+    ensures { λ v. ⌜ Answered field (now (pw .entry)) (now (table .entry)) (now (ac .entry)) (now (vg .entry)) how (length (now (values .entry))) r (now (shifts .entry)) (now (outs .entry)) (now (replies .entry)) (kept v (now (px .exit)) (now (py .exit))) ⌝ }
     ensures { λ v. ⌜ Room (length (now (px .entry))) (length (now (outs .entry)) + length (now (shifts .entry))) v ⌝ }
 {
-    let s = push_shifts(field, pw, table, xs, cs, how, r, shifts, values, px, py);
+    let s = push_shifts(
+        field,
+        pw,
+        table,
+        ac,
+        vg,
+        how,
+        r,
+        shifts,
+        values,
+        tops,
+        bottoms,
+        behind,
+        px,
+        py,
+    );
     let Gathered::From(k) = s else {
         return Gathered::Clash;
     };
@@ -376,8 +606,8 @@ fn compare(
     field: u32,
     pw: &[u32],
     table: &[u32],
-    xs: &[u32],
-    cs: &[u32],
+    tops: &[u32],
+    inverses: &[u32],
     how: Function,
     r: u32,
     two: Inversion,
@@ -385,11 +615,11 @@ fn compare(
     finals: &[u32],
     values: &mut [u32],
 ) -> Found
-    requires { ⌜ (how .from ≤ length (now xs)) × ((length (now xs) ≤ length (now cs)) × (Clear field (now pw) (length (now table)) (now xs) how)) ⌝ }
+    requires { ⌜ (length (now finals) * length (now values) ≤ length (now tops)) × (length (now finals) * length (now values) ≤ length (now inverses)) ⌝ }
     requires { ⌜ Fits (length (now pw)) (length (now table)) how (length (now values)) ⌝ }
     requires { ⌜ Below (how .step) (now finals) ⌝ }
     requires { ⌜ inversionOf two ≡ fieldOf field .inverse 2 ⌝ }
-    ensures { λ v. ⌜ Compared field (now (pw .entry)) (now (table .entry)) (now (xs .entry)) (now (cs .entry)) how (length (now (values .entry))) r (now (coefficients .entry)) (now (finals .entry)) (placeOf v) ⌝ }
+    ensures { λ v. ⌜ placeOf v ≡ firstTrue 0 (numbered (λ i j. differsIn field (now (coefficients .entry)) (sampleBy field (now (pw .entry)) (now (table .entry)) (now (tops .entry)) (now (inverses .entry)) how (length (now (values .entry))) r i j)) 0 (now (finals .entry))) ⌝ }
 {
     let mut i = 0;
     while i < finals.len() {
@@ -397,9 +627,10 @@ fn compare(
             field,
             pw,
             table,
-            xs,
-            cs,
+            tops,
+            inverses,
             how,
+            i,
             wide(finals[i]),
             r,
             two,
@@ -419,26 +650,44 @@ pub fn first_difference(
     field: u32,
     pw: &[u32],
     table: &[u32],
-    xs: &[u32],
-    cs: &[u32],
+    ac: &[u32],
+    vg: &[u32],
     how: Function,
     r: u32,
     coefficients: &[u32],
     finals: &[u32],
     values: &mut [u32],
+    tops: &mut [u32],
+    bottoms: &mut [u32],
+    behind: &mut [u32],
 ) -> Found
-    requires { ⌜ (how .from ≤ length (now xs)) × ((length (now xs) ≤ length (now cs)) × (Clear field (now pw) (length (now table)) (now xs) how)) ⌝ }
+    requires { ⌜ (length (now ac) ≡ 66) × ((length (now vg) ≡ 132) × (Clear field (now pw) (length (now table)) (now vg) how)) ⌝ }
     requires { ⌜ Fits (length (now pw)) (length (now table)) how (length (now values)) ⌝ }
     requires { ⌜ Below (how .step) (now finals) ⌝ }
-    ensures { λ v. ⌜ Compared field (now (pw .entry)) (now (table .entry)) (now (xs .entry)) (now (cs .entry)) how (length (now (values .entry))) r (now (coefficients .entry)) (now (finals .entry)) (placeOf v) ⌝ }
+    requires { ⌜ (length (now finals) * length (now values) ≤ length (now tops)) × ((length (now finals) * length (now values) ≤ length (now bottoms)) × ((length (now finals) * length (now values) ≤ length (now behind)) × (length (now finals) ≤ 4096))) ⌝ }
+    ensures { λ v. ⌜ Compared field (now (pw .entry)) (now (table .entry)) (now (ac .entry)) (now (vg .entry)) how (length (now (values .entry))) r (now (coefficients .entry)) (now (finals .entry)) (placeOf v) ⌝ }
 {
+    let k = values.len();
+    prepare(
+        field,
+        pw,
+        table,
+        ac,
+        vg,
+        how,
+        k,
+        finals,
+        tops,
+        bottoms,
+        behind,
+    );
     let two = invert_two(field);
     compare(
         field,
         pw,
         table,
-        xs,
-        cs,
+        tops,
+        bottoms,
         how,
         r,
         two,

@@ -28,6 +28,9 @@ strided-rest f (suc n) k e =
 strided-all : (f : List ℕ) → strided f 0 1 (length f) ≡ f
 strided-all f = strided-rest f (length f) 0 (omega arith)
 
+pub table-all : (field : ℕ) (f pw : List ℕ) (at step n : ℕ) (out : List ℕ) → Table field (strided f 0 1 (length f)) pw at step n out → Table field f pw at step n out
+table-all field f pw at step n out t ω w j b = t ω w j b ∙ ap (λ (cs : List ℕ). evaluate (fieldOf field) cs (pointAt pw at step j)) (strided-all f)
+
 -- a list of the values at from, from + 1, ..
 listed : (v : ℕ → ℕ) (out : List ℕ) (from n : ℕ) → length out ≡ n → ((j : ℕ) → j < n → getD out j 0 ≡ v (from + j)) → out ≡ map v (range from n)
 unfolding range

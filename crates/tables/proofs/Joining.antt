@@ -10,6 +10,8 @@ use lib.Seq.{getD-append-add}
 use Rattle.definition.specs.Field.{Field, primeField, primeOf, fieldOf}
 use Rattle.definition.specs.Polynomial.{evaluate}
 use Rattle.algebra.specs.PrimeField.{laws}
+use Rattle.algebra.specs.Solver.{:0, _:+_, _:*_, _:=_, solve₃}
+use Rattle.domain.specs.Filled.{Filled}
 use Rattle.domain.specs.Powers.{Powers}
 use Rattle.tables.specs.Halving.{strided, Spaced, pointAt, Table, Joined}
 use Rattle.tables.proofs.EvenOdd.{even-odd}
@@ -73,3 +75,16 @@ pub constant-table : (field : ℕ) (s : List ℕ) (from stride : ℕ) (pw : List
 unfolding strided
 constant-table field s from stride pw at step n ω w j b =
     getD-replicate n j (getD s from 0 % primeOf field) 0 b ∙ constant field (getD s from 0) (pointAt pw at step j) refl
+
+-- the table of two coefficients
+pub linear-table : (field : ℕ) (s : List ℕ) (from stride : ℕ) (pw : List ℕ) (at step : ℕ) (old out : List ℕ)
+    → Filled (λ j. fieldOf field ._⊕_ (getD s from 0) (fieldOf field ._⊗_ (pointAt pw at step j) (getD s (from + stride) 0))) old out (length old)
+    → Table field (strided s from stride 2) pw at step (length old) out
+unfolding strided evaluate
+linear-table field s from stride pw at step old out t ω w j b = t .passed j b ∙ two (getD s from 0) (getD s (from + stride) 0) (pointAt pw at step j)
+  where
+    F : Field ℕ
+    F = fieldOf field
+
+    two : (c d x : ℕ) → F ._⊕_ c (F ._⊗_ x d) ≡ evaluate F (c ∷ d ∷ []) x
+    two c d x = solve₃ F (laws field) (λ c d x. c :+ x :* d := c :+ x :* (d :+ x :* :0)) tt c d x

@@ -4,7 +4,8 @@
 ghost use mathlib.Core.Path.{_≡_};
 ghost use Prim.Native.Nat.{_+_, _*_, _%_, _≤_, _<_};
 ghost use lib.ListN.{length, replicate};
-ghost use Rattle.definition.specs.Field.{primeOf, fieldOf};
+ghost use Rattle.definition.specs.Field.{Field, primeOf, fieldOf};
+ghost use Rattle.domain.specs.Filled.{Filled};
 ghost use Rattle.tables.specs.Halving.{strided, Halves, Spaced, pointAt, Table, turned, Joined};
 ghost use Rattle.tables.specs.OnDomain.{DomainTable};
 
@@ -53,6 +54,41 @@ fn join(field: u32, h: usize, pw: &[u32], at: usize, step: usize, out: &mut [u32
     }
 }
 
+// The table of a + bX.
+fn linear(field: u32, a: u32, b: u32, pw: &[u32], at: usize, step: usize, out: &mut [u32])
+    requires { ⌜ Spaced at step (length (now out)) (length (now pw)) ⌝ }
+    ensures { λ _. ⌜ Filled (λ j. fieldOf field ._⊕_ a (fieldOf field ._⊗_ (pointAt (now (pw .entry)) at step j) b)) (now (out .entry)) (now (out .exit)) (length (now (out .entry))) ⌝ }
+{
+    let mut j = 0;
+    while j < out.len() {
+        out[j] = field::add_product(field, a, point(pw, at, step, j), b);
+        j += 1;
+    }
+}
+
+// The table of one coefficient or of two.
+fn base(
+    field: u32,
+    src: &[u32],
+    from: usize,
+    stride: usize,
+    count: usize,
+    pw: &[u32],
+    at: usize,
+    step: usize,
+    out: &mut [u32],
+)
+    requires { ⌜ (from < stride) × ((stride * count ≤ length (now src)) × (count ≤ 2)) ⌝ }
+    requires { ⌜ Halves count (length (now out)) × Spaced at step (length (now out)) (length (now pw)) ⌝ }
+    ensures { λ _. ⌜ Table field (strided (now (src .entry)) from stride count) (now (pw .entry)) at step (length (now (out .entry))) (now (out .exit)) ⌝ }
+{
+    if count <= 1 {
+        fill(field, src[from], out);
+        return;
+    }
+    linear(field, src[from], src[from + stride], pw, at, step, out);
+}
+
 // The table of the polynomial whose count coefficients stand in src from place `from` on, stride places apart, over the points that stand in pw from
 // place `at` on, step places apart.
 fn table(
@@ -70,8 +106,8 @@ fn table(
     requires { ⌜ Halves count (length (now out)) × Spaced at step (length (now out)) (length (now pw)) ⌝ }
     ensures { λ _. ⌜ Table field (strided (now (src .entry)) from stride count) (now (pw .entry)) at step (length (now (out .entry))) (now (out .exit)) ⌝ }
 {
-    if count <= 1 {
-        fill(field, src[from], out);
+    if count <= 2 {
+        base(field, src, from, stride, count, pw, at, step, out);
     } else {
         let odd = from + stride;
         let stride2 = 2 * stride;
@@ -93,4 +129,12 @@ pub fn on_domain(field: u32, f: &[u32], pw: &[u32], scale: usize, out: &mut [u32
     ensures { λ _. ⌜ DomainTable field (now (f .entry)) (now (pw .entry)) scale (length (now (out .entry))) (now (out .exit)) ⌝ }
 {
     table(field, f, 0, 1, f.len(), pw, 0, scale, out);
+}
+
+// The table of f over as many points as it has coefficients, which stand in pw from place `at` on, step places apart, once round it: the roots of one point.
+pub fn on_roots(field: u32, f: &[u32], pw: &[u32], at: usize, step: usize, out: &mut [u32])
+    requires { ⌜ Halves (length (now f)) (length (now out)) × Spaced at step (length (now out)) (length (now pw)) ⌝ }
+    ensures { λ _. ⌜ Table field (now (f .entry)) (now (pw .entry)) at step (length (now (out .entry))) (now (out .exit)) ⌝ }
+{
+    table(field, f, 0, 1, f.len(), pw, at, step, out);
 }

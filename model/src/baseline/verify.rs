@@ -7,9 +7,9 @@ use crate::{Outcome, Verdict};
 const BLOCK_WORDS: usize = 127;
 const CHECK_MODULUS: u64 = 4294967291;
 /// Most samples of a round: 48 shift points and 2 out coins.
-const MOST_SAMPLES: usize = 50;
+pub(super) const MOST_SAMPLES: usize = 50;
 /// Most roots of a shift point.
-const MOST_ROOTS: usize = 16;
+pub(super) const MOST_ROOTS: usize = 16;
 
 impl<const P: u64, const TUNED: bool> Prime<P, TUNED> {
     /// A(x) and V(x) by Newton's form.
@@ -89,16 +89,16 @@ impl<const P: u64, const TUNED: bool> Prime<P, TUNED> {
 }
 
 /// The samples of a round, one for each point, with Newton's coefficients.
-struct Samples {
-    points: [u32; MOST_SAMPLES],
-    values: [u32; MOST_SAMPLES],
+pub(super) struct Samples {
+    pub(super) points: [u32; MOST_SAMPLES],
+    pub(super) values: [u32; MOST_SAMPLES],
     coefficients: [u32; MOST_SAMPLES],
-    count: usize,
+    pub(super) count: usize,
     coin: u32,
 }
 
 impl Samples {
-    fn new() -> Self {
+    pub(super) fn new() -> Self {
         Samples {
             points: [0; MOST_SAMPLES],
             values: [0; MOST_SAMPLES],
@@ -109,7 +109,7 @@ impl Samples {
     }
 
     /// False where the point is there with another value.
-    fn push(&mut self, point: u32, value: u32) -> bool {
+    pub(super) fn push(&mut self, point: u32, value: u32) -> bool {
         match self.points[..self.count].iter().position(|&x| x == point) {
             Some(i) => self.values[i] == value,
             None => {
@@ -192,7 +192,7 @@ impl<const P: u64, const TUNED: bool> Function<'_, P, TUNED> {
     }
 }
 
-fn refused(number: u32, place: usize, reads: usize) -> Verdict {
+pub(super) fn refused(number: u32, place: usize, reads: usize) -> Verdict {
     Verdict {
         outcome: Outcome::Refused {
             number,
@@ -257,30 +257,49 @@ fn out_of_range(sheet: &Sheet, words: &[u32]) -> Option<usize> {
     None
 }
 
-/// Judges a file as the proved code does.
-pub fn verify<const TUNED: bool>(file: &[u8]) -> Verdict {
+/// Refusals 1 to 6: the sheet and the words of a file that passes them.
+pub(super) fn read(file: &[u8]) -> Result<(Sheet, Vec<u32>), Verdict> {
     if file.is_empty() || file.len() % 512 != 0 {
-        return refused(1, 0, 0);
+        return Err(refused(1, 0, 0));
     }
-    let words = match load(file) {
-        Ok(words) => words,
-        Err(block) => return refused(2, block, 0),
-    };
-    let sheet = match Sheet::read(words[..SHEET_WORDS].try_into().expect("twelve words")) {
-        Ok(sheet) => sheet,
-        Err(place) => return refused(3, place, 0),
-    };
+    let words = load(file).map_err(|block| refused(2, block, 0))?;
+    let sheet = Sheet::read(words[..SHEET_WORDS].try_into().expect("twelve words"))
+        .map_err(|place| refused(3, place, 0))?;
     let due = words_due(&sheet);
     let blocks = due.div_ceil(BLOCK_WORDS);
     if file.len() / 512 != blocks {
-        return refused(4, blocks, 0);
+        return Err(refused(4, blocks, 0));
     }
     if let Some(place) = out_of_range(&sheet, &words) {
-        return refused(5, place, 0);
+        return Err(refused(5, place, 0));
     }
-    if let Some(fill) = words[due..].iter().position(|&word| word != 0) {
-        return refused(6, due + fill, 0);
+    match words[due..].iter().position(|&word| word != 0) {
+        Some(fill) => Err(refused(6, due + fill, 0)),
+        None => Ok((sheet, words)),
     }
+}
+
+/// Refusal 7: the first out coin that lies in its round's domain.
+pub(super) fn out_in_domain(powers: &[u32], sheet: &Sheet, words: &[u32]) -> Option<usize> {
+    let mut at = SHEET_WORDS + sheet.n0 + 1;
+    for i in 1..=sheet.rounds {
+        let outs = at + sheet.n(i);
+        for place in outs..outs + sheet.outs {
+            if powers.iter().step_by(1 << i).any(|&x| x == words[place]) {
+                return Some(place);
+            }
+        }
+        at = outs + 2 * sheet.outs + 2 + sheet.t[i - 1];
+    }
+    None
+}
+
+/// Judges a file, by Newton's form.
+pub fn verify<const TUNED: bool>(file: &[u8]) -> Verdict {
+    let (sheet, words) = match read(file) {
+        Ok(read) => read,
+        Err(verdict) => return verdict,
+    };
     match sheet.field.p {
         17 => decide(Prime::<17, TUNED>, &sheet, &words),
         65537 => decide(Prime::<65537, TUNED>, &sheet, &words),
@@ -296,15 +315,8 @@ fn decide<const P: u64, const TUNED: bool>(
     let powers = points(prime, sheet.field.g as u32, sheet.n0);
     let (k, s) = (sheet.k, sheet.outs);
 
-    let mut at = SHEET_WORDS + sheet.n0 + 1;
-    for i in 1..=sheet.rounds {
-        let outs = at + sheet.n(i);
-        for place in outs..outs + s {
-            if powers.iter().step_by(1 << i).any(|&x| x == words[place]) {
-                return refused(7, place, 0);
-            }
-        }
-        at = outs + 2 * s + 2 + sheet.t[i - 1];
+    if let Some(place) = out_in_domain(&powers, sheet, words) {
+        return refused(7, place, 0);
     }
 
     let mut function = Function {

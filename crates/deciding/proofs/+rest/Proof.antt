@@ -17,7 +17,9 @@ use Rattle.deciding.proofs.next_function.Reads as next-function-reads
 use Rattle.deciding.proofs.next_stand.Reads as next-stand-reads
 use Rattle.deciding.proofs.room.Reads as room-reads
 use Rattle.deciding.proofs.round_at.Reads as round-at-reads
-use Rattle.polynomial.proofs.coefficients.Reads as coefficients-reads
+use Rattle.deciding.proofs.correction.Reads as correction-reads
+use Rattle.lists.proofs.places.Reads as places-reads
+use Rattle.lists.proofs.double_places.Reads as double-places-reads
 use Rattle.deciding.proofs.+rest.{statement}
 use Rattle.deciding.proofs.+rest.Tie.{close}
 
@@ -40,8 +42,12 @@ calls t = (
   room-reads.Learnt,
   round-at-reads.Asked,
   round-at-reads.Learnt,
-  coefficients-reads.Asked,
-  coefficients-reads.Learnt,
+  places-reads.Asked,
+  places-reads.Learnt,
+  double-places-reads.Asked,
+  double-places-reads.Learnt,
+  correction-reads.Asked,
+  correction-reads.Learnt,
   next-function-reads.Asked,
   next-function-reads.Learnt,
   rest-below t,
@@ -108,49 +114,55 @@ rest-returns-2 t c =
     let more = not-last (st .level) (getD w 4 0) (ok .place .level) (r .before .before .before .before .before .before .if1 .left) in
     let n = r .before .before .before .before .before .next-stand in
     let q = r .round-at in
-    clash-ready w (a .pw .now) (a .xs .now) (a .cs .now) st (a .how) ok more (n .result) (n .ensures) (q .result)
+    clash-ready w (a .pw .now) (a .ac .now) (a .vg .now) st (a .how) ok more (n .result) (n .ensures) (q .result)
     (q .last .1 .1 .1 .1 .1 .1 .0) (q .last .1 .1 .1 .1 .1 .1 .1 .0) (c .enum-told .given .1) (q .ensures .0)
 
-rest-room-requires-3 : (t : ℕ) → rest-lts.Need-room-requires-3 (calls t) (rest-at t) rest.Post
-rest-room-requires-3 t c κs = search needs
+rest-places-requires : (t : ℕ) → rest-lts.Need-places-requires (calls t) (rest-at t) rest.Post
+rest-places-requires t c κs = search needs
 
-rest-shared-slice-read-coefficients : (t : ℕ) → rest-lts.Need-shared-slice-read-coefficients (calls t) (rest-at t) rest.Post
-rest-shared-slice-read-coefficients t c =
-    let s = c .before .before .before .before .before .before .before .before .before .before .before .before .before .before .before .before .before .before .before .before in
-    let a = s .args in
-    omega (arith, s .pre .1 .0 .place .sheet .long)
+rest-double-places-requires : (t : ℕ) → rest-lts.Need-double-places-requires (calls t) (rest-at t) rest.Post
+rest-double-places-requires t c κs = search needs
 
-rest-slice-aggregate-coefficients : (t : ℕ) → rest-lts.Need-slice-aggregate-coefficients (calls t) (rest-at t) rest.Post
-rest-slice-aggregate-coefficients t c = let r = c .before .before .before .before .before .before .before .before in sym (r .round-at .kept .1 .1 .1 .1 .1 .1 .0 ∙ r .before .before .before .before .room .ensures)
+rest-slice-aggregate-correction : (t : ℕ) → rest-lts.Need-slice-aggregate-correction (calls t) (rest-at t) rest.Post
+rest-slice-aggregate-correction t c = let r = c .before .before .before .before .before .before .before .before in sym (r .round-at .kept .1 .1 .1 .1 .1 .1 .0 ∙ r .before .before .before .before .room .ensures)
 
-rest-slice-aggregate-coefficients-2 : (t : ℕ) → rest-lts.Need-slice-aggregate-coefficients-2 (calls t) (rest-at t) rest.Post
-rest-slice-aggregate-coefficients-2 t c = let r = c .before .before .before .before .before .before .before .before .before in sym (r .round-at .kept .1 .1 .1 .1 .1 .1 .1 .0 ∙ r .before .before .before .room2 .ensures)
+rest-slice-aggregate-correction-2 : (t : ℕ) → rest-lts.Need-slice-aggregate-correction-2 (calls t) (rest-at t) rest.Post
+rest-slice-aggregate-correction-2 t c = let r = c .before .before .before .before .before .before .before .before .before in sym (r .round-at .kept .1 .1 .1 .1 .1 .1 .1 .0 ∙ r .before .before .before .room2 .ensures)
 
-rest-slice-aggregate-coefficients-3 : (t : ℕ) → rest-lts.Need-slice-aggregate-coefficients-3 (calls t) (rest-at t) rest.Post
-rest-slice-aggregate-coefficients-3 t c = sym (c .before .before .before .before .room3 .ensures)
+rest-slice-aggregate-correction-3 : (t : ℕ) → rest-lts.Need-slice-aggregate-correction-3 (calls t) (rest-at t) rest.Post
+rest-slice-aggregate-correction-3 t c = sym (c .before .before .before .before .places .ensures)
 
-rest-coefficients-requires : (t : ℕ) → rest-lts.Need-coefficients-requires (calls t) (rest-at t) rest.Post
-rest-coefficients-requires t c κs =
-    let r = c .before .before .before .before .before .before .before .before .before .before in
+rest-slice-aggregate-correction-4 : (t : ℕ) → rest-lts.Need-slice-aggregate-correction-4 (calls t) (rest-at t) rest.Post
+rest-slice-aggregate-correction-4 t c = sym (c .before .before .before .before .double-places .ensures)
+
+rest-correction-requires : (t : ℕ) → rest-lts.Need-correction-requires (calls t) (rest-at t) rest.Post
+rest-correction-requires t c κs =
+    let r = c .before .before .before .before .before .before .before .before .before .before .before in
     let q = r .round-at in
     let lx = q .kept .1 .1 .1 .1 .1 .1 .0 ∙ r .before .before .before .before .room .ensures in
     let ly = q .kept .1 .1 .1 .1 .1 .1 .1 .0 ∙ r .before .before .before .room2 .ensures in
-    let g = c .before .before .before .before .before .before .g .given in
     let s = r .before .before .before .before .before .before .before .before .before .before .before .before .before in
     let a = s .args in
     let w = a .w .now in
     let st = a .stand in
     let ok = s .pre .1 .0 in
     let more = not-last (st .level) (getD w 4 0) (ok .place .level) (r .before .before .before .before .before .before .if1 .left) in
-    let n = r .before .before .before .before .before .next-stand in (
-      (omega (arith, lx, room-in (q .result) (g .0 .0) (g .1) (q .ensures .1)), (ly ∙ sym lx, c .before .before .before .before .room3 .ensures ∙ sym lx)),
-      apart-ready w (a .pw .now) (a .xs .now) (a .cs .now) st (a .how) ok more (n .result) (n .ensures) (q .result)
-          (q .last .1 .1 .1 .1 .1 .1 .0) (q .last .1 .1 .1 .1 .1 .1 .1 .0) (g .0 .0) (g .1) (q .ensures .0) (ly ∙ sym lx) (s .pre .1 .1),
+    let n = r .before .before .before .before .before .next-stand in
+    let g = c .before .before .before .before .before .before .before .g .given in (
+      round-inside w st (ok .place) more,
+      (
+        (omega (arith, lx, room-in (q .result) (g .0 .0) (g .1) (q .ensures .1)), (lx, ly)),
+        (
+          (c .before .before .before .before .before .places .ensures, c .before .before .before .before .double-places .ensures),
+          apart-ready w (a .pw .now) (a .ac .now) (a .vg .now) st (a .how) ok more (n .result) (n .ensures) (q .result)
+              (q .last .1 .1 .1 .1 .1 .1 .0) (q .last .1 .1 .1 .1 .1 .1 .1 .0) (g .0 .0) (g .1) (q .ensures .0) (ly ∙ sym lx) (s .pre .1 .1),
+        ),
+      ),
     )
 
 rest-next-function-requires : (t : ℕ) → rest-lts.Need-next-function-requires (calls t) (rest-at t) rest.Post
 rest-next-function-requires t c κs =
-    let r = c .before .before .before .before .before .before .before .before .before .before .before .before in
+    let r = c .before .before .before .before .before .before .before .before .before .before .before .before .before .before in
     let s = r .before .before .before .before .before .before .before .before .before .before .before .before .before in
     let a = s .args in
     let w = a .w .now in
@@ -160,14 +172,17 @@ rest-next-function-requires t c κs =
     (round-inside w st (ok .place) more, omega (arith, scale-small w st (ok .place) (a .how .scale) (ok .scale)))
 
 rest-slice-aggregate-rest : (t : ℕ) → rest-lts.Need-slice-aggregate-rest (calls t) (rest-at t) rest.Post
-rest-slice-aggregate-rest t c = let r = c .before .before .before .before .before .before .before .before .before .before .before .before .before .before in sym (r .round-at .kept .1 .1 .1 .1 .1 .1 .0 ∙ r .before .before .before .before .room .ensures)
+rest-slice-aggregate-rest t c = sym (c .before .before .before .before .correction .kept .1 .1 .1 .1 .1 .0 ∙ c .before .before .before .before .before .before .before .before .before .before .places .ensures)
 
 rest-slice-aggregate-rest-2 : (t : ℕ) → rest-lts.Need-slice-aggregate-rest-2 (calls t) (rest-at t) rest.Post
-rest-slice-aggregate-rest-2 t c = sym (c .before .before .before .before .coefficients .kept .1 .1 .1 .1 .0 ∙ c .before .before .before .before .before .before .before .before .before .room3 .ensures)
+rest-slice-aggregate-rest-2 t c = sym (c .before .before .before .before .before .correction .kept .1 .1 .1 .1 .1 .1 .0 ∙ c .before .before .before .before .before .before .before .before .before .before .double-places .ensures)
 
 rest-rest-requires : (t : ℕ) → rest-lts.Need-rest-requires (calls t) (rest-at t) rest.Post
 rest-rest-requires t c κs =
-    let r = c .before .before .before .before .before .before .before .before .before .before .before .before .before .before .before in
+    let r = c .before .before .before .before .before .before .before .before .before .before .before .before .before .before .before .before .before in
+    let q = r .round-at in
+    let lx = q .kept .1 .1 .1 .1 .1 .1 .0 ∙ r .before .before .before .before .room .ensures in
+    let ly = q .kept .1 .1 .1 .1 .1 .1 .1 .0 ∙ r .before .before .before .room2 .ensures in
     let s = r .before .before .before .before .before .before .before .before .before .before .before .before .before in
     let a = s .args in
     let w = a .w .now in
@@ -175,24 +190,24 @@ rest-rest-requires t c κs =
     let ok = s .pre .1 .0 in
     let more = not-last (st .level) (getD w 4 0) (ok .place .level) (r .before .before .before .before .before .before .if1 .left) in
     let n = r .before .before .before .before .before .next-stand in
-    let q = r .round-at in
     let px = q .last .1 .1 .1 .1 .1 .1 .0 in
     let py = q .last .1 .1 .1 .1 .1 .1 .1 .0 in
-    let lx = q .kept .1 .1 .1 .1 .1 .1 .0 ∙ r .before .before .before .before .room .ensures in
-    let ly = q .kept .1 .1 .1 .1 .1 .1 .1 .0 ∙ r .before .before .before .room2 .ensures in
-    let k = c .before .before .before .before .coefficients in
-    let lc = k .kept .1 .1 .1 .1 .0 ∙ c .before .before .before .before .before .before .before .before .before .room3 .ensures in
-    let g = c .before .before .before .before .before .before .before .before .before .before .before .g .given in
-    let h = c .before .before .next-function in
-    let inside : g .0 .0 ≤ length px = omega (arith, lx, room-in (q .result) (g .0 .0) (g .1) (q .ensures .1)) in (
+    let k = c .before .before .before .before .before .correction in
+    let la = k .kept .1 .1 .1 .1 .1 .0 ∙ c .before .before .before .before .before .before .before .before .before .before .before .places .ensures in
+    let lv = k .kept .1 .1 .1 .1 .1 .1 .0 ∙ c .before .before .before .before .before .before .before .before .before .before .double-places .ensures in
+    let g = c .before .before .before .before .before .before .before .before .before .before .before .before .before .g .given in
+    let h = c .before .before .next-function in (
       omega (arith, s .pre .0, level-next w st (n .result) (n .ensures), more, ok .place .sheet .rounds),
-      next-ready w (a .pw .now) (a .xs .now) (a .cs .now) st (a .how) ok more (n .result) (n .ensures) (q .result) (g .0 .0) (h .result) (h .ensures)
-          px py (k .last .1 .1 .1 .1 .0) (g .1) (q .ensures .0) inside (ly ∙ sym lx) (lc ∙ sym lx) (k .ensures) (s .pre .1 .1),
+      next-ready w (a .pw .now) (a .ac .now) (a .vg .now) st (a .how) ok more (n .result) (n .ensures) (q .result) (g .0 .0) (k .result) (h .result) (h .ensures)
+          px py (k .last .1 .1 .1 .1 .1 .0) (k .last .1 .1 .1 .1 .1 .1 .0) (g .1) (q .ensures .0) la lv (k .ensures .0) (k .ensures .1) (ly ∙ sym lx) (s .pre .1 .1),
     )
 
 rest-returns-3 : (t : ℕ) → rest-lts.Need-returns-3 (calls t) (rest-at t) rest.Post
 rest-returns-3 t c =
-    let r = c .before .before .before .before .before .before .before .before .before .before .before .before .before .before .before .before in
+    let r = c .before .before .before .before .before .before .before .before .before .before .before .before .before .before .before .before .before .before in
+    let q = r .round-at in
+    let lx = q .kept .1 .1 .1 .1 .1 .1 .0 ∙ r .before .before .before .before .room .ensures in
+    let ly = q .kept .1 .1 .1 .1 .1 .1 .1 .0 ∙ r .before .before .before .room2 .ensures in
     let s = r .before .before .before .before .before .before .before .before .before .before .before .before .before in
     let a = s .args in
     let w = a .w .now in
@@ -200,18 +215,15 @@ rest-returns-3 t c =
     let ok = s .pre .1 .0 in
     let more = not-last (st .level) (getD w 4 0) (ok .place .level) (r .before .before .before .before .before .before .if1 .left) in
     let n = r .before .before .before .before .before .next-stand in
-    let q = r .round-at in
     let px = q .last .1 .1 .1 .1 .1 .1 .0 in
     let py = q .last .1 .1 .1 .1 .1 .1 .1 .0 in
-    let lx = q .kept .1 .1 .1 .1 .1 .1 .0 ∙ r .before .before .before .before .room .ensures in
-    let ly = q .kept .1 .1 .1 .1 .1 .1 .1 .0 ∙ r .before .before .before .room2 .ensures in
-    let k = c .before .before .before .before .before .coefficients in
-    let lc = k .kept .1 .1 .1 .1 .0 ∙ c .before .before .before .before .before .before .before .before .before .before .room3 .ensures in
-    let g = c .before .before .before .before .before .before .before .before .before .before .before .before .g .given in
+    let k = c .before .before .before .before .before .before .correction in
+    let la = k .kept .1 .1 .1 .1 .1 .0 ∙ c .before .before .before .before .before .before .before .before .before .before .before .before .places .ensures in
+    let lv = k .kept .1 .1 .1 .1 .1 .1 .0 ∙ c .before .before .before .before .before .before .before .before .before .before .before .double-places .ensures in
+    let g = c .before .before .before .before .before .before .before .before .before .before .before .before .before .before .g .given in
     let h = c .before .before .before .next-function in
-    let inside : g .0 .0 ≤ length px = omega (arith, lx, room-in (q .result) (g .0 .0) (g .1) (q .ensures .1)) in
-    next-decided w (a .pw .now) (a .xs .now) (a .cs .now) st (a .how) ok more (n .result) (n .ensures) (q .result) (g .0 .0) (h .result) (h .ensures)
-    px py (k .last .1 .1 .1 .1 .0) (g .1) (q .ensures .0) inside (ly ∙ sym lx) (lc ∙ sym lx) (k .ensures) (c .rest .ensures)
+    next-decided w (a .pw .now) (a .ac .now) (a .vg .now) st (a .how) ok more (n .result) (n .ensures) (q .result) (g .0 .0) (k .result) (h .result) (h .ensures)
+    px py (k .last .1 .1 .1 .1 .1 .0) (k .last .1 .1 .1 .1 .1 .1 .0) (g .1) (q .ensures .0) la lv (k .ensures .0) (k .ensures .1) (c .rest .ensures)
 
 pub +rest-spec : {M : Type 1} → statement M
 +rest-spec = close μ-rest λ t. rest-lts.spec (calls t)
@@ -230,12 +242,13 @@ pub +rest-spec : {M : Type 1} → statement M
     (rest-enum-known-g t)
     (rest-enum-told t)
     (rest-returns-2 t)
-    (rest-room-requires-3 t)
-    (rest-shared-slice-read-coefficients t)
-    (rest-slice-aggregate-coefficients t)
-    (rest-slice-aggregate-coefficients-2 t)
-    (rest-slice-aggregate-coefficients-3 t)
-    (rest-coefficients-requires t)
+    (rest-places-requires t)
+    (rest-double-places-requires t)
+    (rest-slice-aggregate-correction t)
+    (rest-slice-aggregate-correction-2 t)
+    (rest-slice-aggregate-correction-3 t)
+    (rest-slice-aggregate-correction-4 t)
+    (rest-correction-requires t)
     (rest-next-function-requires t)
     (rest-slice-aggregate-rest t)
     (rest-slice-aggregate-rest-2 t)

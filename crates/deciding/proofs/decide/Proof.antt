@@ -5,17 +5,20 @@ use borrow.Author.Needs.{needs}
 use Rattle.deciding.proofs.decide.Statement.{statement}
 use Rattle.deciding.proofs.decide.Tie as tie
 
-room-requires : tie.Need-room-requires
-room-requires c κs = search needs
+places-requires : tie.Need-places-requires
+places-requires c κs = search needs
+
+double-places-requires : tie.Need-double-places-requires
+double-places-requires c κs = search needs
 
 first-stand-requires : tie.Need-first-stand-requires
 first-stand-requires c κs =
-    let s = c .before .before .before in
+    let s = c .before .before .before .before in
     let w = s .args .w .now in
     (shaped w (s .pre .0 .0) (s .pre .1 .0), first-room w (s .pre .0 .0) (s .pre .1 .0) (s .pre .0 .1))
 
 first-function-requires : tie.Need-first-function-requires
-first-function-requires c κs = let s = c .before .before .before .before in shaped (s .args .w .now) (s .pre .0 .0) (s .pre .1 .0)
+first-function-requires c κs = let s = c .before .before .before .before .before in shaped (s .args .w .now) (s .pre .0 .0) (s .pre .1 .0)
 
 slice-aggregate-rest : tie.Need-slice-aggregate-rest
 slice-aggregate-rest c = search needs
@@ -25,29 +28,32 @@ slice-aggregate-rest-2 c = search needs
 
 rest-requires : tie.Need-rest-requires
 rest-requires c κs =
-    let s = c .before .before .before .before .before .before .before in
+    let s = c .before .before .before .before .before .before .before .before in
     let a = s .args in
-    let none = c .before .before .before .before .room in
+    let ac = c .before .before .before .before .before .places in
+    let vg = c .before .before .before .before .double-places in
     let st = c .before .before .before .first-stand in
     let how = c .before .before .first-function in
-    first-ready (a .w .now) (a .pw .now) (none .result) (s .pre .0 .0) (s .pre .0 .1) (s .pre .1 .0) (s .pre .1 .1 .0 .0) (s .pre .1 .1 .0 .1) (s .pre .1 .1 .1) (none .ensures)
-    (st .result) (st .ensures) (how .result) (how .ensures)
+    first-ready (a .w .now) (a .pw .now) (ac .result) (vg .result) (s .pre .0 .0) (s .pre .0 .1) (s .pre .1 .0) (s .pre .1 .1 .0 .0) (s .pre .1 .1 .0 .1) (s .pre .1 .1 .1)
+    (st .result) (st .ensures) (how .result) (how .ensures) (ac .ensures) (vg .ensures)
 
 returns : tie.Need-returns
 returns c =
-    let s = c .before .before .before .before .before .before .before .before in
+    let s = c .before .before .before .before .before .before .before .before .before in
     let a = s .args in
-    let none = c .before .before .before .before .before .room in
+    let ac = c .before .before .before .before .before .before .places in
+    let vg = c .before .before .before .before .before .double-places in
     let st = c .before .before .before .before .first-stand in
     let how = c .before .before .before .first-function in
-    first-decided (a .w .now) (a .pw .now) (none .result) (s .pre .0 .0) (s .pre .0 .1) (s .pre .1 .0) (s .pre .1 .1 .0 .0) (s .pre .1 .1 .0 .1) (s .pre .1 .1 .1) (none .ensures)
+    first-decided (a .w .now) (a .pw .now) (ac .result) (vg .result) (s .pre .0 .0) (s .pre .0 .1) (s .pre .1 .0) (s .pre .1 .1 .0 .0) (s .pre .1 .1 .0 .1) (s .pre .1 .1 .1)
     (st .result) (st .ensures) (how .result) (how .ensures) (c .rest .ensures)
 
 pub decide-spec : {M : Type 1} → statement M
 decide-spec =
     tie.close
     (tie.spec
-    room-requires
+    places-requires
+    double-places-requires
     first-stand-requires
     first-function-requires
     slice-aggregate-rest

@@ -61,7 +61,7 @@ difference-requires c κs =
     let ok = s .pre .0 in
     let r = final-ready (a .w .now) (a .stand) (a .how) ok (s .pre .1 .0) (c .before .before .before .part .result .now) (c .part3 .result .now) (c .before .before .before .part .ensures) (c .part3 .ensures) in
     let p = c .before .before .before .part in
-    ((ok .from, (ok .enough, clear-table (a .w .now) (a .stand) (a .how) ok (a .pw .now) (a .xs .now) (p .result .now) (p .ensures) (s .pre .1 .1))), (r .0, r .1))
+    ((ok .in-answers, (ok .in-factors, clear-table (a .w .now) (a .stand) (a .how) ok (a .pw .now) (a .vg .now) (p .result .now) (p .ensures) (s .pre .1 .1))), (r .0, r .1))
 
 returns : tie.Need-returns
 unfolding tableOf coefficientsOf finalsOf
@@ -70,7 +70,7 @@ returns c =
     let p₁ = c .before .before .before .before .part in
     let p₂ = c .before .before .before .part2 in
     let p₃ = c .before .part3 in
-    differing-parts (a .w .now) (a .pw .now) (a .xs .now) (a .cs .now) (a .stand) (a .how) (p₁ .result .now) (p₁ .ensures)
+    differing-parts (a .w .now) (a .pw .now) (a .ac .now) (a .vg .now) (a .stand) (a .how) (p₁ .result .now) (p₁ .ensures)
     (p₂ .result .now) (p₃ .result .now) (p₂ .ensures) (p₃ .ensures) (c .difference .ensures)
 
 pub final-at-spec : {M : Type 1} → statement M

@@ -27,8 +27,8 @@ add-t13 c =
     let s = c .before .before .before .before .before .before .before .before .before in
     let a = s .args in
     let q = c .before .before .before .before .final-at in
-    let e = differing-at (a .w .now) (a .pw .now) (a .xs .now) (a .cs .now) (a .stand) (a .how) (c .before .f .given .1) (q .ensures) in
-    let few = place-few (a .w .now) (a .pw .now) (a .xs .now) (a .cs .now) (a .stand) (a .how) (s .pre .0) (s .pre .1 .1) _ e (s .pre .1 .0) in
+    let e = differing-at (a .w .now) (a .pw .now) (a .ac .now) (a .vg .now) (a .stand) (a .how) (c .before .f .given .1) (q .ensures) in
+    let few = place-few (a .w .now) (a .pw .now) (a .ac .now) (a .vg .now) (a .stand) (a .how) (s .pre .0) (s .pre .1 .1) _ e (s .pre .1 .0) in
     omega (arith, few)
 
 mul-t14 : tie.Need-mul-t14
@@ -36,8 +36,8 @@ mul-t14 c =
     let s = c .before .before .before .before .before .before .before .before .before in
     let a = s .args in
     let q = c .before .before .before .before .final-at in
-    let e = differing-at (a .w .now) (a .pw .now) (a .xs .now) (a .cs .now) (a .stand) (a .how) (c .before .f .given .1) (q .ensures) in
-    let few = place-few (a .w .now) (a .pw .now) (a .xs .now) (a .cs .now) (a .stand) (a .how) (s .pre .0) (s .pre .1 .1) _ e (s .pre .1 .0) in
+    let e = differing-at (a .w .now) (a .pw .now) (a .ac .now) (a .vg .now) (a .stand) (a .how) (c .before .f .given .1) (q .ensures) in
+    let few = place-few (a .w .now) (a .pw .now) (a .ac .now) (a .vg .now) (a .stand) (a .how) (s .pre .0) (s .pre .1 .1) _ e (s .pre .1 .0) in
     omega (arith, reads-most (c .before .f .given .0 .0 + 1) (getD (a .w .now) 3 0) (omega (arith, few)) (s .pre .0 .place .sheet .folds))
 
 add-t15 : tie.Need-add-t15
@@ -45,8 +45,8 @@ add-t15 c =
     let s = c .before .before .before .before .before .before .before .before .before .before in
     let a = s .args in
     let q = c .before .before .before .before .before .final-at in
-    let e = differing-at (a .w .now) (a .pw .now) (a .xs .now) (a .cs .now) (a .stand) (a .how) (c .before .before .f .given .1) (q .ensures) in
-    let few = place-few (a .w .now) (a .pw .now) (a .xs .now) (a .cs .now) (a .stand) (a .how) (s .pre .0) (s .pre .1 .1) _ e (s .pre .1 .0) in
+    let e = differing-at (a .w .now) (a .pw .now) (a .ac .now) (a .vg .now) (a .stand) (a .how) (c .before .before .f .given .1) (q .ensures) in
+    let few = place-few (a .w .now) (a .pw .now) (a .ac .now) (a .vg .now) (a .stand) (a .how) (s .pre .0) (s .pre .1 .1) _ e (s .pre .1 .0) in
     let i = final-inside (a .w .now) (a .stand) (s .pre .0 .place) (s .pre .1 .1) in
     omega (arith, i .reads, reads-most (c .before .before .f .given .0 .0 + 1) (getD (a .w .now) 3 0) (omega (arith, few)) (s .pre .0 .place .sheet .folds))
 
@@ -55,8 +55,8 @@ unfolding verdictOf outcomeOf
 returns c =
     let s = c .before .before .before .before .before .before .before .before .before .before in
     let a = s .args in
-    differ-step (a .w .now) (a .pw .now) (a .xs .now) (a .cs .now) (a .stand) (a .how) (s .pre .0) (s .pre .1 .1) (c .before .before .f .given .0 .0)
-    (differing-at (a .w .now) (a .pw .now) (a .xs .now) (a .cs .now) (a .stand) (a .how) (c .before .before .f .given .1) (c .before .before .before .before .before .final-at .ensures))
+    differ-step (a .w .now) (a .pw .now) (a .ac .now) (a .vg .now) (a .stand) (a .how) (s .pre .0) (s .pre .1 .1) (c .before .before .f .given .0 .0)
+    (differing-at (a .w .now) (a .pw .now) (a .ac .now) (a .vg .now) (a .stand) (a .how) (c .before .before .f .given .1) (c .before .before .before .before .before .final-at .ensures))
 
 enum-told : tie.Need-enum-told
 enum-told c = search needs
@@ -90,8 +90,8 @@ unfolding verdictOf outcomeOf
 returns-2 c =
     let s = c .before .before .before .before .before .before .before .before .before .before .before in
     let a = s .args in
-    same-step (a .w .now) (a .pw .now) (a .xs .now) (a .cs .now) (a .stand) (a .how) (s .pre .0) (s .pre .1 .1)
-    (differing-nowhere (a .w .now) (a .pw .now) (a .xs .now) (a .cs .now) (a .stand) (a .how) (c .before .before .before .enum-told .given .1) (c .before .before .before .before .before .before .final-at .ensures))
+    same-step (a .w .now) (a .pw .now) (a .ac .now) (a .vg .now) (a .stand) (a .how) (s .pre .0) (s .pre .1 .1)
+    (differing-nowhere (a .w .now) (a .pw .now) (a .ac .now) (a .vg .now) (a .stand) (a .how) (c .before .before .before .enum-told .given .1) (c .before .before .before .before .before .before .final-at .ensures))
 
 pub last-spec : {M : Type 1} → statement M
 last-spec =

@@ -81,8 +81,8 @@ answer-requires c κs =
     let p₄ = c .before .before .part4 in
     let r = answer-ready (a .w .now) (a .stand) (a .how) ok (s .pre .1 .0) (p₁ .result .now) (p₂ .result .now) (p₃ .result .now) (p₄ .result .now)
     (p₁ .ensures) (p₂ .ensures) (p₃ .ensures) (p₄ .ensures) in
-    let clear = clear-table (a .w .now) (a .stand) (a .how) ok (a .pw .now) (a .xs .now) (p₁ .result .now) (p₁ .ensures) (s .pre .1 .1 .1) in
-    ((ok .from, (ok .enough, clear)), (r .0, (r .1 .0, (omega (arith, s .pre .1 .1 .0), (r .1 .1 .0, omega (arith, s .pre .1 .1 .0, r .1 .1 .1))))))
+    let clear = clear-table (a .w .now) (a .stand) (a .how) ok (a .pw .now) (a .vg .now) (p₁ .result .now) (p₁ .ensures) (s .pre .1 .1 .1) in
+    ((ok .in-answers, (ok .in-factors, clear)), (r .0, (r .1 .0, ((omega (arith, s .pre .1 .1 .0), (r .1 .1 .0, omega (arith, s .pre .1 .1 .0, r .1 .1 .1))), omega (arith, s .pre .1 .1 .0)))))
 
 same-length : tie.Need-same-length
 same-length c = search needs
@@ -103,7 +103,7 @@ returns c =
     let q = c .before .before .before .before .answer in
     let r = answer-ready (a .w .now) (a .stand) (a .how) ok (s .pre .1 .0) (p₁ .result .now) (p₂ .result .now) (p₃ .result .now) (p₄ .result .now)
     (p₁ .ensures) (p₂ .ensures) (p₃ .ensures) (p₄ .ensures) in (
-      sifted-parts (a .w .now) (a .pw .now) (a .xs .now) (a .cs .now) (a .stand) (a .how) (p₁ .result .now) (p₁ .ensures)
+      sifted-parts (a .w .now) (a .pw .now) (a .ac .now) (a .vg .now) (a .stand) (a .how) (p₁ .result .now) (p₁ .ensures)
           (p₂ .result .now) (p₃ .result .now) (p₄ .result .now) (p₂ .ensures) (p₃ .ensures) (p₄ .ensures) (q .ensures .0),
       room-most (length (a .px .now)) (length (p₃ .result .now) + length (p₂ .result .now)) (q .result) (s .pre .1 .1 .0 .0) (r .1 .1 .1) (q .ensures .1),
     )

@@ -6,8 +6,8 @@ use mathlib.Core.Path.{_∙_, refl, subst, sym}
 use lib.ListN.{length, getD, take}
 use lib.Seq.{length-take-le}
 use borrow.Author.Needs.{needs}
-use Rattle.honest_round.specs.Sizes.{sizes}
-use Rattle.honest_round.specs.Standing.{DealtFrom}
+use Rattle.honest_words.specs.Sizes.{sizes}
+use Rattle.honest_words.specs.Standing.{DealtFrom}
 use Rattle.honest.proofs.Onward.{Onward, all-left, not-last, onward, words-end, words-join, words-last}
 use Rattle.domain.specs.Parts.{begun-long, filled-long, joined, others-long}
 use borrow.Fn.Kinds.{In}
@@ -23,14 +23,14 @@ use Rattle.honest_round.proofs.step.Reads as step-reads
 use Rattle.honest.proofs.+rest.{statement}
 use Rattle.honest.proofs.+rest.Tie.{close}
 
-abbrev μ-rest : Measures 6 rest-kinds.ps ℕ
+abbrev μ-rest : Measures 5 rest-kinds.ps ℕ
 μ-rest κs a = 6 - a .1 .1 .0
 
-abbrev rest-at : ℕ → In 6 rest-kinds.ps
-rest-at t = and 6 rest-kinds.ps (is 6 rest-kinds.ps μ-rest t) rest.Pre
+abbrev rest-at : ℕ → In 5 rest-kinds.ps
+rest-at t = and 5 rest-kinds.ps (is 5 rest-kinds.ps μ-rest t) rest.Pre
 
-abbrev rest-below : ℕ → In 6 rest-kinds.ps
-rest-below t = and 6 rest-kinds.ps (falls 6 rest-kinds.ps _<_ μ-rest t) rest.Pre
+abbrev rest-below : ℕ → In 5 rest-kinds.ps
+rest-below t = and 5 rest-kinds.ps (falls 5 rest-kinds.ps _<_ μ-rest t) rest.Pre
 
 -- the contracts of what is called, the function's own at fewer levels to come among them
 abbrev calls : ℕ → rest-lts.Claims
@@ -51,11 +51,11 @@ calls t = (
 
 -- what is known once the numbers of the round are worked out
 ahead : (t : ℕ) (c : rest-lts.After-round-words (calls t) (rest-at t) rest.Post) →
-    let a = c .before .before .before .before .before .before .before .before .before .before .before .args in
+    let a = c .before .before .before .before .before .before .before .before .before .before .args in
     Onward (a .w .now) (a .pw .now) (a .level) (a .scale) (a .d) (a .coins .now) (length (a .out .now))
     (c .before .before .fold-length .result) (c .before .round-coins .result) (c .round-words .result)
 ahead t c =
-    let s = c .before .before .before .before .before .before .before .before .before .before .before in
+    let s = c .before .before .before .before .before .before .before .before .before .before in
     let a = s .args in
     let more = not-last (a .level) (getD (a .w .now) 4 0) (s .pre .1 .0 .0 .level) (c .before .before .before .if1 .left) in
     onward (a .w .now) (a .pw .now) (a .level) (a .scale) (a .d) (a .coins .now) (length (a .out .now))
@@ -63,48 +63,48 @@ ahead t c =
     (s .pre .1 .0 .0) (s .pre .1 .1 .0) (s .pre .1 .1 .1) more (c .before .before .fold-length .ensures) (c .before .round-coins .ensures) (c .round-words .ensures)
 
 rest-shared-slice-read-if1 : (t : ℕ) → rest-lts.Need-shared-slice-read-if1 (calls t) (rest-at t) rest.Post
-rest-shared-slice-read-if1 t c = omega (arith, c .before .before .before .before .before .before .before .pre .1 .0 .0 .long)
+rest-shared-slice-read-if1 t c = omega (arith, c .before .before .before .before .before .before .pre .1 .0 .0 .long)
 
 rest-cast-if1 : (t : ℕ) → rest-lts.Need-cast-if1 (calls t) (rest-at t) rest.Post
 rest-cast-if1 t c =
-    let s = c .before .before .before .before .before .before .before in
+    let s = c .before .before .before .before .before .before in
     let a = s .args in
     let z = sizes (a .w .now) (a .pw .now) (a .level) (a .scale) (getD (a .w .now) 3 0 * a .d) (s .pre .1 .0 .0) in
     omega (arith, z .rounds)
 
 rest-slice-reshare-prefix-finals : (t : ℕ) → rest-lts.Need-slice-reshare-prefix-finals (calls t) (rest-at t) rest.Post
-rest-slice-reshare-prefix-finals t c = c .before .before .before .before .before .before .before .before .pre .1 .0 .1 .0
+rest-slice-reshare-prefix-finals t c = c .before .before .before .before .before .before .before .pre .1 .0 .1
 
 rest-slice-aggregate-finals : (t : ℕ) → rest-lts.Need-slice-aggregate-finals (calls t) (rest-at t) rest.Post
 rest-slice-aggregate-finals t c =
-    let s = c .before .before .before .before .before .before .before .before .before in
-    sym (length-take-le (s .args .d) (s .args .g .now) (s .pre .1 .0 .1 .0))
+    let s = c .before .before .before .before .before .before .before .before in
+    sym (length-take-le (s .args .d) (s .args .g .now) (s .pre .1 .0 .1))
 
 rest-finals-requires : (t : ℕ) → rest-lts.Need-finals-requires (calls t) (rest-at t) rest.Post
 rest-finals-requires t c κs =
-    let s = c .before .before .before .before .before .before .before .before .before .before in
+    let s = c .before .before .before .before .before .before .before .before .before in
     let a = s .args in
-    let n = length-take-le (a .d) (a .g .now) (s .pre .1 .0 .1 .0) in
+    let n = length-take-le (a .d) (a .g .now) (s .pre .1 .0 .1) in
     let e = words-last (a .w .now) (a .pw .now) (a .level) (a .scale) (a .d) (a .coins .now) (length (a .out .now)) (s .pre .1 .0 .0) (s .pre .1 .1 .0) (s .pre .1 .1 .1) (c .before .before .if1 .taken) in
     omega (arith, n, e)
 
 rest-fold-length-requires : (t : ℕ) → rest-lts.Need-fold-length-requires (calls t) (rest-at t) rest.Post
 rest-fold-length-requires t c κs =
-    let s = c .before .before .before .before .before .before .before .before in
+    let s = c .before .before .before .before .before .before .before in
     let a = s .args in
     let z = sizes (a .w .now) (a .pw .now) (a .level) (a .scale) (getD (a .w .now) 3 0 * a .d) (s .pre .1 .0 .0) in
     (s .pre .1 .0 .0 .long, (omega (arith, z .fold), z .folds))
 
 rest-round-coins-requires : (t : ℕ) → rest-lts.Need-round-coins-requires (calls t) (rest-at t) rest.Post
 rest-round-coins-requires t c κs =
-    let s = c .before .before .before .before .before .before .before .before .before in
+    let s = c .before .before .before .before .before .before .before .before in
     let a = s .args in
     let z = sizes (a .w .now) (a .pw .now) (a .level) (a .scale) (getD (a .w .now) 3 0 * a .d) (s .pre .1 .0 .0) in
     (s .pre .1 .0 .0 .long, (omega (arith, s .pre .1 .0 .0 .level, z .rounds), (z .outs, z .repetitions)))
 
 rest-round-words-requires : (t : ℕ) → rest-lts.Need-round-words-requires (calls t) (rest-at t) rest.Post
 rest-round-words-requires t c κs =
-    let s = c .before .before .before .before .before .before .before .before .before .before in
+    let s = c .before .before .before .before .before .before .before .before .before in
     let a = s .args in
     let z = sizes (a .w .now) (a .pw .now) (a .level) (a .scale) (getD (a .w .now) 3 0 * a .d) (s .pre .1 .0 .0) in (
       (s .pre .1 .0 .0 .long, (omega (arith, s .pre .1 .0 .0 .level, z .rounds), (z .outs, z .repetitions))),
@@ -112,82 +112,81 @@ rest-round-words-requires t c κs =
     )
 
 rest-slice-relend-prefix-step : (t : ℕ) → rest-lts.Need-slice-relend-prefix-step (calls t) (rest-at t) rest.Post
-rest-slice-relend-prefix-step t c = ahead t (c .before .before) .within
+rest-slice-relend-prefix-step t c = ahead t (c .before) .within
 
 rest-slice-aggregate-step : (t : ℕ) → rest-lts.Need-slice-aggregate-step (calls t) (rest-at t) rest.Post
-rest-slice-aggregate-step t c = sym (length-take-le (c .before .before .before .round-words .result) (c .before .before .before .before .before .before .before .before .before .before .before .before .before .before .args .out .now) (ahead t (c .before .before .before) .within))
+rest-slice-aggregate-step t c = sym (length-take-le (c .before .before .round-words .result) (c .before .before .before .before .before .before .before .before .before .before .before .before .args .out .now) (ahead t (c .before .before) .within))
 
 rest-step-requires : (t : ℕ) → rest-lts.Need-step-requires (calls t) (rest-at t) rest.Post
 rest-step-requires t c κs =
-    let s = c .before .before .before .before .before .before .before .before .before .before .before .before .before .before in
-    let o = ahead t (c .before .before .before) in
-    ((s .pre .1 .0 .0, (o .more, o .fold)), ((o .round, s .pre .1 .0 .1), length-take-le (c .before .before .before .round-words .result) (s .args .out .now) (o .within) ∙ o .words))
+    let s = c .before .before .before .before .before .before .before .before .before .before .before .before in
+    let o = ahead t (c .before .before) in
+    ((s .pre .1 .0 .0, (o .more, o .fold)), ((o .round, s .pre .1 .0 .1), length-take-le (c .before .before .round-words .result) (s .args .out .now) (o .within) ∙ o .words))
 
 rest-add-rest : (t : ℕ) → rest-lts.Need-add-rest (calls t) (rest-at t) rest.Post
 rest-add-rest t c =
-    let s = c .before .before .before .before .before .before .before .before .before .before .before .before .before .before .before .before .before .before .before .before .before in
+    let s = c .before .before .before .before .before .before .before .before .before .before .before .before .before .before .before .before .before in
     let a = s .args in
     let z = sizes (a .w .now) (a .pw .now) (a .level) (a .scale) (getD (a .w .now) 3 0 * a .d) (s .pre .1 .0 .0) in
     omega (arith, s .pre .1 .0 .0 .level, z .rounds)
 
 rest-mul-rest : (t : ℕ) → rest-lts.Need-mul-rest (calls t) (rest-at t) rest.Post
 rest-mul-rest t c =
-    let s = c .before .before .before .before .before .before .before .before .before .before .before .before .before .before .before .before .before .before .before .before .before in
+    let s = c .before .before .before .before .before .before .before .before .before .before .before .before .before .before .before .before .before in
     let a = s .args in
     let z = sizes (a .w .now) (a .pw .now) (a .level) (a .scale) (getD (a .w .now) 3 0 * a .d) (s .pre .1 .0 .0) in
     omega (arith, z .small)
 
 rest-mul-rest-2 : (t : ℕ) → rest-lts.Need-mul-rest-2 (calls t) (rest-at t) rest.Post
-rest-mul-rest-2 t c = omega (arith, ahead t (c .before .before .before .before .before .before .before .before .before .before) .few)
+rest-mul-rest-2 t c = omega (arith, ahead t (c .before .before .before .before .before .before .before) .few)
 
 rest-sub-rest : (t : ℕ) → rest-lts.Need-sub-rest (calls t) (rest-at t) rest.Post
-rest-sub-rest t c = ahead t (c .before .before .before .before .before .before .before .before .before .before) .inside
+rest-sub-rest t c = ahead t (c .before .before .before .before .before .before .before) .inside
 
 rest-part-rest-start : (t : ℕ) → rest-lts.Need-part-rest-start (calls t) (rest-at t) rest.Post
-rest-part-rest-start t c = ahead t (c .before .before .before .before .before .before .before .before .before .before) .inside
+rest-part-rest-start t c = ahead t (c .before .before .before .before .before .before .before) .inside
 
 rest-part-rest-end : (t : ℕ) → rest-lts.Need-part-rest-end (calls t) (rest-at t) rest.Post
 rest-part-rest-end t c = search needs
 
 rest-mul-rest-3 : (t : ℕ) → rest-lts.Need-mul-rest-3 (calls t) (rest-at t) rest.Post
-rest-mul-rest-3 t c = omega (arith, ahead t (c .before .before .before .before .before .before .before .before .before .before .before .before .before) .short)
+rest-mul-rest-3 t c = omega (arith, ahead t (c .before .before .before .before .before .before .before .before .before) .short)
 
 rest-sub-rest-2 : (t : ℕ) → rest-lts.Need-sub-rest-2 (calls t) (rest-at t) rest.Post
 rest-sub-rest-2 t c =
-    let s = c .before .before .before .before .before .before .before .before .before .before .before .before .before .before .before .before .before .before .before .before .before .before .before .before in
+    let s = c .before .before .before .before .before .before .before .before .before .before .before .before .before .before .before .before .before .before .before in
     let a = s .args in
-    let o = ahead t (c .before .before .before .before .before .before .before .before .before .before .before .before .before) in
-    let n = c .before .before .before .before .before .before .before .before .before .before .before .before .before .round-words .result in
-    let q = c .before .before .before .before .before .before .before .before .before .step in
-    omega (arith, o .within, begun-long (a .out .now) (q .last .1 .1 .1 .1 .1 .1 .1 .1 .1 .0) n (o .within) (q .kept .1 .1 .1 .1 .1 .1 .1 .1 .1 .0))
+    let o = ahead t (c .before .before .before .before .before .before .before .before .before) in
+    let n = c .before .before .before .before .before .before .before .before .before .round-words .result in
+    let q = c .before .before .before .before .before .before .step in
+    omega (arith, o .within, begun-long (a .out .now) (q .last .1 .1 .1 .1 .1 .1 .1 .1 .0) n (o .within) (q .kept .1 .1 .1 .1 .1 .1 .1 .1 .0))
 
 rest-part-rest-start-2 : (t : ℕ) → rest-lts.Need-part-rest-start-2 (calls t) (rest-at t) rest.Post
 rest-part-rest-start-2 t c =
-    let s = c .before .before .before .before .before .before .before .before .before .before .before .before .before .before .before .before .before .before .before .before .before .before .before .before in
+    let s = c .before .before .before .before .before .before .before .before .before .before .before .before .before .before .before .before .before .before .before in
     let a = s .args in
-    let o = ahead t (c .before .before .before .before .before .before .before .before .before .before .before .before .before) in
-    let n = c .before .before .before .before .before .before .before .before .before .before .before .before .before .round-words .result in
-    let q = c .before .before .before .before .before .before .before .before .before .step in
-    omega (arith, o .within, begun-long (a .out .now) (q .last .1 .1 .1 .1 .1 .1 .1 .1 .1 .0) n (o .within) (q .kept .1 .1 .1 .1 .1 .1 .1 .1 .1 .0))
+    let o = ahead t (c .before .before .before .before .before .before .before .before .before) in
+    let n = c .before .before .before .before .before .before .before .before .before .round-words .result in
+    let q = c .before .before .before .before .before .before .step in
+    omega (arith, o .within, begun-long (a .out .now) (q .last .1 .1 .1 .1 .1 .1 .1 .1 .0) n (o .within) (q .kept .1 .1 .1 .1 .1 .1 .1 .1 .0))
 
 rest-part-rest-end-2 : (t : ℕ) → rest-lts.Need-part-rest-end-2 (calls t) (rest-at t) rest.Post
 rest-part-rest-end-2 t c = search needs
 
 rest-rest-requires : (t : ℕ) → rest-lts.Need-rest-requires (calls t) (rest-at t) rest.Post
 rest-rest-requires t c κs =
-    let s = c .before .before .before .before .before .before .before .before .before .before .before .before .before .before .before .before .before .before .before .before .before .before .before .before .before in
+    let s = c .before .before .before .before .before .before .before .before .before .before .before .before .before .before .before .before .before .before .before .before in
     let a = s .args in
-    let o = ahead t (c .before .before .before .before .before .before .before .before .before .before .before .before .before .before) in
-    let n = c .before .before .before .before .before .before .before .before .before .before .before .before .before .before .round-words .result in
-    let q = c .before .before .before .before .before .before .before .before .before .before .step in
+    let o = ahead t (c .before .before .before .before .before .before .before .before .before .before) in
+    let n = c .before .before .before .before .before .before .before .before .before .before .round-words .result in
+    let q = c .before .before .before .before .before .before .before .step in
     let z = sizes (a .w .now) (a .pw .now) (a .level) (a .scale) (getD (a .w .now) 3 0 * a .d) (s .pre .1 .0 .0) in
-    let l = all-left (c .before .before .before .before .before .before .before .before .before .before .before .before .before .before .before .round-coins .result) (a .coins .now) in
-    let g = q .kept .1 .1 .1 .1 .1 .1 .1 .0 in
-    let next = q .kept .1 .1 .1 .1 .1 .1 .1 .1 .0 in (
+    let l = all-left (c .before .before .before .before .before .before .before .before .before .before .before .round-coins .result) (a .coins .now) in
+    let g = q .kept .1 .1 .1 .1 .1 .1 .1 .0 in (
       omega (arith, s .pre .0, o .more, z .rounds),
       (
-        (o .next, (omega (arith, o .fewer, g, s .pre .1 .0 .1 .0), omega (arith, o .fewer, next, s .pre .1 .0 .1 .1))),
-        (subst (DealtFrom (a .w .now) (a .level + 1)) (sym l) (o .dealt), others-long (a .out .now) (q .last .1 .1 .1 .1 .1 .1 .1 .1 .1 .0) n (o .within) (q .kept .1 .1 .1 .1 .1 .1 .1 .1 .1 .0) ∙ o .left),
+        (o .next, omega (arith, o .fewer, g, s .pre .1 .0 .1)),
+        (subst (DealtFrom (a .w .now) (a .level + 1)) (sym l) (o .dealt), others-long (a .out .now) (q .last .1 .1 .1 .1 .1 .1 .1 .1 .0) n (o .within) (q .kept .1 .1 .1 .1 .1 .1 .1 .1 .0) ∙ o .left),
       ),
     )
 
@@ -199,36 +198,33 @@ rest-same-length-2 t c = search needs
 
 rest-returns : (t : ℕ) → rest-lts.Need-returns (calls t) (rest-at t) rest.Post
 rest-returns t c =
-    let a = c .before .before .before .before .before .before .before .before .before .before .before .before .before .args in
+    let a = c .before .before .before .before .before .before .before .before .before .before .before .before .args in
     words-end (a .w .now) (a .level) (take (a .d) (a .g .now)) (a .coins .now) (c .before .before .before .before .before .if1 .taken) (c .before .before .finals .ensures)
 
 rest-same-length-3 : (t : ℕ) → rest-lts.Need-same-length-3 (calls t) (rest-at t) rest.Post
 rest-same-length-3 t c = search needs
 
 rest-same-length-4 : (t : ℕ) → rest-lts.Need-same-length-4 (calls t) (rest-at t) rest.Post
-rest-same-length-4 t c = search needs
-
-rest-same-length-5 : (t : ℕ) → rest-lts.Need-same-length-5 (calls t) (rest-at t) rest.Post
-rest-same-length-5 t c =
-    let s = c .before .before .before .before .before .before .before .before .before .before .before .before .before .before .before .before .before .before .before .before .before .before .before .before .before .before .before .before .before .before .before .before in
+rest-same-length-4 t c =
+    let s = c .before .before .before .before .before .before .before .before .before .before .before .before .before .before .before .before .before .before .before .before .before .before .before .before .before in
     let a = s .args in
-    let o = ahead t (c .before .before .before .before .before .before .before .before .before .before .before .before .before .before .before .before .before .before .before .before .before) in
-    let n = c .before .before .before .before .before .before .before .before .before .before .before .before .before .before .before .before .before .before .before .before .before .round-words .result in
-    let q = c .before .before .before .before .before .before .before .before .before .before .before .before .before .before .before .before .before .step in
-    let v = c .before .before .before .before .before .before .rest in
-    filled-long (a .out .now) (q .last .1 .1 .1 .1 .1 .1 .1 .1 .1 .0) n (o .within) (q .kept .1 .1 .1 .1 .1 .1 .1 .1 .1 .0) (v .last .1 .1 .1 .1 .1 .1 .1 .1 .0) (v .kept .1 .1 .1 .1 .1 .1 .1 .1 .0)
+    let o = ahead t (c .before .before .before .before .before .before .before .before .before .before .before .before .before .before .before) in
+    let n = c .before .before .before .before .before .before .before .before .before .before .before .before .before .before .before .round-words .result in
+    let q = c .before .before .before .before .before .before .before .before .before .before .before .before .step in
+    let v = c .before .before .before .before .rest in
+    filled-long (a .out .now) (q .last .1 .1 .1 .1 .1 .1 .1 .1 .0) n (o .within) (q .kept .1 .1 .1 .1 .1 .1 .1 .1 .0) (v .last .1 .1 .1 .1 .1 .1 .1 .0) (v .kept .1 .1 .1 .1 .1 .1 .1 .0)
 
 rest-returns-2 : (t : ℕ) → rest-lts.Need-returns-2 (calls t) (rest-at t) rest.Post
 rest-returns-2 t c =
-    let s = c .before .before .before .before .before .before .before .before .before .before .before .before .before .before .before .before .before .before .before .before .before .before .before .before .before .before .before .before .before .before .before .before in
+    let s = c .before .before .before .before .before .before .before .before .before .before .before .before .before .before .before .before .before .before .before .before .before .before .before .before .before in
     let a = s .args in
-    let o = ahead t (c .before .before .before .before .before .before .before .before .before .before .before .before .before .before .before .before .before .before .before .before .before) in
-    let n = c .before .before .before .before .before .before .before .before .before .before .before .before .before .before .before .before .before .before .before .before .before .round-words .result in
-    let q = c .before .before .before .before .before .before .before .before .before .before .before .before .before .before .before .before .before .step in
-    let v = c .before .before .before .before .before .before .rest in
-    let u = c .before .before .before .before .before .before .before .before .before .before .before .before .before .before .before .before .before .before .before .before .before .before .round-coins in
+    let o = ahead t (c .before .before .before .before .before .before .before .before .before .before .before .before .before .before .before) in
+    let n = c .before .before .before .before .before .before .before .before .before .before .before .before .before .before .before .round-words .result in
+    let q = c .before .before .before .before .before .before .before .before .before .before .before .before .step in
+    let v = c .before .before .before .before .rest in
+    let u = c .before .before .before .before .before .before .before .before .before .before .before .before .before .before .before .before .round-coins in
     words-join (a .w .now) (a .level) (take (a .d) (a .g .now)) (a .coins .now) (u .result) (o .more)
-    (joined (a .out .now) (q .last .1 .1 .1 .1 .1 .1 .1 .1 .1 .0) n (o .within) (q .kept .1 .1 .1 .1 .1 .1 .1 .1 .1 .0) (v .last .1 .1 .1 .1 .1 .1 .1 .1 .0) refl refl)
+    (joined (a .out .now) (q .last .1 .1 .1 .1 .1 .1 .1 .1 .0) n (o .within) (q .kept .1 .1 .1 .1 .1 .1 .1 .1 .0) (v .last .1 .1 .1 .1 .1 .1 .1 .0) refl refl)
     (q .ensures .0) (q .ensures .1) (all-left (u .result) (a .coins .now)) (u .ensures) (v .ensures)
 
 pub +rest-spec : {M : Type 1} → statement M
@@ -262,5 +258,4 @@ pub +rest-spec : {M : Type 1} → statement M
     (rest-returns t)
     (rest-same-length-3 t)
     (rest-same-length-4 t)
-    (rest-same-length-5 t)
     (rest-returns-2 t)

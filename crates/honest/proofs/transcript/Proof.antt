@@ -6,7 +6,7 @@ use lib.Seq.{length-take-le}
 use Rattle.completeness.specs.LevelsByNumber.{undivided}
 use Rattle.completeness.specs.Numbered.{levelOf}
 use Rattle.domain.specs.Parts.{joined, others-long}
-use Rattle.honest_round.specs.Standing.{openingFrom}
+use Rattle.honest_words.specs.Standing.{openingFrom}
 use borrow.Author.Needs.{needs}
 use Rattle.honest.proofs.transcript.Statement.{statement}
 use Rattle.honest.proofs.transcript.Tie as tie
@@ -16,14 +16,14 @@ slice-relend-prefix-table c = search needs
 
 slice-aggregate-table : tie.Need-slice-aggregate-table
 slice-aggregate-table c =
-    let s = c .before .before .before .before .before .before .before .before in
+    let s = c .before .before .before .before .before .before .before in
     let a = s .args in
     let n = length-take-le (length (a .pw .now)) (a .out .now) (omega (arith, s .pre .0 .0 .points, s .pre .1 .1 .1)) in
     sym n
 
 table-requires : tie.Need-table-requires
 table-requires c κs =
-    let s = c .before .before .before .before .before .before .before .before in
+    let s = c .before .before .before .before .before .before .before in
     let a = s .args in
     let n = length-take-le (length (a .pw .now)) (a .out .now) (omega (arith, s .pre .0 .0 .points, s .pre .1 .1 .1)) in
     record { number = 0; standing = s .pre .0 .0; size = n ∙ s .pre .0 .0 .points ∙ sym (undivided (getD (a .w .now) 1 0) 2) }
@@ -42,9 +42,9 @@ part-after-first-end c = search needs
 
 after-first-requires : tie.Need-after-first-requires
 after-first-requires c κs =
-    let s = c .before .before .before .before .before .before .before .before .before .before .before .before .before .before in
+    let s = c .before .before .before .before .before .before .before .before .before .before .before .before in
     let a = s .args in
-    let t = c .before .before .before .before .before .table in
+    let t = c .before .before .before .before .table in
     let n = others-long (a .out .now) (t .last .1 .1 .1 .1 .0) (length (a .pw .now)) (omega (arith, s .pre .0 .0 .points, s .pre .1 .1 .1)) (t .kept .1 .1 .1 .1 .0) in
     (s .pre .0, (s .pre .1 .0, (s .pre .1 .1 .0, n ∙ omega (arith, s .pre .0 .0 .points, s .pre .1 .1 .1))))
 
@@ -54,18 +54,15 @@ same-length c = search needs
 same-length-2 : tie.Need-same-length-2
 same-length-2 c = search needs
 
-same-length-3 : tie.Need-same-length-3
-same-length-3 c = search needs
-
 returns : tie.Need-returns
 returns c =
-    let s = c .before .before .before .before .before .before .before .before .before .before .before .before .before .before .before .before .before .before .before .before .before in
+    let s = c .before .before .before .before .before .before .before .before .before .before .before .before .before .before .before .before .before in
     let a = s .args in
     let n = length-take-le (length (a .pw .now)) (a .out .now) (omega (arith, s .pre .0 .0 .points, s .pre .1 .1 .1)) in
-    let t = c .before .before .before .before .before .before .before .before .before .before .before .before .table in
-    let v = c .before .before .before .before .before .before .after-first in
+    let t = c .before .before .before .before .before .before .before .before .before .table in
+    let v = c .before .before .before .before .after-first in
     let own = t .ensures (levelOf (a .w .now) 0) refl (sym (n ∙ s .pre .0 .0 .points ∙ sym (undivided (getD (a .w .now) 1 0) 2))) in
-    joined (a .out .now) (t .last .1 .1 .1 .1 .0) (length (a .pw .now)) (omega (arith, s .pre .0 .0 .points, s .pre .1 .1 .1)) (t .kept .1 .1 .1 .1 .0) (v .last .1 .1 .1 .1 .1 .1 .0)
+    joined (a .out .now) (t .last .1 .1 .1 .1 .0) (length (a .pw .now)) (omega (arith, s .pre .0 .0 .points, s .pre .1 .1 .1)) (t .kept .1 .1 .1 .1 .0) (v .last .1 .1 .1 .1 .1 .0)
     {y = openingFrom (a .w .now) (a .f .now) (a .coins .now)} own (v .ensures)
 
 pub transcript-spec : {M : Type 1} → statement M
@@ -82,5 +79,4 @@ transcript-spec =
     after-first-requires
     same-length
     same-length-2
-    same-length-3
     returns)

@@ -3,8 +3,9 @@ use Prim.Native.Nat.{_*_}
 use native.Mathlib.Omega.{arith}
 use mathlib.Core.Path.{refl, sym}
 use lib.ListN.{length, getD, take, drop}
-use Rattle.honest_round.specs.Sizes.{fewer-points, sizes}
-use Rattle.honest_round.proofs.Rounds.{corrected-is, outs-long, shifts-in, shifts-long}
+use Rattle.honest_words.specs.Sizes.{fewer-points, sizes}
+use Rattle.honest_words.proofs.Words.{outs-long}
+use Rattle.honest_round.proofs.Rounds.{corrected-is, shifts-in, shifts-long}
 use borrow.Author.Needs.{needs}
 use Rattle.honest_round.proofs.correct.Statement.{statement}
 use Rattle.honest_round.proofs.correct.Tie as tie

@@ -15,9 +15,9 @@ use Rattle.rounds.proofs.answer.Tie as tie
 
 push-shifts-requires : tie.Need-push-shifts-requires
 push-shifts-requires c κs =
-    let s = c .before .before .before .before .before .before .before .before .before .before .before .before .before in
-    let e = s .pre .1 .1 .1 in
-    (s .pre .0, (s .pre .1 .0, (s .pre .1 .1 .0, (e .0, omega (arith, e .1 .1)))))
+    let p = c .before .before .before .before .before .before .before .before .before .before .before .before .before .before .before .before .before .before .before .pre in
+    let e = p .1 .1 .1 .0 in
+    (p .0, (p .1 .0, (p .1 .1 .0, ((e .0, omega (arith, e .1 .1)), p .1 .1 .1 .1))))
 
 enum-known-s : tie.Need-enum-known-s
 enum-known-s c = search needs
@@ -34,28 +34,6 @@ same-length-2 c = search needs
 same-length-3 : tie.Need-same-length-3
 same-length-3 c = search needs
 
-returns : tie.Need-returns
-returns c =
-    let u = c .before .before .before .before .before .before .before .before in
-    let s = u .before .before .before .before .before .before .before .before .before .before .before .before .before .before in
-    let a = s .args in
-    let shifted = map (sampleIn (a .field) (a .pw .now) (a .table .now) (a .xs .now) (a .cs .now) (a .how) (length (a .values .now)) (a .r)) (a .shifts .now) in
-    let clash = kept-clash (u .push-shifts .last .1 .1 .1 .1 .1 .1 .1 .1 .1 .0) (u .push-shifts .last .1 .1 .1 .1 .1 .1 .1 .1 .1 .1 .0) {o = sifted (a .field) shifted} (c .enum-told .given .1) (u .push-shifts .ensures .0) in (
-      answered (a .field) (a .pw .now) (a .table .now) (a .xs .now) (a .cs .now) (a .how) (length (a .values .now)) (a .r) (s .pre .1 .0) (a .shifts .now) (a .outs .now) (a .replies .now) (s .pre .1 .1 .0)
-          (kept-none _ _ (clash-append (a .field) (pair (a .outs .now) (a .replies .now)) shifted clash)),
-      tt,
-    )
-
-push-all-requires : tie.Need-push-all-requires
-push-all-requires c κs =
-    let u = c .before .before .before .before .before .before .before .before .before .before .before .push-shifts in
-    let s = c .before .before .before .before .before .before .before .before .before .before .before .before .before .before .before .before .before .before .before .before .before .before .before .before .before in
-    let e = s .pre .1 .1 .1 in
-    let w = room (length (s .args .px .now)) (length (s .args .shifts .now)) (c .before .before .before .s .given .1) (u .ensures .1) in
-    let x = u .kept .1 .1 .1 .1 .1 .1 .1 .1 .1 .0 in
-    let y = u .kept .1 .1 .1 .1 .1 .1 .1 .1 .1 .1 .0 in
-    ((e .1 .0, omega (arith, x, y, e .0)), (omega (arith, w .1, x), omega (arith, w .0, e .1 .1)))
-
 same-length-4 : tie.Need-same-length-4
 same-length-4 c = search needs
 
@@ -65,18 +43,55 @@ same-length-5 c = search needs
 same-length-6 : tie.Need-same-length-6
 same-length-6 c = search needs
 
+returns : tie.Need-returns
+returns c =
+    let a = c .before .before .before .before .before .before .before .before .before .before .before .before .before .before .before .before .before .before .before .before .before .before .before .before .before .before .before .before .before .before .before .before .before .before .args in
+    let p = c .before .before .before .before .before .before .before .before .before .before .before .before .before .before .push-shifts in
+    let shifted = map (sampleIn (a .field) (a .pw .now) (a .table .now) (a .ac .now) (a .vg .now) (a .how) (length (a .values .now)) (a .r)) (a .shifts .now) in
+    let clash = kept-clash (p .last .1 .1 .1 .1 .1 .1 .1 .1 .1 .1 .1 .1 .0) (p .last .1 .1 .1 .1 .1 .1 .1 .1 .1 .1 .1 .1 .1 .0) {o = sifted (a .field) shifted} (c .enum-told .given .1) (p .ensures .0) in (
+      answered (a .field) (a .pw .now) (a .table .now) (a .ac .now) (a .vg .now) (a .how) (length (a .values .now)) (a .r) (c .before .before .before .before .before .before .before .before .before .before .before .before .before .before .before .before .before .before .before .before .before .before .before .before .before .before .before .before .before .before .before .before .before .before .pre .1 .0) (a .shifts .now) (a .outs .now) (a .replies .now) (c .before .before .before .before .before .before .before .before .before .before .before .before .before .before .before .before .before .before .before .before .before .before .before .before .before .before .before .before .before .before .before .before .before .before .pre .1 .1 .0)
+          (kept-none _ _ (clash-append (a .field) (pair (a .outs .now) (a .replies .now)) shifted clash)),
+      tt,
+    )
+
+push-all-requires : tie.Need-push-all-requires
+push-all-requires c κs =
+    let p = c .before .before .before .before .before .before .before .before .before .before .before .before .before .before .before .before .before .push-shifts in
+    let a = c .before .before .before .before .before .before .before .before .before .before .before .before .before .before .before .before .before .before .before .before .before .before .before .before .before .before .before .before .before .before .before .before .before .before .before .before .before .args in
+    let e = c .before .before .before .before .before .before .before .before .before .before .before .before .before .before .before .before .before .before .before .before .before .before .before .before .before .before .before .before .before .before .before .before .before .before .before .before .before .pre .1 .1 .1 .0 in
+    let w = room (length (a .px .now)) (length (a .shifts .now)) (c .before .before .before .s .given .1) (p .ensures .1) in
+    let x = p .kept .1 .1 .1 .1 .1 .1 .1 .1 .1 .1 .1 .1 .0 in
+    let y = p .kept .1 .1 .1 .1 .1 .1 .1 .1 .1 .1 .1 .1 .1 .0 in
+    ((e .1 .0, omega (arith, x, y, e .0)), (omega (arith, w .1, x), omega (arith, w .0, e .1 .1)))
+
+same-length-7 : tie.Need-same-length-7
+same-length-7 c = search needs
+
+same-length-8 : tie.Need-same-length-8
+same-length-8 c = search needs
+
+same-length-9 : tie.Need-same-length-9
+same-length-9 c = search needs
+
+same-length-10 : tie.Need-same-length-10
+same-length-10 c = search needs
+
+same-length-11 : tie.Need-same-length-11
+same-length-11 c = search needs
+
+same-length-12 : tie.Need-same-length-12
+same-length-12 c = search needs
+
 returns-2 : tie.Need-returns-2
 returns-2 c =
-    let u = c .before .before .before .before .before .before .before .before .before .before .before .before .before .before .before .before in
-    let s = u .before .before .before .before .before .before .before .before .before .before .before .before .before .before in
-    let a = s .args in
-    let p = u .push-shifts in
-    let shifted = map (sampleIn (a .field) (a .pw .now) (a .table .now) (a .xs .now) (a .cs .now) (a .how) (length (a .values .now)) (a .r)) (a .shifts .now) in
+    let a = c .before .before .before .before .before .before .before .before .before .before .before .before .before .before .before .before .before .before .before .before .before .before .before .before .before .before .before .before .before .before .before .before .before .before .before .before .before .before .before .before .before .before .args in
+    let p = c .before .before .before .before .before .before .before .before .before .before .before .before .before .before .before .before .before .before .before .before .before .before .push-shifts in
+    let shifted = map (sampleIn (a .field) (a .pw .now) (a .table .now) (a .ac .now) (a .vg .now) (a .how) (length (a .values .now)) (a .r)) (a .shifts .now) in
     let all = c .before .before .before .before .push-all in
     let first = c .before .before .before .before .before .before .before .before .s .given .1 in (
-      answered (a .field) (a .pw .now) (a .table .now) (a .xs .now) (a .cs .now) (a .how) (length (a .values .now)) (a .r) (s .pre .1 .0) (a .shifts .now) (a .outs .now) (a .replies .now) (s .pre .1 .1 .0)
+      answered (a .field) (a .pw .now) (a .table .now) (a .ac .now) (a .vg .now) (a .how) (length (a .values .now)) (a .r) (c .before .before .before .before .before .before .before .before .before .before .before .before .before .before .before .before .before .before .before .before .before .before .before .before .before .before .before .before .before .before .before .before .before .before .before .before .before .before .before .before .before .before .pre .1 .0) (a .shifts .now) (a .outs .now) (a .replies .now) (c .before .before .before .before .before .before .before .before .before .before .before .before .before .before .before .before .before .before .before .before .before .before .before .before .before .before .before .before .before .before .before .before .before .before .before .before .before .before .before .before .before .before .pre .1 .1 .0)
           (all .ensures .0 (a .field) shifted
-          (kept-from (p .last .1 .1 .1 .1 .1 .1 .1 .1 .1 .0) (p .last .1 .1 .1 .1 .1 .1 .1 .1 .1 .1 .0) {o = sifted (a .field) shifted} first (p .ensures .0))),
+          (kept-from (p .last .1 .1 .1 .1 .1 .1 .1 .1 .1 .1 .1 .1 .0) (p .last .1 .1 .1 .1 .1 .1 .1 .1 .1 .1 .1 .1 .1 .0) {o = sifted (a .field) shifted} first (p .ensures .0))),
       room-add {n = length (a .px .now)} (length (a .shifts .now)) (length (a .outs .now)) (all .result) (room (length (a .px .now)) (length (a .shifts .now)) first (p .ensures .1)) (all .ensures .1),
     )
 
@@ -90,9 +105,15 @@ answer-spec =
     same-length
     same-length-2
     same-length-3
-    returns
-    push-all-requires
     same-length-4
     same-length-5
     same-length-6
+    returns
+    push-all-requires
+    same-length-7
+    same-length-8
+    same-length-9
+    same-length-10
+    same-length-11
+    same-length-12
     returns-2)

@@ -1,27 +1,26 @@
 -- `rounds::compare` meets its contract: the first difference from number i on is the first of all. Assumes nothing.
 use Prim.Native.Nat.{_-_, _≤_}
 use mathlib.Core.Path.{_≡_, _∙_, refl}
-use mathlib.Core.List.{map}
 use native.Mathlib.Omega.{arith}
 use lib.ListN.{length, drop}
 use borrow.Author.Needs.{needs}
 use Rattle.definition.specs.Lists.{firstTrue}
 use Rattle.outcome.specs.Meaning.{placeOf}
-use Rattle.rounds.specs.Round.{sampleIn}
-use Rattle.rounds.specs.RoundLaws.{differsIn, compared}
-use Rattle.rounds.proofs.Shifts.{fits-for, below-at, sample-for, differs, agrees, first-here, first-later, first-nowhere}
+use Rattle.rounds.specs.Prepared.{numbered, sampleBy}
+use Rattle.rounds.specs.RoundLaws.{differsIn}
+use Rattle.rounds.proofs.Shifts.{fits-for, below-at, places-for, sample-for, differs, agrees, first-here, first-later, first-nowhere}
 use Rattle.rounds.proofs.compare.Statement.{statement}
 use Rattle.rounds.proofs.compare.Tie as tie
 
 abbrev Inv-loop : tie.InvT-loop
-Inv-loop field pw table xs cs how r two coefficients finals values₀ i₀ values i =
+Inv-loop field pw table tops inverses how r two coefficients finals values₀ i₀ values i =
     (i ≤ length finals)
     × ((length values ≡ length values₀)
-    × (firstTrue i (map (λ m. differsIn field coefficients (sampleIn field pw table xs cs how (length values₀) r m)) (drop i finals))
-    ≡ firstTrue 0 (map (λ m. differsIn field coefficients (sampleIn field pw table xs cs how (length values₀) r m)) finals)))
+    × (firstTrue i (numbered (λ i j. differsIn field coefficients (sampleBy field pw table tops inverses how (length values₀) r i j)) i (drop i finals))
+    ≡ firstTrue 0 (numbered (λ i j. differsIn field coefficients (sampleBy field pw table tops inverses how (length values₀) r i j)) 0 finals)))
 
 abbrev μ-loop : tie.MeasureT-loop
-μ-loop field pw table xs cs how r two coefficients finals values₀ i₀ values i = length finals - i
+μ-loop field pw table tops inverses how r two coefficients finals values₀ i₀ values i = length finals - i
 
 loop-holds : tie.Need-loop-holds Inv-loop μ-loop
 loop-holds c = (omega arith, (refl, refl))
@@ -37,10 +36,13 @@ wide-requires c κs = search needs
 
 sample-at-requires : tie.Need-sample-at-requires Inv-loop μ-loop
 sample-at-requires c κs =
-    let w = c .before in
-    let l = w .before .before .before .loop in
-    let s = w .before .before .before .before .before .before .before .before .before .before .before in
-    (s .pre .0, (fits-for (l .inv .1 .0) (s .pre .1 .0), (below-at (s .args .finals .now) (s .pre .1 .1 .0) (l .i) (omega arith) (w .wide .ensures), s .pre .1 .1 .1)))
+    let l = c .before .before .before .before .loop in
+    let p = c .before .before .before .before .before .before .before .before .before .before .before .before .pre in
+    let a = c .before .before .before .before .before .before .before .before .before .before .before .before .args in
+    let below = c .before .before .before .loop-test .taken in (
+      (places-for (l .i) (length (a .finals .now)) (length (a .values .now)) _ below (l .inv .1 .0) (p .0 .0), places-for (l .i) (length (a .finals .now)) (length (a .values .now)) _ below (l .inv .1 .0) (p .0 .1)),
+      (fits-for (l .inv .1 .0) (p .1 .0), (below-at (a .finals .now) (p .1 .1 .0) (l .i) below (c .before .wide .ensures), p .1 .1 .1)),
+    )
 
 value-at-requires : tie.Need-value-at-requires Inv-loop μ-loop
 value-at-requires c κs = search needs
@@ -51,15 +53,13 @@ same-length c = omega arith
 returns : tie.Need-returns Inv-loop μ-loop
 unfolding placeOf
 returns c =
-    let u = c .before .before .before .before .before .sample-at in
     let l = c .before .before .before .before .before .before .before .before .before .before .loop in
-    let s = c .before .before .before .before .before .before .before .before .before .before .before .before .before .before .before .before .before .before in
-    let a = s .args in
+    let a = c .before .before .before .before .before .before .before .before .before .before .before .before .before .before .before .before .before .before .args in
     let n = l .inv .1 in
-    let e = sample-for (a .field) (a .pw .now) (a .table .now) (a .xs .now) (a .cs .now) (a .how) (a .r) (length (l .values)) (u .ensures) (n .0) (c .before .before .before .before .before .before .before .wide .ensures) in
+    let p = c .before .before .before .before .before .sample-at in
+    let e = sample-for (a .field) (a .pw .now) (a .table .now) (a .tops .now) (a .inverses .now) (a .how) (a .r) (length (l .values)) (l .i) (p .ensures) (n .0) (c .before .before .before .before .before .before .before .wide .ensures) in
     let d = differs (a .field) (a .coefficients .now) (c .before .before .value-at .ensures) e (c .if1 .taken) in
-    compared (a .field) (a .pw .now) (a .table .now) (a .xs .now) (a .cs .now) (a .how) (length (a .values .now)) (a .r) (s .pre .1 .0) (a .coefficients .now) (a .finals .now) (s .pre .1 .1 .0)
-    (first-here (λ j. differsIn (a .field) (a .coefficients .now) (sampleIn (a .field) (a .pw .now) (a .table .now) (a .xs .now) (a .cs .now) (a .how) (length (a .values .now)) (a .r) j)) (a .finals .now) (l .i) (c .before .before .before .before .before .before .before .before .before .loop-test .taken) d ∙ n .1)
+    first-here (λ i j. differsIn (a .field) (a .coefficients .now) (sampleBy (a .field) (a .pw .now) (a .table .now) (a .tops .now) (a .inverses .now) (a .how) (length (a .values .now)) (a .r) i j)) (a .finals .now) (l .i) (c .before .before .before .before .before .before .before .before .before .loop-test .taken) d ∙ n .1
 
 add-i : tie.Need-add-i Inv-loop μ-loop
 add-i c = omega (arith, c .before .before .before .before .before .before .before .before .before .loop-test .taken, c .before .before .before .before .before .before .before .before .before .before .before .before .before .before .before .before .before .before .good .1 .1 .1 .1 .1 .1 .1 .1 .1 .0 .0)
@@ -69,15 +69,14 @@ loop-less c = omega (arith, c .before .before .before .before .before .before .b
 
 loop-again : tie.Need-loop-again Inv-loop μ-loop
 loop-again c =
-    let u = c .before .before .before .before .before .sample-at in
     let l = c .before .before .before .before .before .before .before .before .before .before .loop in
-    let s = c .before .before .before .before .before .before .before .before .before .before .before .before .before .before .before .before .before .before in
-    let a = s .args in
+    let a = c .before .before .before .before .before .before .before .before .before .before .before .before .before .before .before .before .before .before .args in
     let n = l .inv .1 in
-    let e = sample-for (a .field) (a .pw .now) (a .table .now) (a .xs .now) (a .cs .now) (a .how) (a .r) (length (l .values)) (u .ensures) (n .0) (c .before .before .before .before .before .before .before .wide .ensures) in
+    let p = c .before .before .before .before .before .sample-at in
+    let e = sample-for (a .field) (a .pw .now) (a .table .now) (a .tops .now) (a .inverses .now) (a .how) (a .r) (length (l .values)) (l .i) (p .ensures) (n .0) (c .before .before .before .before .before .before .before .wide .ensures) in
     let h = c .before .before .before .before .before .before .before .before .before .loop-test .taken in
     let d = agrees (a .field) (a .coefficients .now) (c .before .before .value-at .ensures) e (c .if1 .left) in
-    (omega (arith, h), (u .kept .1 .1 .1 .1 .1 .1 .1 .1 .1 .0 ∙ n .0, first-later (λ j. differsIn (a .field) (a .coefficients .now) (sampleIn (a .field) (a .pw .now) (a .table .now) (a .xs .now) (a .cs .now) (a .how) (length (a .values .now)) (a .r) j)) (a .finals .now) (l .i) h d ∙ n .1))
+    (omega (arith, h), (p .kept .1 .1 .1 .1 .1 .1 .1 .1 .1 .1 .0 ∙ n .0, first-later (λ i j. differsIn (a .field) (a .coefficients .now) (sampleBy (a .field) (a .pw .now) (a .table .now) (a .tops .now) (a .inverses .now) (a .how) (length (a .values .now)) (a .r) i j)) (a .finals .now) (l .i) h d ∙ n .1))
 
 same-length-2 : tie.Need-same-length-2 Inv-loop μ-loop
 same-length-2 c = omega arith
@@ -86,11 +85,9 @@ returns-2 : tie.Need-returns-2 Inv-loop μ-loop
 unfolding placeOf
 returns-2 c =
     let l = c .before .loop in
-    let s = c .before .before .before .before .before .before .before .before .before in
-    let a = s .args in
+    let a = c .before .before .before .before .before .before .before .before .before .args in
     let h : length (a .finals .now) ≤ l .i = omega arith in
-    compared (a .field) (a .pw .now) (a .table .now) (a .xs .now) (a .cs .now) (a .how) (length (a .values .now)) (a .r) (s .pre .1 .0) (a .coefficients .now) (a .finals .now) (s .pre .1 .1 .0)
-    (first-nowhere (λ j. differsIn (a .field) (a .coefficients .now) (sampleIn (a .field) (a .pw .now) (a .table .now) (a .xs .now) (a .cs .now) (a .how) (length (a .values .now)) (a .r) j)) (a .finals .now) (l .i) h ∙ l .inv .1 .1)
+    first-nowhere (λ i j. differsIn (a .field) (a .coefficients .now) (sampleBy (a .field) (a .pw .now) (a .table .now) (a .tops .now) (a .inverses .now) (a .how) (length (a .values .now)) (a .r) i j)) (a .finals .now) (l .i) h ∙ l .inv .1 .1
 
 pub compare-spec : {M : Type 1} → statement M
 compare-spec =

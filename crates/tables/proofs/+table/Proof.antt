@@ -16,10 +16,14 @@ use Rattle.tables.proofs.Recursion.{half-asks, whole-table}
 use Rattle.tables.proofs.table.Reads as table
 use Rattle.tables.proofs.table.Kinds as table-kinds
 use Rattle.tables.proofs.+table.Lts-table as table-lts
-use Rattle.tables.proofs.fill.Reads as fill-reads
+use Rattle.tables.proofs.base.Reads as base-reads
 use Rattle.tables.proofs.join.Reads as join-reads
 use Rattle.tables.proofs.+table.{statement}
 use Rattle.tables.proofs.+table.Tie.{close}
+
+-- where the coefficients are more than two they are more than one
+more : {n : ℕ} → 2 < n → 1 < n
+more l = omega arith
 
 abbrev μ-table : Measures 3 table-kinds.ps ℕ
 μ-table κs a = a .1 .1 .1 .1 .0
@@ -32,24 +36,12 @@ table-below t = and 3 table-kinds.ps (falls 3 table-kinds.ps _<_ μ-table t) tab
 
 -- the contracts of what is called, the function's own at fewer coefficients than t among them
 abbrev called : ℕ → table-lts.Claims
-called t = (fill-reads.Asked, fill-reads.Learnt, table-below t, table.Post, join-reads.Asked, join-reads.Learnt)
+called t = (base-reads.Asked, base-reads.Learnt, table-below t, table.Post, join-reads.Asked, join-reads.Learnt)
 
-table-mul-fill : (t : ℕ) → table-lts.Need-mul-fill (called t) (table-at t) table.Post
-table-mul-fill t c =
-    let s = c .before .before .before .before in
-    let a = s .args in
-    let e = one-of (a .count) (length (a .out .now)) (s .pre .1 .1 .0) (c .if1 .taken) in
-    omega (arith, mul-le-mul-left (a .stride) (le-of-eq (sym e)), mul-one (a .stride))
-
-table-shared-slice-read-fill : (t : ℕ) → table-lts.Need-shared-slice-read-fill (called t) (table-at t) table.Post
-table-shared-slice-read-fill t c =
+table-base-requires : (t : ℕ) → table-lts.Need-base-requires (called t) (table-at t) table.Post
+table-base-requires t c κs =
     let s = c .before .before .before .before .before in
-    let a = s .args in
-    let e = one-of (a .count) (length (a .out .now)) (s .pre .1 .1 .0) (c .before .if1 .taken) in
-    omega (arith, mul-le-mul-left (a .stride) (le-of-eq (sym e)), mul-one (a .stride))
-
-table-fill-requires : (t : ℕ) → table-lts.Need-fill-requires (called t) (table-at t) table.Post
-table-fill-requires t c κs = search needs
+    ((s .pre .1 .0 .0, (s .pre .1 .0 .1, c .before .if1 .taken)), s .pre .1 .1)
 
 table-add-odd : (t : ℕ) → table-lts.Need-add-odd (called t) (table-at t) table.Post
 table-add-odd t c =
@@ -69,19 +61,19 @@ table-mul-at2 : (t : ℕ) → table-lts.Need-mul-at2 (called t) (table-at t) tab
 table-mul-at2 t c =
     let s = c .before .before .before .before in
     let a = s .args in
-    omega (arith, step-twice (a .at) (a .step) (a .count) (length (a .out .now)) (s .pre .1 .1 .0) (s .pre .1 .1 .1) (c .if1 .left))
+    omega (arith, step-twice (a .at) (a .step) (a .count) (length (a .out .now)) (s .pre .1 .1 .0) (s .pre .1 .1 .1) (more (c .if1 .left)))
 
 table-add-at2 : (t : ℕ) → table-lts.Need-add-at2 (called t) (table-at t) table.Post
 table-add-at2 t c =
     let s = c .before .before .before .before in
     let a = s .args in
-    omega (arith, step-twice (a .at) (a .step) (a .count) (length (a .out .now)) (s .pre .1 .1 .0) (s .pre .1 .1 .1) (c .if1 .left))
+    omega (arith, step-twice (a .at) (a .step) (a .count) (length (a .out .now)) (s .pre .1 .1 .0) (s .pre .1 .1 .1) (more (c .if1 .left)))
 
 table-mul-step2 : (t : ℕ) → table-lts.Need-mul-step2 (called t) (table-at t) table.Post
 table-mul-step2 t c =
     let s = c .before .before .before .before in
     let a = s .args in
-    omega (arith, step-twice (a .at) (a .step) (a .count) (length (a .out .now)) (s .pre .1 .1 .0) (s .pre .1 .1 .1) (c .if1 .left))
+    omega (arith, step-twice (a .at) (a .step) (a .count) (length (a .out .now)) (s .pre .1 .1 .0) (s .pre .1 .1 .1) (more (c .if1 .left)))
 
 table-slice-relend-prefix-table : (t : ℕ) → table-lts.Need-slice-relend-prefix-table (called t) (table-at t) table.Post
 table-slice-relend-prefix-table t c = omega arith
@@ -93,9 +85,9 @@ table-table-requires : (t : ℕ) → table-lts.Need-table-requires (called t) (t
 table-table-requires t c κs =
     let s = c .before .before .before .before .before in
     let a = s .args in
-    let q = half (a .count) (length (a .out .now)) (s .pre .1 .1 .0) (c .before .if1 .left) in
+    let q = half (a .count) (length (a .out .now)) (s .pre .1 .1 .0) (more (c .before .if1 .left)) in
     half-asks t _ (a .stride) (a .count) _ (a .step) (length (a .out .now)) _ (length (a .src .now)) (length (a .pw .now))
-    (s .pre .0) (omega arith) (s .pre .1 .0 .1) (s .pre .1 .1 .0) (omega arith) (s .pre .1 .1 .1 .1) (c .before .if1 .left)
+    (s .pre .0) (omega arith) (s .pre .1 .0 .1) (s .pre .1 .1 .0) (omega arith) (s .pre .1 .1 .1 .1) (more (c .before .if1 .left))
     (first-length (a .out .now) (length (a .out .now) / 2) (q .size-is))
 
 table-mul-table : (t : ℕ) → table-lts.Need-mul-table (called t) (table-at t) table.Post
@@ -105,7 +97,7 @@ table-sub-table : (t : ℕ) → table-lts.Need-sub-table (called t) (table-at t)
 table-sub-table t c =
     let s = c .before .before .before .before .before .before .before .before in
     let a = s .args in
-    let q = half (a .count) (length (a .out .now)) (s .pre .1 .1 .0) (c .before .before .before .before .if1 .left) in
+    let q = half (a .count) (length (a .out .now)) (s .pre .1 .1 .0) (more (c .before .before .before .before .if1 .left)) in
     let t₁ = c .before .before .table in
     let l₁ = t₁ .last .1 .1 .1 .1 .1 .1 .1 .1 .0 in
     let n₁ = t₁ .kept .1 .1 .1 .1 .1 .1 .1 .1 .0 in
@@ -115,7 +107,7 @@ table-part-table-start : (t : ℕ) → table-lts.Need-part-table-start (called t
 table-part-table-start t c =
     let s = c .before .before .before .before .before .before .before .before in
     let a = s .args in
-    let q = half (a .count) (length (a .out .now)) (s .pre .1 .1 .0) (c .before .before .before .before .if1 .left) in
+    let q = half (a .count) (length (a .out .now)) (s .pre .1 .1 .0) (more (c .before .before .before .before .if1 .left)) in
     let t₁ = c .before .before .table in
     let l₁ = t₁ .last .1 .1 .1 .1 .1 .1 .1 .1 .0 in
     let n₁ = t₁ .kept .1 .1 .1 .1 .1 .1 .1 .1 .0 in
@@ -128,19 +120,19 @@ table-table-requires-2 : (t : ℕ) → table-lts.Need-table-requires-2 (called t
 table-table-requires-2 t c κs =
     let s = c .before .before .before .before .before .before .before .before .before in
     let a = s .args in
-    let q = half (a .count) (length (a .out .now)) (s .pre .1 .1 .0) (c .before .before .before .before .before .if1 .left) in
+    let q = half (a .count) (length (a .out .now)) (s .pre .1 .1 .0) (more (c .before .before .before .before .before .if1 .left)) in
     let t₁ = c .before .before .before .table in
     let l₁ = t₁ .last .1 .1 .1 .1 .1 .1 .1 .1 .0 in
     let n₁ = t₁ .kept .1 .1 .1 .1 .1 .1 .1 .1 .0 in
     half-asks t _ (a .stride) (a .count) _ (a .step) (length (a .out .now)) _ (length (a .src .now)) (length (a .pw .now))
-    (s .pre .0) (omega arith) (s .pre .1 .0 .1) (s .pre .1 .1 .0) (omega arith) (s .pre .1 .1 .1 .1) (c .before .before .before .before .before .if1 .left)
+    (s .pre .0) (omega arith) (s .pre .1 .0 .1) (s .pre .1 .1 .0) (omega arith) (s .pre .1 .1 .1 .1) (more (c .before .before .before .before .before .if1 .left))
     (second-length (a .out .now) l₁ (length (a .out .now) / 2) (q .size-is) n₁)
 
 table-join-requires : (t : ℕ) → table-lts.Need-join-requires (called t) (table-at t) table.Post
 table-join-requires t c κs =
     let s = c .before .before .before .before .before .before .before .before .before .before .before .before .before in
     let a = s .args in
-    let q = half (a .count) (length (a .out .now)) (s .pre .1 .1 .0) (c .before .before .before .before .before .before .before .before .before .if1 .left) in
+    let q = half (a .count) (length (a .out .now)) (s .pre .1 .1 .0) (more (c .before .before .before .before .before .before .before .before .before .if1 .left)) in
     let t₁ = c .before .before .before .before .before .before .before .table in
     let l₁ = t₁ .last .1 .1 .1 .1 .1 .1 .1 .1 .0 in
     let n₁ = t₁ .kept .1 .1 .1 .1 .1 .1 .1 .1 .0 in
@@ -151,20 +143,16 @@ table-join-requires t c κs =
     (b .size, subst (λ (m : ℕ). Spaced (a .at) (a .step) m (length (a .pw .now))) (q .size-is) (s .pre .1 .1 .1))
 
 table-same-length : (t : ℕ) → table-lts.Need-same-length (called t) (table-at t) table.Post
-table-same-length t c = c .before .before .fill .kept .1 .1 .0
+table-same-length t c = c .before .before .base .kept .1 .1 .1 .1 .1 .1 .1 .1 .0
 
 table-returns : (t : ℕ) → table-lts.Need-returns (called t) (table-at t) table.Post
-table-returns t c =
-    let s = c .before .before .before .before .before .before .before .before .before in
-    let a = s .args in
-    let e = one-of (a .count) (length (a .out .now)) (s .pre .1 .1 .0) (c .before .before .before .before .before .if1 .taken) in
-    rw (c .before .before .fill .ensures, e) (constant-table (a .field) (a .src .now) (a .from) (a .stride) (a .pw .now) (a .at) (a .step) (length (a .out .now)))
+table-returns t c = c .before .before .base .ensures
 
 table-same-length-2 : (t : ℕ) → table-lts.Need-same-length-2 (called t) (table-at t) table.Post
 table-same-length-2 t c =
     let s = c .before .before .before .before .before .before .before .before .before .before .before .before .before .before .before .before in
     let a = s .args in
-    let q = half (a .count) (length (a .out .now)) (s .pre .1 .1 .0) (c .before .before .before .before .before .before .before .before .before .before .before .before .if1 .left) in
+    let q = half (a .count) (length (a .out .now)) (s .pre .1 .1 .0) (more (c .before .before .before .before .before .before .before .before .before .before .before .before .if1 .left)) in
     let t₁ = c .before .before .before .before .before .before .before .before .before .before .table in
     let l₁ = t₁ .last .1 .1 .1 .1 .1 .1 .1 .1 .0 in
     let n₁ = t₁ .kept .1 .1 .1 .1 .1 .1 .1 .1 .0 in
@@ -187,16 +175,14 @@ table-returns-2 t c =
     let j = c .before .before .join in
     whole-table (a .field) (a .src .now) (a .from) (a .stride) (a .count) (a .pw .now) (a .at) (a .step) (length (a .out .now) / 2)
     (a .out .now) l₁ l₂ (j .last .1 .1 .1 .1 .1 .0) refl (s .pre .1 .1 .0) (s .pre .1 .1 .1)
-    (c .before .before .before .before .before .before .before .before .before .before .before .before .if1 .left)
+    (more (c .before .before .before .before .before .before .before .before .before .before .before .before .if1 .left))
     n₁ (t₁ .ensures) n₂ (t₂ .ensures) (j .ensures)
 
 pub +table-spec : {M : Type 1} → statement M
 +table-spec = close μ-table λ t. table-lts.spec (called t)
     (table-at t)
     table.Post
-    (table-mul-fill t)
-    (table-shared-slice-read-fill t)
-    (table-fill-requires t)
+    (table-base-requires t)
     (table-add-odd t)
     (table-mul-stride2 t)
     (table-mul-at2 t)

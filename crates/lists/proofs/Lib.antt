@@ -1,0 +1,4 @@
+pub mod Halves
+pub mod PowerSteps
+pub mod Inverting
+pub mod Interpolating

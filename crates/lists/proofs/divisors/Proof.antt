@@ -1,0 +1,65 @@
+-- `lists::divisors` meets its contract. Assumes nothing.
+use borrow.Author.Needs.{needs}
+use Prim.Native.Nat.{ℕ, suc, _+_, _-_, _*_, _≤_, _<_}
+use native.Mathlib.Omega.{arith}
+use mathlib.Core.Path.{_≡_, refl, sym, ap, _∙_, subst}
+use lib.ListN.{length, getD, drop, take, set, length-set}
+use Rattle.lists.specs.OneInversion.{Inverted}
+use Rattle.lists.proofs.Interpolating.{divisor-nonzero, found-reciprocal}
+use Rattle.lists.proofs.divisors.Statement.{statement}
+use Rattle.lists.proofs.divisors.Tie as tie
+
+differences-requires : tie.Need-differences-requires
+differences-requires c κs = search needs
+
+places-requires : tie.Need-places-requires
+places-requires c κs = search needs
+
+slice-aggregate-invert-all : tie.Need-slice-aggregate-invert-all
+slice-aggregate-invert-all c = search needs
+
+invert-all-requires : tie.Need-invert-all-requires
+invert-all-requires c κs = search needs
+
+enum-told : tie.Need-enum-told
+enum-told c = search needs
+
+enum-told-2 : tie.Need-enum-told-2
+enum-told-2 c = search needs
+
+same-length : tie.Need-same-length
+same-length c = search needs
+
+returns : tie.Need-returns
+returns c =
+    let s = c .before .before .before .before .before .before .before .before .before .before .before .before .before .before .before in
+    let a = s .args in
+    let d = c .before .before .before .before .before .before .before .before .before .before .before .differences in
+    absurd (subst (λ t. Inverted (a .field) (d .last .1 .1 .0) t (c .before .before .before .before .before .invert-all .last .1 .0)) (c .enum-told2 .given .1) (c .before .before .before .before .before .invert-all .ensures)
+    (λ m u. divisor-nonzero (a .field) (a .xs .now) m (s .pre .1) (omega (arith, u, d .kept .1 .1 .0)) (d .ensures m (omega (arith, u, d .kept .1 .1 .0)))))
+
+same-length-2 : tie.Need-same-length-2
+same-length-2 c = search needs
+
+returns-2 : tie.Need-returns-2
+returns-2 c =
+    let s = c .before .before .before .before .before .before .before .before .before .before .before .before .before .before .before in
+    let a = s .args in
+    let d = c .before .before .before .before .before .before .before .before .before .before .before .differences in
+    let each = subst (λ t. Inverted (a .field) (d .last .1 .1 .0) t (c .before .before .before .before .before .invert-all .last .1 .0)) (c .enum-told .given .1) (c .before .before .before .before .before .invert-all .ensures) in
+    λ i u. found-reciprocal (a .field) (d .ensures i u) (each i (omega (arith, u, d .kept .1 .1 .0)))
+
+pub divisors-spec : {M : Type 1} → statement M
+divisors-spec =
+    tie.close
+    (tie.spec
+    differences-requires
+    places-requires
+    slice-aggregate-invert-all
+    invert-all-requires
+    enum-told
+    enum-told-2
+    same-length
+    returns
+    same-length-2
+    returns-2)
