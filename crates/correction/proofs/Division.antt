@@ -11,7 +11,7 @@ use Rattle.definition.specs.Polynomial.{horner, divide, quotient}
 use Rattle.algebra.specs.Laws.{FieldLaws}
 use Rattle.algebra.specs.Lengths.{length-horner}
 use Rattle.correction.specs.Forgetting.{quotient-none}
-use Rattle.correction.proofs.Lists.{part-back, part-store}
+use Rattle.division.specs.BackToFront.{part-back, part-store}
 
 module _ (F : Field ℕ) where
   infixl 65 _⊕_

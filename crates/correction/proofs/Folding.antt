@@ -10,7 +10,7 @@ use Rattle.definition.specs.Lists.{chunks}
 use Rattle.definition.specs.Field.{Field}
 use Rattle.definition.specs.Polynomial.{evaluate, foldPoly}
 use Rattle.polynomial.specs.Backwards.{drop-store}
-use Rattle.correction.proofs.Lists.{one-more}
+use Rattle.division.specs.BackToFront.{one-more}
 
 -- chunk j - 1 ends where chunk j begins, and lies inside
 pub chunk-before : (j k : ℕ) → 0 < j → (j - 1) * k + k ≡ j * k

@@ -1,5 +1,4 @@
 -- One turn, the start and the end of each loop, over plain lists.
-pub mod Lists
 pub mod Folding
 pub mod Division
 pub mod Recurrence

@@ -75,7 +75,7 @@ fn divide_each(field: u32, xs: &[u32], from: usize, f: &mut [u32], count: usize)
 }
 
 // The same by four points at a time, and what is left of them one by one.
-pub fn quotient(field: u32, xs: &[u32], from: usize, f: &mut [u32], count: usize)
+fn by_schemes(field: u32, xs: &[u32], from: usize, f: &mut [u32], count: usize)
     requires { ⌜ (from ≤ length (now xs)) × ((length (now xs) - from ≤ count) × (count ≤ length (now f))) ⌝ }
     ensures { λ _. ⌜ take (count - (length (now (xs .entry)) - from)) (now (f .exit)) ≡ quotient (fieldOf field) (take count (now (f .entry))) (drop from (now (xs .entry))) ⌝ }
 {
@@ -87,6 +87,21 @@ pub fn quotient(field: u32, xs: &[u32], from: usize, f: &mut [u32], count: usize
         i += 4;
     }
     divide_each(field, xs, i, f, left);
+}
+
+// The same: by sums of products where there are many points, which is then quicker, else by schemes.
+pub fn quotient(field: u32, xs: &[u32], from: usize, f: &mut [u32], count: usize)
+    requires { ⌜ (from ≤ length (now xs)) × ((length (now xs) - from ≤ count) × (count ≤ length (now f))) ⌝ }
+    ensures { λ _. ⌜ take (count - (length (now (xs .entry)) - from)) (now (f .exit)) ≡ quotient (fieldOf field) (take count (now (f .entry))) (drop from (now (xs .entry))) ⌝ }
+{
+    let e = xs.len() - from;
+    if 23 < e {
+        if e < 66 {
+            division::divide_all(field, xs, from, f, count);
+            return;
+        }
+    }
+    by_schemes(field, xs, from, f, count);
 }
 
 // Coefficient i of X^n·q.

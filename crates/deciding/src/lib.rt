@@ -546,12 +546,17 @@ fn decide_by(w: &[u32], pw: &[u32]) -> Verdict
     decide(w, pw)
 }
 
-// Deciding, of the words of a stream that passes reading.
+// Deciding, of the words of a stream that passes reading. A small sheet is spared the clearing of many places.
 pub fn deciding(w: &[u32]) -> Verdict
     requires { ⌜ (sheetTest (now w) ≡ accepted) × (rangeTest (sheetOf (now w)) (now w) ≡ accepted) ⌝ }
     requires { ⌜ wordsDue (sheetOf (now w)) ≤ length (now w) ⌝ }
     ensures { λ v. ⌜ verdictOf v ≡ decidingOf (now (w .entry)) ⌝ }
 {
+    if w[1] <= 256 {
+        let mut few = domain::few_points_room();
+        let count = domain::of_sheet_within(w, &mut few);
+        return decide_by(w, &few[..count]);
+    }
     let mut pw = domain::points_room();
     let size = domain::of_sheet(w, &mut pw);
     decide_by(w, &pw[..size])

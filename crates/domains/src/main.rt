@@ -12,8 +12,8 @@ fn main() {
     let answer = intake::encode_input(&bytes[..n], &mut points);
     match answer {
         Answer::Done(size) => show(
-            intake::rounds_input(&bytes[..n]),
-            intake::front(&points, size),
+            word_input::rounds_input(&bytes[..n]),
+            word_input::front(&points, size),
         ),
         Answer::Refusal(number, place) => report::refuse(STDOUT_FILENO, number, place),
     }

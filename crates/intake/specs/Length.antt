@@ -14,8 +14,8 @@ use Rattle.completeness.specs.Numbered.{Allowed}
 use Rattle.completeness.specs.ProveAccepted.{done-allowed}
 use Rattle.completeness.specs.Tests.{equal-passes}
 use Rattle.sheet.specs.Bounds.{coins-most, ranges}
-use Rattle.intake.specs.Input.{taken, wholeWordsTest, wordsOf, sheetPart, coefficientsPart, coinsPart, proveWords, afterTest, proveInput}
-use Rattle.intake.specs.WordLaws.{words-length}
+use Rattle.word_input.specs.Input.{taken, wholeWordsTest, wordsOf, sheetPart, coefficientsPart, coinsPart, proveWords, afterTest, proveInput}
+use Rattle.word_input.specs.WordLaws.{words-length}
 
 -- done only where the test before was passed
 done-after : (t : Outcome) (r : Result) (output : List ℕ) (count : ℕ) → afterTest t r output .answer ≡ done count → (t ≡ accepted) × (r .answer ≡ done count)

@@ -1,108 +1,19 @@
 // What the programs `prove` and `domains` answer to the bytes that they read. No operation asks anything of its caller.
 use outcome::Answer;
 ghost use mathlib.Core.Path.{_≡_};
-ghost use Prim.Native.Nat.{_/_, _≤_};
-ghost use lib.ListN.{length, getD, take, drop};
+ghost use lib.ListN.{take};
 ghost use Rattle.outcome.specs.Meaning.{answerOf};
-ghost use Rattle.stream.specs.Overwriting.{overwrite};
-ghost use Rattle.intake.specs.Input.{taken as takenOf, wordsOf, takeWords, sheetPart, coefficientsPart, coinsPart, proveWords, proveInput, monomial, encodeWords, encodeInput, roundsInput};
-
-// The bytes that count: the first 16,384, or all.
-fn taken(bytes: &[u8]) -> &[u8]
-    ensures { λ r. ⌜ now r ≡ takenOf (now (bytes .entry)) ⌝ }
-{
-    if bytes.len() <= 16384 {
-        return bytes;
-    }
-    &bytes[..16384]
-}
-
-// The words of the bytes, at the front of the output.
-fn place(bytes: &[u8], output: &mut [u32])
-    requires { ⌜ length (now bytes) / 4 ≤ length (now output) ⌝ }
-    ensures { λ _. ⌜ now (output .exit) ≡ overwrite (now (output .entry)) 0 (wordsOf (now (bytes .entry))) ⌝ }
-{
-    let count = bytes.len() / 4;
-    let mut i = 0;
-    while i < count {
-        output[i] = stream::word(bytes, 4 * i);
-        i += 1;
-    }
-}
-
-// The words of an input, at the front of the output; done with their number. Refused where the input is no whole number of words.
-pub fn words(bytes: &[u8], output: &mut [u32; 4096]) -> Answer
-    ensures { λ r. ⌜ answerOf r ≡ takeWords (now (bytes .entry)) (now (output .entry)) .answer ⌝ }
-    ensures { λ r. ⌜ now (output .exit) ≡ takeWords (now (bytes .entry)) (now (output .entry)) .output ⌝ }
-{
-    let counted = taken(bytes);
-    if counted.len() % 4 != 0 {
-        return Answer::Refusal(10, 0);
-    }
-    place(counted, output);
-    Answer::Done(counted.len() / 4)
-}
-
-// The first `count` words, or all.
-pub fn front(words: &[u32], count: usize) -> &[u32]
-    ensures { λ r. ⌜ now r ≡ take count (now (words .entry)) ⌝ }
-{
-    if words.len() < count {
-        return words;
-    }
-    &words[..count]
-}
-
-// The words after the first `count`, or none.
-fn after(words: &[u32], count: usize) -> &[u32]
-    ensures { λ r. ⌜ now r ≡ drop count (now (words .entry)) ⌝ }
-{
-    if words.len() < count {
-        return &words[words.len()..];
-    }
-    &words[count..]
-}
-
-// Word 2 of a sheet, d0, which says how many coefficients an order has; 0 where it is missing.
-fn degree_bound(words: &[u32]) -> usize
-    ensures { λ r. ⌜ r ≡ getD (now (words .entry)) 2 0 ⌝ }
-{
-    if words.len() < 3 {
-        return 0;
-    }
-    words[2] as usize
-}
-
-// The sheet of an order: its first 12 words.
-pub fn sheet(words: &[u32]) -> &[u32]
-    ensures { λ r. ⌜ now r ≡ sheetPart (now (words .entry)) ⌝ }
-{
-    front(words, 12)
-}
-
-// The coefficients of an order: the next d0 words.
-pub fn coefficients(words: &[u32]) -> &[u32]
-    ensures { λ r. ⌜ now r ≡ coefficientsPart (now (words .entry)) ⌝ }
-{
-    front(after(words, 12), degree_bound(words))
-}
-
-// The coins of an order: the rest.
-pub fn coins(words: &[u32]) -> &[u32]
-    ensures { λ r. ⌜ now r ≡ coinsPart (now (words .entry)) ⌝ }
-{
-    after(after(words, 12), degree_bound(words))
-}
+ghost use Rattle.word_input.specs.Input.{proveWords, proveInput, encodeWords, encodeInput};
 
 // The answer to the order in the first `count` words, and the whole output as it then is.
 fn prove_words(words: &[u32; 4096], count: usize, output: &mut [u8]) -> Answer
     ensures { λ r. ⌜ answerOf r ≡ proveWords (take count (now (words .entry))) (now (output .entry)) .answer ⌝ }
     ensures { λ r. ⌜ now (output .exit) ≡ proveWords (take count (now (words .entry))) (now (output .entry)) .output ⌝ }
 {
-    let order = front(words, count);
-    let given = sheet(order);
-    let f = coefficients(order);
-    let rest = coins(order);
+    let order = word_input::front(words, count);
+    let given = word_input::sheet(order);
+    let f = word_input::coefficients(order);
+    let rest = word_input::coins(order);
     prove::prove(given, f, rest, output)
 }
 
@@ -112,20 +23,11 @@ pub fn prove_input(bytes: &[u8], output: &mut [u8]) -> Answer
     ensures { λ r. ⌜ now (output .exit) ≡ proveInput (now (bytes .entry)) (now (output .entry)) .output ⌝ }
 {
     let mut room = [0u32; 4096];
-    let read = words(bytes, &mut room);
+    let read = word_input::words(bytes, &mut room);
     match read {
         Answer::Done(count) => prove_words(&room, count, output),
         Answer::Refusal(number, place) => Answer::Refusal(number, place),
     }
-}
-
-// The polynomial X, with as many coefficients as any sheet asks for.
-fn x_coefficients() -> [u32; 2048]
-    ensures { λ r. ⌜ r ≡ monomial ⌝ }
-{
-    let mut x = [0u32; 2048];
-    x[1] = 1;
-    x
 }
 
 // The points of domain 0 of the sheet in the first `count` words, and the whole output as it then is.
@@ -133,9 +35,13 @@ fn encode_words(words: &[u32; 4096], count: usize, output: &mut [u32]) -> Answer
     ensures { λ r. ⌜ answerOf r ≡ encodeWords (take count (now (words .entry))) (now (output .entry)) .answer ⌝ }
     ensures { λ r. ⌜ now (output .exit) ≡ encodeWords (take count (now (words .entry))) (now (output .entry)) .output ⌝ }
 {
-    let given = front(words, count);
-    let x = x_coefficients();
-    encode::encode(given, front(&x, degree_bound(given)), output)
+    let given = word_input::front(words, count);
+    let x = word_input::x_coefficients();
+    encode::encode(
+        given,
+        word_input::front(&x, word_input::degree_bound(given)),
+        output,
+    )
 }
 
 // The program `domains`: the points of domain 0 of the sheet that an input holds, and the whole output as it then is.
@@ -144,20 +50,9 @@ pub fn encode_input(bytes: &[u8], output: &mut [u32]) -> Answer
     ensures { λ r. ⌜ now (output .exit) ≡ encodeInput (now (bytes .entry)) (now (output .entry)) .output ⌝ }
 {
     let mut room = [0u32; 4096];
-    let read = words(bytes, &mut room);
+    let read = word_input::words(bytes, &mut room);
     match read {
         Answer::Done(count) => encode_words(&room, count, output),
         Answer::Refusal(number, place) => Answer::Refusal(number, place),
     }
-}
-
-// M of the sheet that an input holds, 0 where it is missing.
-pub fn rounds_input(bytes: &[u8]) -> u32
-    ensures { λ r. ⌜ r ≡ roundsInput (now (bytes .entry)) ⌝ }
-{
-    let counted = taken(bytes);
-    if counted.len() < 20 {
-        return 0;
-    }
-    stream::word(counted, 16)
 }

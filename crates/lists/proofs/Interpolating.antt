@@ -1,7 +1,7 @@
 -- Interpolation by coefficient lists: the differences of the points, and one Newton step after the other. Assumes nothing.
 use Prim.Native.Nat.{ℕ, zero, suc, _+_, _-_, _*_, _/_, _%_, _≤_, _<_}
 use native.Mathlib.Decide.{decLt}
-use native.Mathlib.Nat.{div-add-mod', le-refl, mod-lt}
+use native.Mathlib.Nat.{div-add-mod', le-refl, mod-lt, mul-le-mul}
 use native.Mathlib.Numerals.{add-one}
 use native.Mathlib.Omega.{arith}
 use mathlib.Core.Path.{_≡_, refl, sym, ap, ap₂, _∙_, subst}
@@ -9,7 +9,7 @@ use mathlib.Core.List.{List, [], _∷_, _++_, zipWith}
 use mathlib.Core.Option.{some}
 use lib.ListN.{length, take, drop, getD, set, length-set, length-drop, List·getD-eq-default}
 use lib.Seq.{drop-at, drop-cons, drop-length, getD-append-add, getD-drop, getD-set-other, length-take-le, take-all, take-append-le}
-use Rattle.definition.specs.Field.{Field, primeField, fieldOf, foundOr, reciprocal}
+use Rattle.definition.specs.Field.{Field, primeField, primeOf, fieldOf, foundOr, reciprocal}
 use Rattle.definition.specs.Polynomial.{pair, points, evaluate, vanishing, interpolate, geometric}
 use Rattle.algebra.specs.Division.{evaluate-vanishing, vanishing-nil, vanishing-nonzero}
 use Rattle.algebra.specs.Evaluation.{evaluate-nil, reduce-evaluate}
@@ -17,7 +17,7 @@ use Rattle.algebra.specs.Different.{Apart, Differ}
 use Rattle.algebra.specs.Interpolation.{interpolate-cons}
 use Rattle.algebra.specs.Lengths.{length-geometric}
 use Rattle.algebra.specs.ListFacts.{All}
-use Rattle.algebra.specs.PrimeField.{laws}
+use Rattle.algebra.specs.PrimeField.{laws, suited}
 use Rattle.algebra.specs.RingLaws.{zero-add, reduce-sub}
 use Rattle.algebra.specs.Solver.{:0, :1, _:+_, _:*_, _:=_, solve₁}
 use Rattle.domain.specs.Filled.{Filled, filled-next}
@@ -26,10 +26,11 @@ use Rattle.polynomial.specs.Backwards.{drop-back}
 use Rattle.polynomial.specs.Vanishing.{vanishAt, vanish-ok}
 use Rattle.polynomial.specs.Pairs.{pair-cons, pair-length, points-pair}
 use Rattle.polynomial.specs.Inverses.{Nonzero}
-use Rattle.lists.specs.ZeroPadding.{ZeroFrom, zeros-at, zeros-behind, zeros-taken}
+use Rattle.sums.specs.ZeroPadding.{ZeroFrom, zeros-at, zeros-behind, zeros-taken}
 use Rattle.lists.specs.Correcting.{Correcting}
 use Rattle.lists.specs.Steps.{Through, added-at, raised-at}
-use Rattle.lists.specs.Sums.{products, products-swap, products-powers}
+use Rattle.sums.specs.Sums.{products, products-swap, products-powers}
+use Rattle.sums.specs.Primes.{prime-small, prime-some}
 
 -- ---- the value by the powers
 
@@ -41,19 +42,45 @@ value-is field f room x n pos h e er =
 
 -- ---- differences
 
+-- the product of a remainder and of the sum of a word and a remainder
+pub sum-times-fits : (field : ℕ) {x d y : ℕ} → x < 4294967296 → d < primeOf field → y < primeOf field → (x + d) * y ≤ 17293822577692639232
+sum-times-fits field {x} {d} {y} hx hd hy =
+    let small = prime-small field in
+    let few : x + d ≤ 8589934592 = omega arith in
+    let less : y ≤ 2013265921 = omega arith in
+    mul-le-mul few less
+
 module _ (field : ℕ) (xs : List ℕ) where
   abbrev F : Field ℕ
   F = fieldOf field
 
-  pub difference-turn : (f : ℕ → ℕ) (old new : List ℕ) (i j : ℕ) {s r : ℕ} → Filled f old new i → s ≡ F ._⊖_ (getD xs i 0) (getD xs j 0) → r ≡ F ._⊗_ s (getD new i 0) →
-      r ≡ F ._⊗_ (F ._⊖_ (getD xs i 0) (getD xs j 0)) (getD old i 0)
-  difference-turn f old new i j t es er = er ∙ ap₂ (λ (a b : ℕ). F ._⊗_ a b) es (t .left i (le-refl i))
+  -- what a difference or a product gives is below p
+  pub negative-small : (b : ℕ) {d : ℕ} → d ≡ F ._⊖_ 0 b → d < primeOf field
+  unfolding fieldOf primeField
+  negative-small b e = omega (arith, e, mod-lt (0 + (primeOf field - b % primeOf field)) (prime-some field))
+
+  vanish-small : (l : List ℕ) (x : ℕ) → vanishAt F l x < primeOf field
+  unfolding vanishAt fieldOf primeField
+  vanish-small [] x = omega (arith, suited field .large)
+  vanish-small (a ∷ l) x = mod-lt (F ._⊖_ x a * vanishAt F l x) (prime-some field)
+
+  pub kept-small : (f : ℕ → ℕ) (old new : List ℕ) (i : ℕ) → Filled f old new i → getD old i 0 < primeOf field → getD new i 0 < primeOf field
+  kept-small f old new i t l = omega (arith, l, t .left i (le-refl i))
+
+  pub difference-turn : (f : ℕ → ℕ) (old new : List ℕ) (i j : ℕ) {d r : ℕ} → Filled f old new i → d ≡ F ._⊖_ 0 (getD xs j 0) →
+      r ≡ F ._⊗_ (F ._⊕_ (getD xs i 0) d) (getD new i 0) → r ≡ F ._⊗_ (F ._⊖_ (getD xs i 0) (getD xs j 0)) (getD old i 0)
+  unfolding fieldOf primeField
+  difference-turn f old new i j t ed er =
+      er ∙ ap₂ (λ (a b : ℕ). F ._⊗_ a b) (ap (F ._⊕_ (getD xs i 0)) ed ∙ sym (laws field .sub-def (getD xs i 0) (getD xs j 0))) (t .left i (le-refl i))
 
   -- the products of the differences to the points from number j on
   pub record Differed (out : List ℕ) (j : ℕ) : Type 0 where
     pub same : length out ≡ length xs
     pub before : (i : ℕ) → i < j → getD out i 0 ≡ vanishAt F (drop j xs) (getD xs i 0)
     pub done : (i : ℕ) → j ≤ i → i < length xs → getD out i 0 ≡ vanishAt F (drop (suc i) xs) (getD xs i 0)
+
+  pub differed-small : (out : List ℕ) (j i : ℕ) → Differed out j → i < j → getD out i 0 < primeOf field
+  differed-small out j i d l = omega (arith, d .before i l, vanish-small (drop j xs) (getD xs i 0))
 
   pub differed-first : (old out : List ℕ) → length old ≡ length xs → Filled (λ _. 1) old out (length old) → Differed out (length xs)
   unfolding vanishAt fieldOf primeField

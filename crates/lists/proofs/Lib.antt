@@ -1,4 +1,1 @@
-pub mod Halves
-pub mod PowerSteps
-pub mod Inverting
 pub mod Interpolating

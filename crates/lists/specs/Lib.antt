@@ -1,8 +1,3 @@
--- Polynomials by their coefficients: sums of products, the values at the k roots of a point, one inversion for many words, and the definition's Newton step.
-pub mod ZeroPadding
-pub mod Sums
-pub mod Residues
-pub mod AtRoots
-pub mod OneInversion
+-- The definition's Newton step on coefficient lists, and what a round leaves to correct the next table by.
 pub mod Steps
 pub mod Correcting

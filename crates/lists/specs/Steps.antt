@@ -8,7 +8,7 @@ use Rattle.definition.specs.Field.{Field, fieldOf, reciprocal}
 use Rattle.definition.specs.Polynomial.{pair, evaluate, vanishing, interpolate}
 use Rattle.algebra.specs.Laws.{FieldLaws}
 use Rattle.algebra.specs.Solver.{:0, _:+_, _:*_, _:=_, solve₁, solve₃, solve₄, solve₅, solve₆}
-use Rattle.lists.specs.ZeroPadding.{ZeroFrom}
+use Rattle.sums.specs.ZeroPadding.{ZeroFrom}
 
 module _ {A : Type 0} (F : Field A) (L : FieldLaws F) where
   infixl 65 _⊕_

@@ -16,9 +16,9 @@ use Rattle.algebra.specs.Solver.{_:*_, _:=_, solve₃}
 use Rattle.domain.specs.Filled.{Filled}
 use Rattle.domain.specs.Roots.{around}
 use Rattle.polynomial.specs.Inverses.{Nonzero}
-use Rattle.lists.specs.AtRoots.{everyNth, sums-at}
-use Rattle.lists.specs.Residues.{root-powers}
-use Rattle.lists.specs.Sums.{products}
+use Rattle.sums.specs.AtRoots.{everyNth, sums-at}
+use Rattle.sums.specs.Residues.{root-powers}
+use Rattle.sums.specs.Sums.{products}
 use Rattle.tables.specs.Halving.{Halves, Table}
 use Rattle.rounds.specs.declared.Function.{Function}
 use Rattle.rounds.specs.PointsIn.{pointIn}

@@ -1,19 +1,22 @@
 -- The sample at a shift index, and one turn of the walks over indices: the one that puts samples, and the one that compares. Assumes nothing.
-use Prim.Native.Nat.{ℕ, zero, suc, _+_, _-_, _*_, _≤_, _<_}
+use Prim.Native.Nat.{ℕ, zero, suc, _+_, _-_, _*_, _%_, _≤_, _<_}
 use mathlib.Core.Path.{_≡_, _∙_, sym, ap, refl}
 use mathlib.Core.Bool.{Bool, true, false}
 use mathlib.Core.List.{List, [], _∷_, map, zipWith}
 use mathlib.Core.Option.{Option, none, some}
 use native.Mathlib.Nat
-use native.Mathlib.Nat.{le-refl, mul-le-mul-right, suc-mul}
+use native.Mathlib.Nat.{le-refl, mul-le-mul, mul-le-mul-right, suc-mul}
 use native.Mathlib.Numerals.{add-one}
 use native.Mathlib.Omega.{arith}
-use lib.ListN.{length, drop, getD, drop-of-length-le}
+use lib.ListN.{length, drop, getD, drop-of-length-le, List·getD-eq-default}
 use lib.Seq.{drop-cons}
 use borrow.Author.Tests.{eq-eqb, ne-eqb}
 use Rattle.definition.specs.Lists.{firstTrue}
-use Rattle.definition.specs.Field.{fieldOf}
-use Rattle.definition.specs.Polynomial.{Sample, pair, evaluate}
+use Rattle.definition.specs.Field.{Field, fieldOf, power}
+use Rattle.definition.specs.Polynomial.{Sample, pair, evaluate, geometric}
+use Rattle.algebra.specs.PrimeField.{laws}
+use Rattle.domain.specs.Powers.{Powers}
+use Rattle.sums.specs.Sums.{products, products-powers}
 use Rattle.polynomial.specs.Backwards.{drop-back}
 use Rattle.samples.specs.Samples.{put, sifted, Room}
 use Rattle.samples.specs.declared.Gathered.{Gathered}
@@ -22,10 +25,11 @@ use Rattle.samples.specs.SampleLaws.{put-ok, clash-drop, sifted-nil}
 use Rattle.rounds.specs.declared.Function.{Function}
 use Rattle.rounds.specs.Halving.{halving, exponentOf}
 use Rattle.rounds.specs.HalvingLaw.{halving-same}
-use Rattle.rounds.specs.PointsIn.{backIn, shiftIn}
+use Rattle.rounds.specs.PointsIn.{backIn, shiftIn, shift-power}
 use Rattle.rounds.specs.Prepared.{Prepared, foldBy, numbered, rootBy, sampleBy}
 use Rattle.rounds.specs.Round.{Fits, Below, foldIn, halfOf, power-of, rootIn, sampleIn}
 use Rattle.rounds.specs.RoundLaws.{differsIn}
+use Rattle.rounds.proofs.RootValues.{exponent-is}
 
 -- ---- the sample at an index
 
@@ -47,6 +51,31 @@ module _ (field : ℕ) (pw table tops inverses : List ℕ) (how : Function) wher
 
   pub sample-for : (r k i : ℕ) {k′ j j′ : ℕ} {s : Sample ℕ} → s ≡ sampleBy field pw table tops inverses how k r i j → k ≡ k′ → j ≡ j′ → s ≡ sampleBy field pw table tops inverses how k′ r i j′
   sample-for r k i e ek ej = e ∙ (λ z. sampleBy field pw table tops inverses how (ek z) r i (ej z))
+
+  -- the final polynomial's value at a shift point is that at the sample's point
+  pub value-for : (r k i : ℕ) (coefficients : List ℕ) {v x y k′ j j′ : ℕ} → v ≡ evaluate (fieldOf field) coefficients (shiftIn pw (how .scale) k j) → k ≡ k′ → j ≡ j′ →
+      record { point = x; value = y } ≡ sampleBy field pw table tops inverses how k′ r i j′ → v ≡ evaluate (fieldOf field) coefficients x
+  unfolding sampleBy
+  value-for r k i coefficients ev ek ej e =
+      ev ∙ (λ z. evaluate (fieldOf field) coefficients (shiftIn pw (how .scale) (ek z) (ej z))) ∙ sym (ap (λ (s : Sample ℕ). evaluate (fieldOf field) coefficients (s .point)) e)
+
+-- the exponent of a shift point fits
+pub exponent-fits : (e k : ℕ) {n : ℕ} → e < n → n ≤ 4096 → k ≤ 16 → (k * e ≤ 65536) × (k + k * e ≤ 131072)
+exponent-fits e k l few small =
+    let less : e ≤ 4096 = omega arith in
+    let most : k * e ≤ 16 * 4096 = mul-le-mul small less in
+    (omega arith, omega arith)
+
+-- the final polynomial by the powers of a shift point, which has no more coefficients than there are powers
+pub final-is : (field ω : ℕ) (pw : List ℕ) (scale k j : ℕ) (coefficients powers : List ℕ) {v : ℕ} → Powers field ω pw → 0 < k → 0 < length pw →
+    powers ≡ geometric (fieldOf field) (power (fieldOf field) ω ((k + k * (scale * j)) % length pw)) (length powers - 1) → length coefficients < length powers →
+    v ≡ products (fieldOf field) coefficients powers → v ≡ evaluate (fieldOf field) coefficients (shiftIn pw scale k j)
+final-is field ω pw scale k j coefficients powers w pos long list more ev =
+    let F = fieldOf field in
+    let y = power F ω ((k + k * (scale * j)) % length pw) in
+    ev ∙ ap (products F coefficients) list
+    ∙ products-powers F (laws field) coefficients y (length powers - 1) (λ m l. List·getD-eq-default coefficients (F .𝟘) (omega arith))
+    ∙ ap (evaluate F coefficients) (exponent-is field ω (length pw) k (scale * j) (w .round) ∙ sym (shift-power pw scale k j pos long field ω w))
 
 -- ---- numbered elements
 

@@ -15,6 +15,10 @@ use Rattle.domain.specs.Powers.{Powers}
 use Rattle.domain.specs.Roots.{around}
 use Rattle.domain.specs.Points.{point-at}
 
+-- the words are the powers of some ω
+abbrev pub PowerTable : ℕ → List ℕ → Type 0
+PowerTable field pw = (ω : ℕ) × Powers field ω pw
+
 -- point m of a domain: every scale-th word of the table
 unfoldable pub pointIn : List ℕ → ℕ → ℕ → ℕ
 pointIn pw scale m = getD pw (scale * m) 0

@@ -10,7 +10,7 @@
 // that one has at r. So k values halve to k/2, until one is left. The caller lends `values` for them, k words of scratch. The inverse of 2 is asked for once for
 // all coins of a round; that of a power of ω stands in the table.
 use field::Inversion;
-use lists::Inverses;
+use inversions::Inverses;
 use outcome::Found;
 use samples::Gathered;
 ghost use mathlib.Core.Path.{_≡_};
@@ -24,7 +24,7 @@ ghost use Rattle.field.specs.Answer.{inversionOf};
 ghost use Rattle.outcome.specs.Meaning.{placeOf};
 ghost use Rattle.samples.specs.Samples.{kept, sifted, Room};
 ghost use Rattle.rounds.specs.Halving.{joined, halving, exponentOf};
-ghost use Rattle.rounds.specs.PointsIn.{backIn, shiftIn, ShiftPoint};
+ghost use Rattle.rounds.specs.PointsIn.{PowerTable, backIn, shiftIn, ShiftPoint};
 ghost use Rattle.rounds.specs.Prepared.{Fraction, Fractions, Prepared, numbered, rootBy, foldBy, sampleBy};
 ghost use Rattle.rounds.specs.Round.{Fits, Below, Clear, Rooted, vanishingIn, numeratorIn, halfOf, rootIn, sampleIn};
 ghost use Rattle.rounds.specs.RoundLaws.{Answered, Compared, differsIn};
@@ -69,7 +69,7 @@ fn at_roots(
     ensures { λ _. ⌜ ((m : ℕ) → m < k → getD (now (out .exit)) m 0 ≡ evaluate (fieldOf field) (now (f .entry)) (getD (now (pw .entry)) (at + step * m) 0)) ⌝ }
 {
     let mut sums = roots();
-    lists::residues(field, f, powers, &mut sums[..k]);
+    sums::residues(field, f, powers, &mut sums[..k]);
     tables::on_roots(field, &sums[..k], pw, at, step, &mut out[..k]);
 }
 
@@ -148,7 +148,7 @@ fn gather_table(table: &[u32], step: usize, j: usize, values: &mut [u32])
 {
     let mut m = 0;
     while m < values.len() {
-        values[m] = lists::every(table, j, step, m);
+        values[m] = sums::every(table, j, step, m);
         m += 1;
     }
 }
@@ -175,7 +175,7 @@ fn fractions(
     let count = how.words / k;
     let exponent = (k + k * (how.scale * j)) % pw.len();
     let mut powers = columns();
-    lists::powers_in(pw, exponent, &mut powers[..count]);
+    sums::powers_in(pw, exponent, &mut powers[..count]);
     quotients(
         field,
         pw,
@@ -251,7 +251,7 @@ fn prepare(
     }
     all_fractions(field, pw, table, ac, vg, how, k, js, tops, bottoms);
     let n = js.len() * k;
-    let found = lists::invert_all(field, &mut bottoms[..n], behind);
+    let found = inversions::invert_all(field, &mut bottoms[..n], behind);
     let Inverses::Found = found else {
         return;
     };
@@ -601,6 +601,33 @@ pub fn answer(
     samples::push_all(outs, replies, px, py, k)
 }
 
+// The final polynomial at the shift point of index j: by the powers of the point, which stand in the table, where there is room for them and more than a few are
+// needed; else by Horner's rule.
+fn final_value(
+    field: u32,
+    pw: &[u32],
+    scale: usize,
+    j: usize,
+    k: usize,
+    coefficients: &[u32],
+) -> u32
+    requires { ⌜ (scale * j < length (now pw)) × ((length (now pw) ≤ 4096) × ((0 < k) × (k ≤ 16))) ⌝ }
+    requires { ⌜ PowerTable field (now pw) ⌝ }
+    ensures { λ v. ⌜ v ≡ evaluate (fieldOf field) (now (coefficients .entry)) (shiftIn (now (pw .entry)) scale k j) ⌝ }
+{
+    let n = coefficients.len();
+    if 8 < n {
+        if n < 66 {
+            let exponent = (k + k * (scale * j)) % pw.len();
+            let mut powers = lists::places();
+            sums::powers_in(pw, exponent, &mut powers[..n + 1]);
+            return sums::sum(field, coefficients, &powers[..n + 1]);
+        }
+    }
+    let x = shift_point(pw, scale, j, k);
+    polynomial::value_at(field, coefficients, x)
+}
+
 // The first final index at whose shift point the final polynomial differs from the fold; `two` is the answer for 2.
 fn compare(
     field: u32,
@@ -619,24 +646,14 @@ fn compare(
     requires { ⌜ Fits (length (now pw)) (length (now table)) how (length (now values)) ⌝ }
     requires { ⌜ Below (how .step) (now finals) ⌝ }
     requires { ⌜ inversionOf two ≡ fieldOf field .inverse 2 ⌝ }
+    requires { ⌜ PowerTable field (now pw) ⌝ }
     ensures { λ v. ⌜ placeOf v ≡ firstTrue 0 (numbered (λ i j. differsIn field (now (coefficients .entry)) (sampleBy field (now (pw .entry)) (now (table .entry)) (now (tops .entry)) (now (inverses .entry)) how (length (now (values .entry))) r i j)) 0 (now (finals .entry))) ⌝ }
 {
     let mut i = 0;
     while i < finals.len() {
-        let s = sample_at(
-            field,
-            pw,
-            table,
-            tops,
-            inverses,
-            how,
-            i,
-            wide(finals[i]),
-            r,
-            two,
-            values,
-        );
-        let value = polynomial::value_at(field, coefficients, s.x);
+        let j = wide(finals[i]);
+        let s = sample_at(field, pw, table, tops, inverses, how, i, j, r, two, values);
+        let value = final_value(field, pw, how.scale, j, values.len(), coefficients);
         if value != s.y {
             return Found::At(i);
         }

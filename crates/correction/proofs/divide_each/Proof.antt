@@ -6,7 +6,7 @@ use mathlib.Core.List.{[], _∷_}
 use lib.ListN.{length, take, drop, getD}
 use Rattle.definition.specs.Field.{fieldOf}
 use Rattle.definition.specs.Polynomial.{quotient}
-use Rattle.correction.proofs.Lists.{drop-one}
+use Rattle.division.specs.BackToFront.{drop-one}
 use Rattle.correction.proofs.Division.{quotient-one, quotient-turn, quotient-end}
 use Rattle.correction.proofs.divide_each.Statement.{statement}
 use Rattle.correction.proofs.divide_each.Tie as tie

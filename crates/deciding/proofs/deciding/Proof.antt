@@ -1,22 +1,28 @@
 -- `deciding::deciding` meets its contract. Assumes nothing.
+use native.Mathlib.Omega.{arith}
 use borrow.Author.Needs.{needs}
 use Rattle.deciding.specs.First.{shaped}
 use Rattle.deciding.proofs.deciding.Statement.{statement}
 use Rattle.deciding.proofs.deciding.Tie as tie
 
-points-room-requires : tie.Need-points-room-requires
-points-room-requires c κs = search needs
+shared-slice-read-if1 : tie.Need-shared-slice-read-if1
+shared-slice-read-if1 c =
+    let s = c .before .before in
+    omega (arith, shaped (s .args .w .now) (s .pre .0 .0) (s .pre .1) .long)
 
-slice-aggregate-of-sheet : tie.Need-slice-aggregate-of-sheet
-slice-aggregate-of-sheet c = search needs
+few-points-room-requires : tie.Need-few-points-room-requires
+few-points-room-requires c κs = search needs
 
-of-sheet-requires : tie.Need-of-sheet-requires
-of-sheet-requires c κs =
-    let s = c .before .before .before in
-    ((shaped (s .args .w .now) (s .pre .0 .0) (s .pre .1) .long, s .pre .0 .0), c .before .points-room .ensures)
+slice-aggregate-of-sheet-within : tie.Need-slice-aggregate-of-sheet-within
+slice-aggregate-of-sheet-within c = search needs
 
-array-share-prefix-pw : tie.Need-array-share-prefix-pw
-array-share-prefix-pw c = search needs
+of-sheet-within-requires : tie.Need-of-sheet-within-requires
+of-sheet-within-requires c κs =
+    let s = c .before .before .before .before .before in
+    ((shaped (s .args .w .now) (s .pre .0 .0) (s .pre .1) .long, s .pre .0 .0), search needs)
+
+array-share-prefix-few : tie.Need-array-share-prefix-few
+array-share-prefix-few c = search needs
 
 slice-aggregate-decide-by : tie.Need-slice-aggregate-decide-by
 slice-aggregate-decide-by c = search needs
@@ -27,14 +33,45 @@ decide-by-requires c κs = search needs
 returns : tie.Need-returns
 returns c = search needs
 
+points-room-requires : tie.Need-points-room-requires
+points-room-requires c κs = search needs
+
+slice-aggregate-of-sheet : tie.Need-slice-aggregate-of-sheet
+slice-aggregate-of-sheet c = search needs
+
+of-sheet-requires : tie.Need-of-sheet-requires
+of-sheet-requires c κs =
+    let s = c .before .before .before .before .before in
+    ((shaped (s .args .w .now) (s .pre .0 .0) (s .pre .1) .long, s .pre .0 .0), c .before .points-room .ensures)
+
+array-share-prefix-pw : tie.Need-array-share-prefix-pw
+array-share-prefix-pw c = search needs
+
+slice-aggregate-decide-by-2 : tie.Need-slice-aggregate-decide-by-2
+slice-aggregate-decide-by-2 c = search needs
+
+decide-by-requires-2 : tie.Need-decide-by-requires-2
+decide-by-requires-2 c κs = search needs
+
+returns-2 : tie.Need-returns-2
+returns-2 c = search needs
+
 pub deciding-spec : {M : Type 1} → statement M
 deciding-spec =
     tie.close
     (tie.spec
+    shared-slice-read-if1
+    few-points-room-requires
+    slice-aggregate-of-sheet-within
+    of-sheet-within-requires
+    array-share-prefix-few
+    slice-aggregate-decide-by
+    decide-by-requires
+    returns
     points-room-requires
     slice-aggregate-of-sheet
     of-sheet-requires
     array-share-prefix-pw
-    slice-aggregate-decide-by
-    decide-by-requires
-    returns)
+    slice-aggregate-decide-by-2
+    decide-by-requires-2
+    returns-2)

@@ -1,8 +1,8 @@
 -- `intake::encode_input` meets its contract.
 use mathlib.Core.Path.{sym, ap, _∙_}
 use Rattle.outcome.specs.Meaning.{answerOf}
-use Rattle.intake.specs.Input.{encodeWords, encodeInput}
-use Rattle.intake.proofs.InputWords.{Made, answered-words, refused-words}
+use Rattle.word_input.specs.Input.{encodeWords, encodeInput}
+use Rattle.word_input.specs.InputWords.{Made, answered-words, refused-words}
 use borrow.Author.Needs.{needs}
 use Rattle.intake.proofs.encode_input.Statement.{statement}
 use Rattle.intake.proofs.encode_input.Tie as tie

@@ -1,5 +1,5 @@
 -- `intake::encode_words` meets its contract.
-use Rattle.intake.specs.Input.{encodeWords}
+use Rattle.word_input.specs.Input.{encodeWords}
 use borrow.Author.Needs.{needs}
 use Rattle.intake.proofs.encode_words.Statement.{statement}
 use Rattle.intake.proofs.encode_words.Tie as tie

@@ -1,8 +1,8 @@
 -- `intake::prove_input` meets its contract.
 use mathlib.Core.Path.{sym, ap, _∙_}
 use Rattle.outcome.specs.Meaning.{answerOf}
-use Rattle.intake.specs.Input.{proveWords, proveInput}
-use Rattle.intake.proofs.InputWords.{Made, answered-words, refused-words}
+use Rattle.word_input.specs.Input.{proveWords, proveInput}
+use Rattle.word_input.specs.InputWords.{Made, answered-words, refused-words}
 use borrow.Author.Needs.{needs}
 use Rattle.intake.proofs.prove_input.Statement.{statement}
 use Rattle.intake.proofs.prove_input.Tie as tie

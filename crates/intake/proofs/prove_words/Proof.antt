@@ -1,5 +1,5 @@
 -- `intake::prove_words` meets its contract.
-use Rattle.intake.specs.Input.{proveWords}
+use Rattle.word_input.specs.Input.{proveWords}
 use borrow.Author.Needs.{needs}
 use Rattle.intake.proofs.prove_words.Statement.{statement}
 use Rattle.intake.proofs.prove_words.Tie as tie

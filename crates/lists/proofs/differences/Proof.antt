@@ -4,7 +4,7 @@ use native.Mathlib.Omega.{arith}
 use mathlib.Core.Path.{_≡_, refl, sym, ap, _∙_, subst}
 use lib.ListN.{length, getD, drop, take, set, length-set}
 use borrow.Author.Needs.{needs}
-use Rattle.lists.proofs.Interpolating.{Differed, differed-first, differed-next}
+use Rattle.lists.proofs.Interpolating.{Differed, differed-first, differed-next, differed-small}
 use Rattle.lists.proofs.differences.Statement.{statement}
 use Rattle.lists.proofs.differences.Tie as tie
 
@@ -26,7 +26,10 @@ sub-j : tie.Need-sub-j Inv-loop μ-loop
 sub-j c = omega arith
 
 times-difference-requires : tie.Need-times-difference-requires Inv-loop μ-loop
-times-difference-requires c κs = (omega arith, c .before .before .loop .inv .1 .same)
+times-difference-requires c κs =
+    let l = c .before .before .loop in
+    let a = c .before .before .before .before .before .before .before .before .before .args in
+    ((omega arith, l .inv .1 .same), λ i u. differed-small (a .field) (a .xs .now) (l .out) (l .j) i (l .inv .1) (omega arith))
 
 loop-less : tie.Need-loop-less Inv-loop μ-loop
 loop-less c = omega arith

@@ -4,7 +4,7 @@ use Prim.Native.Nat.{ℕ, suc, _+_, _-_, _*_, _≤_, _<_}
 use native.Mathlib.Omega.{arith}
 use mathlib.Core.Path.{_≡_, refl, sym, ap, _∙_, subst}
 use lib.ListN.{length, getD, drop, take, set, length-set}
-use Rattle.lists.specs.OneInversion.{Inverted}
+use Rattle.inversions.specs.OneInversion.{Inverted}
 use Rattle.lists.proofs.Interpolating.{divisor-nonzero, found-reciprocal}
 use Rattle.lists.proofs.divisors.Statement.{statement}
 use Rattle.lists.proofs.divisors.Tie as tie

@@ -6,26 +6,15 @@ use lib.ListN.{length, getD, drop, set, length-set}
 use borrow.Author.Needs.{needs}
 use Rattle.definition.specs.Field.{Field, fieldOf}
 use Rattle.domain.specs.Filled.{Filled, filled-first, filled-next}
-use Rattle.lists.proofs.Interpolating.{difference-turn}
+use Rattle.lists.proofs.Interpolating.{difference-turn, kept-small, negative-small}
 use Rattle.lists.proofs.times_difference.Statement.{statement}
 use Rattle.lists.proofs.times_difference.Tie as tie
 
 abbrev Inv-loop : tie.InvT-loop
-Inv-loop field xs j out₀ b i₀ out i = (i ≤ j) × Filled (λ i. fieldOf field ._⊗_ (fieldOf field ._⊖_ (getD xs i 0) (getD xs j 0)) (getD out₀ i 0)) out₀ out i
+Inv-loop field xs j out₀ d i₀ out i = (i ≤ j) × Filled (λ i. fieldOf field ._⊗_ (fieldOf field ._⊖_ (getD xs i 0) (getD xs j 0)) (getD out₀ i 0)) out₀ out i
 
 abbrev μ-loop : tie.MeasureT-loop
-μ-loop field xs j out₀ b i₀ out i = j - i
-
-mul-b : tie.Need-mul-b Inv-loop μ-loop
-mul-b c = omega arith
-
-shared-slice-read-b : tie.Need-shared-slice-read-b Inv-loop μ-loop
-shared-slice-read-b c = omega arith
-
-loop-holds : tie.Need-loop-holds Inv-loop μ-loop
-loop-holds c =
-    let a = c .before .before .before .args in
-    (omega arith, filled-first (λ i. fieldOf (a .field) ._⊗_ (fieldOf (a .field) ._⊖_ (getD (a .xs .now) i 0) (getD (a .xs .now) (a .j) 0)) (getD (a .out .now) i 0)) (a .out .now))
+μ-loop field xs j out₀ d i₀ out i = j - i
 
 mul-sub : tie.Need-mul-sub Inv-loop μ-loop
 mul-sub c = omega arith
@@ -36,14 +25,32 @@ shared-slice-read-sub c = omega arith
 sub-requires : tie.Need-sub-requires Inv-loop μ-loop
 sub-requires c κs = omega arith
 
-mul-mul : tie.Need-mul-mul Inv-loop μ-loop
-mul-mul c = omega arith
+loop-holds : tie.Need-loop-holds Inv-loop μ-loop
+loop-holds c =
+    let a = c .before .before .before .before .args in
+    (omega arith, filled-first (λ i. fieldOf (a .field) ._⊗_ (fieldOf (a .field) ._⊖_ (getD (a .xs .now) i 0) (getD (a .xs .now) (a .j) 0)) (getD (a .out .now) i 0)) (a .out .now))
 
-slice-read-mul : tie.Need-slice-read-mul Inv-loop μ-loop
-slice-read-mul c = omega arith
+mul-sum-times : tie.Need-mul-sum-times Inv-loop μ-loop
+mul-sum-times c = omega arith
 
-mul-requires : tie.Need-mul-requires Inv-loop μ-loop
-mul-requires c κs = omega arith
+shared-slice-read-sum-times : tie.Need-shared-slice-read-sum-times Inv-loop μ-loop
+shared-slice-read-sum-times c = omega arith
+
+mul-sum-times-2 : tie.Need-mul-sum-times-2 Inv-loop μ-loop
+mul-sum-times-2 c = omega arith
+
+slice-read-sum-times : tie.Need-slice-read-sum-times Inv-loop μ-loop
+slice-read-sum-times c = omega arith
+
+sum-times-requires : tie.Need-sum-times-requires Inv-loop μ-loop
+sum-times-requires c κs =
+    let l = c .before .before .before .loop in
+    let s = c .before .before .before .before .before .before .before .before in
+    let a = s .args in
+    let f : ℕ → ℕ = (λ i. fieldOf (a .field) ._⊗_ (fieldOf (a .field) ._⊖_ (getD (a .xs .now) i 0) (getD (a .xs .now) (a .j) 0)) (getD (a .out .now) i 0)) in (
+      negative-small (a .field) (a .xs .now) (getD (a .xs .now) (a .j) 0) (c .before .before .before .before .sub .ensures),
+      kept-small (a .field) (a .xs .now) f (a .out .now) (l .out) (l .i) (l .inv .1) (s .pre .1 (l .i) (omega arith)),
+    )
 
 mul-out : tie.Need-mul-out Inv-loop μ-loop
 mul-out c = omega arith
@@ -59,10 +66,10 @@ loop-less c = omega arith
 
 loop-again : tie.Need-loop-again Inv-loop μ-loop
 loop-again c =
-    let l = c .before .before .before .before .before .loop in
+    let l = c .before .before .before .before .loop in
     let a = c .before .before .before .before .before .before .before .before .before .args in
     let f : ℕ → ℕ = (λ i. fieldOf (a .field) ._⊗_ (fieldOf (a .field) ._⊖_ (getD (a .xs .now) i 0) (getD (a .xs .now) (a .j) 0)) (getD (a .out .now) i 0)) in
-    (omega arith, filled-next f (a .out .now) (l .out) (l .i) (l .inv .1) (omega arith) (difference-turn (a .field) (a .xs .now) f (a .out .now) (l .out) (l .i) (a .j) (l .inv .1) (c .before .before .sub .ensures) (c .mul .ensures)))
+    (omega arith, filled-next f (a .out .now) (l .out) (l .i) (l .inv .1) (omega arith) (difference-turn (a .field) (a .xs .now) f (a .out .now) (l .out) (l .i) (a .j) (l .inv .1) (c .before .before .before .before .before .sub .ensures) (c .sum-times .ensures)))
 
 same-length : tie.Need-same-length Inv-loop μ-loop
 same-length c = omega arith
@@ -70,7 +77,7 @@ same-length c = omega arith
 returns : tie.Need-returns Inv-loop μ-loop
 returns c =
     let l = c .before .loop in
-    let a = c .before .before .before .before .before .args in
+    let a = c .before .before .before .before .before .before .args in
     let all : l .i ≡ a .j = omega arith in
     subst (λ (n : ℕ). Filled (λ i. fieldOf (a .field) ._⊗_ (fieldOf (a .field) ._⊖_ (getD (a .xs .now) i 0) (getD (a .xs .now) (a .j) 0)) (getD (a .out .now) i 0)) (a .out .now) (l .out) n) all (l .inv .1)
 
@@ -80,15 +87,15 @@ times-difference-spec =
     (tie.spec
     Inv-loop
     μ-loop
-    mul-b
-    shared-slice-read-b
-    loop-holds
     mul-sub
     shared-slice-read-sub
     sub-requires
-    mul-mul
-    slice-read-mul
-    mul-requires
+    loop-holds
+    mul-sum-times
+    shared-slice-read-sum-times
+    mul-sum-times-2
+    slice-read-sum-times
+    sum-times-requires
     mul-out
     slice-write-out
     add-i

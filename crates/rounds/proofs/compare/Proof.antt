@@ -7,8 +7,9 @@ use borrow.Author.Needs.{needs}
 use Rattle.definition.specs.Lists.{firstTrue}
 use Rattle.outcome.specs.Meaning.{placeOf}
 use Rattle.rounds.specs.Prepared.{numbered, sampleBy}
+use Rattle.rounds.specs.Round.{first-point, folded}
 use Rattle.rounds.specs.RoundLaws.{differsIn}
-use Rattle.rounds.proofs.Shifts.{fits-for, below-at, places-for, sample-for, differs, agrees, first-here, first-later, first-nowhere}
+use Rattle.rounds.proofs.Shifts.{fits-for, below-at, places-for, sample-for, differs, agrees, first-here, first-later, first-nowhere, value-for}
 use Rattle.rounds.proofs.compare.Statement.{statement}
 use Rattle.rounds.proofs.compare.Tie as tie
 
@@ -41,11 +42,18 @@ sample-at-requires c κs =
     let a = c .before .before .before .before .before .before .before .before .before .before .before .before .args in
     let below = c .before .before .before .loop-test .taken in (
       (places-for (l .i) (length (a .finals .now)) (length (a .values .now)) _ below (l .inv .1 .0) (p .0 .0), places-for (l .i) (length (a .finals .now)) (length (a .values .now)) _ below (l .inv .1 .0) (p .0 .1)),
-      (fits-for (l .inv .1 .0) (p .1 .0), (below-at (a .finals .now) (p .1 .1 .0) (l .i) below (c .before .wide .ensures), p .1 .1 .1)),
+      (fits-for (l .inv .1 .0) (p .1 .0), (below-at (a .finals .now) (p .1 .1 .0) (l .i) below (c .before .wide .ensures), p .1 .1 .1 .0)),
     )
 
-value-at-requires : tie.Need-value-at-requires Inv-loop μ-loop
-value-at-requires c κs = search needs
+final-value-requires : tie.Need-final-value-requires Inv-loop μ-loop
+final-value-requires c κs =
+    let l = c .before .before .before .before .before .before .before .loop in
+    let s = c .before .before .before .before .before .before .before .before .before .before .before .before .before .before .before in
+    let a = s .args in
+    let p = s .pre in
+    let fits = p .1 .0 in
+    let same = c .before .before .sample-at .kept .1 .1 .1 .1 .1 .1 .1 .1 .1 .1 .0 ∙ l .inv .1 .0 in
+    ((first-point fits (below-at (a .finals .now) (p .1 .1 .0) (l .i) (c .before .before .before .before .before .before .loop-test .taken) (c .before .before .before .before .wide .ensures)), (fits .small, (omega (arith, same, folded fits), omega (arith, same, fits .few)))), p .1 .1 .1 .1)
 
 same-length : tie.Need-same-length Inv-loop μ-loop
 same-length c = omega arith
@@ -58,7 +66,7 @@ returns c =
     let n = l .inv .1 in
     let p = c .before .before .before .before .before .sample-at in
     let e = sample-for (a .field) (a .pw .now) (a .table .now) (a .tops .now) (a .inverses .now) (a .how) (a .r) (length (l .values)) (l .i) (p .ensures) (n .0) (c .before .before .before .before .before .before .before .wide .ensures) in
-    let d = differs (a .field) (a .coefficients .now) (c .before .before .value-at .ensures) e (c .if1 .taken) in
+    let d = differs (a .field) (a .coefficients .now) (value-for (a .field) (a .pw .now) (a .table .now) (a .tops .now) (a .inverses .now) (a .how) (a .r) (length (p .last .1 .1 .1 .1 .1 .1 .1 .1 .1 .1 .0)) (l .i) (a .coefficients .now) (c .before .before .final-value .ensures) (p .kept .1 .1 .1 .1 .1 .1 .1 .1 .1 .1 .0 ∙ n .0) (c .before .before .before .before .before .before .before .wide .ensures) e) e (c .if1 .taken) in
     first-here (λ i j. differsIn (a .field) (a .coefficients .now) (sampleBy (a .field) (a .pw .now) (a .table .now) (a .tops .now) (a .inverses .now) (a .how) (length (a .values .now)) (a .r) i j)) (a .finals .now) (l .i) (c .before .before .before .before .before .before .before .before .before .loop-test .taken) d ∙ n .1
 
 add-i : tie.Need-add-i Inv-loop μ-loop
@@ -75,7 +83,7 @@ loop-again c =
     let p = c .before .before .before .before .before .sample-at in
     let e = sample-for (a .field) (a .pw .now) (a .table .now) (a .tops .now) (a .inverses .now) (a .how) (a .r) (length (l .values)) (l .i) (p .ensures) (n .0) (c .before .before .before .before .before .before .before .wide .ensures) in
     let h = c .before .before .before .before .before .before .before .before .before .loop-test .taken in
-    let d = agrees (a .field) (a .coefficients .now) (c .before .before .value-at .ensures) e (c .if1 .left) in
+    let d = agrees (a .field) (a .coefficients .now) (value-for (a .field) (a .pw .now) (a .table .now) (a .tops .now) (a .inverses .now) (a .how) (a .r) (length (p .last .1 .1 .1 .1 .1 .1 .1 .1 .1 .1 .0)) (l .i) (a .coefficients .now) (c .before .before .final-value .ensures) (p .kept .1 .1 .1 .1 .1 .1 .1 .1 .1 .1 .0 ∙ n .0) (c .before .before .before .before .before .before .before .wide .ensures) e) e (c .if1 .left) in
     (omega (arith, h), (p .kept .1 .1 .1 .1 .1 .1 .1 .1 .1 .1 .0 ∙ n .0, first-later (λ i j. differsIn (a .field) (a .coefficients .now) (sampleBy (a .field) (a .pw .now) (a .table .now) (a .tops .now) (a .inverses .now) (a .how) (length (a .values .now)) (a .r) i j)) (a .finals .now) (l .i) h d ∙ n .1))
 
 same-length-2 : tie.Need-same-length-2 Inv-loop μ-loop
@@ -100,7 +108,7 @@ compare-spec =
     shared-slice-read-wide
     wide-requires
     sample-at-requires
-    value-at-requires
+    final-value-requires
     same-length
     returns
     add-i

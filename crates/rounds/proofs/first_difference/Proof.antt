@@ -21,7 +21,7 @@ compare-requires : tie.Need-compare-requires
 compare-requires c κs =
     let p = c .before .before .before .before .before .before .before .before .before .before .before .before .before .before .before .before .before .before .before .before .before .before .before .before .pre in
     let f = c .before .before .before .before .before .before .before .before .before .before .prepare in
-    ((omega (arith, f .kept .1 .1 .1 .1 .1 .1 .1 .1 .0, p .1 .1 .1 .0), omega (arith, f .kept .1 .1 .1 .1 .1 .1 .1 .1 .1 .0, p .1 .1 .1 .1 .0)), (p .1 .0, (p .1 .1 .0, c .before .before .before .invert-two .ensures)))
+    ((omega (arith, f .kept .1 .1 .1 .1 .1 .1 .1 .1 .0, p .1 .1 .1 .0), omega (arith, f .kept .1 .1 .1 .1 .1 .1 .1 .1 .1 .0, p .1 .1 .1 .1 .0)), (p .1 .0, (p .1 .1 .0, (c .before .before .before .invert-two .ensures, (p .0 .1 .1 .ω, p .0 .1 .1 .powers)))))
 
 same-length : tie.Need-same-length
 same-length c = search needs

@@ -7,7 +7,7 @@ use lib.ListN.{length, getD, take, drop}
 use borrow.Author.Needs.{needs}
 use native.Mathlib.Nat.{mul-le-mul-right}
 use lib.Seq.{length-take-le}
-use Rattle.lists.specs.OneInversion.{Inverted}
+use Rattle.inversions.specs.OneInversion.{Inverted}
 use Rattle.rounds.specs.Round.{rootIn}
 use Rattle.rounds.proofs.Ready.{all-nonzero, ready-first, ready-next}
 use Rattle.rounds.proofs.prepare.Statement.{statement}

@@ -1,0 +1,29 @@
+-- `division::factors` meets its contract. Assumes nothing.
+use Prim.Native.Nat.{ℕ, suc, _+_, _-_, _≤_, _<_}
+use native.Mathlib.Omega.{arith}
+use mathlib.Core.Path.{_≡_, refl, sym, ap, _∙_, subst}
+use mathlib.Core.List.{List, [], _∷_}
+use lib.ListN.{length, take, drop, getD}
+use Rattle.division.proofs.Dividing.{dividing-none}
+use borrow.Author.Needs.{needs}
+use Rattle.division.proofs.factors.Statement.{statement}
+use Rattle.division.proofs.factors.Tie as tie
+
+powers-requires : tie.Need-powers-requires
+powers-requires c κs = search needs
+
+raise-each-requires : tie.Need-raise-each-requires
+raise-each-requires c κs =
+    let s = c .before .before .before .before .before .before .before in
+    let a = s .args in
+    let p = c .before .before .before .powers in
+    ((s .pre .0, omega (arith, p .kept .1 .1 .0, s .pre .1)), dividing-none (a .field) (p .last .1 .1 .0) (length (a .w .now) - 1) (p .ensures))
+
+same-length : tie.Need-same-length
+same-length c = search needs
+
+returns : tie.Need-returns
+returns c = search needs
+
+pub factors-spec : {M : Type 1} → statement M
+factors-spec = tie.close (tie.spec powers-requires raise-each-requires same-length returns)

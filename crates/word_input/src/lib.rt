@@ -1,0 +1,115 @@
+// Words from bytes, and what they are to the programs: sheet, coefficients and coins of an order. No public function asks anything of its caller.
+use outcome::Answer;
+ghost use mathlib.Core.Path.{_≡_};
+ghost use Prim.Native.Nat.{_/_, _≤_};
+ghost use lib.ListN.{length, getD, take, drop};
+ghost use Rattle.outcome.specs.Meaning.{answerOf};
+ghost use Rattle.stream.specs.Overwriting.{overwrite};
+ghost use Rattle.word_input.specs.Input.{taken as takenOf, wordsOf, takeWords, sheetPart, coefficientsPart, coinsPart, monomial, roundsInput};
+
+// The bytes that count: the first 16,384, or all.
+fn taken(bytes: &[u8]) -> &[u8]
+    ensures { λ r. ⌜ now r ≡ takenOf (now (bytes .entry)) ⌝ }
+{
+    if bytes.len() <= 16384 {
+        return bytes;
+    }
+    &bytes[..16384]
+}
+
+// The words of the bytes, at the front of the output.
+fn place(bytes: &[u8], output: &mut [u32])
+    requires { ⌜ length (now bytes) / 4 ≤ length (now output) ⌝ }
+    ensures { λ _. ⌜ now (output .exit) ≡ overwrite (now (output .entry)) 0 (wordsOf (now (bytes .entry))) ⌝ }
+{
+    let count = bytes.len() / 4;
+    let mut i = 0;
+    while i < count {
+        output[i] = stream::word(bytes, 4 * i);
+        i += 1;
+    }
+}
+
+// The words of an input, at the front of the output; done with their number. Refused where the input is no whole number of words.
+pub fn words(bytes: &[u8], output: &mut [u32; 4096]) -> Answer
+    ensures { λ r. ⌜ answerOf r ≡ takeWords (now (bytes .entry)) (now (output .entry)) .answer ⌝ }
+    ensures { λ r. ⌜ now (output .exit) ≡ takeWords (now (bytes .entry)) (now (output .entry)) .output ⌝ }
+{
+    let counted = taken(bytes);
+    if counted.len() % 4 != 0 {
+        return Answer::Refusal(10, 0);
+    }
+    place(counted, output);
+    Answer::Done(counted.len() / 4)
+}
+
+// The first `count` words, or all.
+pub fn front(words: &[u32], count: usize) -> &[u32]
+    ensures { λ r. ⌜ now r ≡ take count (now (words .entry)) ⌝ }
+{
+    if words.len() < count {
+        return words;
+    }
+    &words[..count]
+}
+
+// The words after the first `count`, or none.
+fn after(words: &[u32], count: usize) -> &[u32]
+    ensures { λ r. ⌜ now r ≡ drop count (now (words .entry)) ⌝ }
+{
+    if words.len() < count {
+        return &words[words.len()..];
+    }
+    &words[count..]
+}
+
+// Word 2 of a sheet, d0, which says how many coefficients an order has; 0 where it is missing.
+pub fn degree_bound(words: &[u32]) -> usize
+    ensures { λ r. ⌜ r ≡ getD (now (words .entry)) 2 0 ⌝ }
+{
+    if words.len() < 3 {
+        return 0;
+    }
+    words[2] as usize
+}
+
+// The sheet of an order: its first 12 words.
+pub fn sheet(words: &[u32]) -> &[u32]
+    ensures { λ r. ⌜ now r ≡ sheetPart (now (words .entry)) ⌝ }
+{
+    front(words, 12)
+}
+
+// The coefficients of an order: the next d0 words.
+pub fn coefficients(words: &[u32]) -> &[u32]
+    ensures { λ r. ⌜ now r ≡ coefficientsPart (now (words .entry)) ⌝ }
+{
+    front(after(words, 12), degree_bound(words))
+}
+
+// The coins of an order: the rest.
+pub fn coins(words: &[u32]) -> &[u32]
+    ensures { λ r. ⌜ now r ≡ coinsPart (now (words .entry)) ⌝ }
+{
+    after(after(words, 12), degree_bound(words))
+}
+
+// The polynomial X, with as many coefficients as any sheet asks for.
+pub fn x_coefficients() -> [u32; 2048]
+    ensures { λ r. ⌜ r ≡ monomial ⌝ }
+{
+    let mut x = [0u32; 2048];
+    x[1] = 1;
+    x
+}
+
+// M of the sheet that an input holds, 0 where it is missing.
+pub fn rounds_input(bytes: &[u8]) -> u32
+    ensures { λ r. ⌜ r ≡ roundsInput (now (bytes .entry)) ⌝ }
+{
+    let counted = taken(bytes);
+    if counted.len() < 20 {
+        return 0;
+    }
+    stream::word(counted, 16)
+}
