@@ -3,8 +3,9 @@
 use crate::fence::Fence;
 use crate::input::{Input, Order};
 use std::cell::RefCell;
-use tevrolig::{Field, Outcome};
-use tevrolig_model::{self as model, field, stream};
+use tevrolig::convert::{to_edition_1, to_edition_2, ConvertRefusal};
+use tevrolig::{edition2, Field, Outcome, Verdict};
+use tevrolig_model::{self as model, field, stream, Answer};
 
 /// The fences, made once.
 struct Fences {
@@ -34,18 +35,21 @@ pub fn agree(input: &Input) {
     FENCES.with_borrow_mut(|fences| match input {
         Input::Raw(file) | Input::Sealed(file) => {
             verdicts(fences, file);
+            conversions(fences, file);
         }
         Input::Order(order) => orders(fences, order),
         Input::Field(words) => elements(*words),
     });
 }
 
-/// The verdict of both, and some words of the stream: the place of the refusal, the words at the end, one that the file itself names, and the
-/// sheet.
-fn verdicts(fences: &mut Fences, file: &[u8]) -> tevrolig::Verdict {
+/// The verdicts of both in edition 1 and edition 2, and some words of the stream: the place of the refusal, the words at the end, one that the
+/// file itself names, and the sheet.
+fn verdicts(fences: &mut Fences, file: &[u8]) -> [Verdict; 2] {
     let lent: &[u8] = fences.file.lend(file);
     let verdict = tevrolig::verify(lent);
     assert_eq!(verdict.line(), model::line(model::verify(file)));
+    let second = edition2::verify(lent);
+    assert_eq!(second.line(), model::line(model::verify_2(file)));
 
     let end = (file.len() / stream::BLOCK_BYTES * stream::BLOCK_WORDS) as u64;
     let place = match verdict.outcome {
@@ -63,10 +67,42 @@ fn verdicts(fences: &mut Fences, file: &[u8]) -> tevrolig::Verdict {
     let sheet = (0 < end).then(|| std::array::from_fn(|number| stream::read_word(file, number)));
     assert_eq!(tevrolig::sheet_of(lent), sheet, "the sheet");
     assert_eq!(lent, file, "the file is only read");
-    verdict
+    [verdict, second]
 }
 
-/// Prove and encode of both, and the verdict on the file.
+/// One way of the converter in the archive, and in the model.
+type Way = (
+    fn(&[u8], &mut [u8]) -> Result<usize, ConvertRefusal>,
+    fn(&[u8], &mut [u8]) -> Answer,
+);
+
+/// The converters of both, with an output that is long enough for every file that has as many blocks, with one that is too short for most, and
+/// with none.
+fn conversions(fences: &mut Fences, file: &[u8]) {
+    let lent: &[u8] = fences.file.lend(file);
+    let ways: [Way; 2] = [
+        (to_edition_2, model::to_edition_2),
+        (to_edition_1, model::to_edition_1),
+    ];
+    for (archive, model) in ways {
+        for length in [file.len() + 513, file.len().saturating_sub(1), 0] {
+            let mut expected = vec![0xA5; length];
+            let output = fences.output.lend(&expected);
+            let answer = match archive(lent, output) {
+                Ok(blocks) => Answer::Done(blocks as u64),
+                Err(refusal) => Answer::Refused {
+                    number: refusal.number(),
+                    place: refusal.place(),
+                },
+            };
+            assert_eq!(answer, model(file, &mut expected));
+            assert!(output == expected, "the converter's output differs");
+        }
+    }
+    assert_eq!(lent, file, "the file is only read");
+}
+
+/// Prove of both in both editions, encode of both, and the verdicts on the files.
 fn orders(fences: &mut Fences, order: &Order) {
     let Order {
         sheet,
@@ -89,6 +125,15 @@ fn orders(fences: &mut Fences, order: &Order) {
     );
     assert!(lent == expected, "prove's output differs");
 
+    let mut second = vec![0xA5; length];
+    let lent = fences.output.lend(&second);
+    let answer_2 = edition2::prove(lent_sheet, lent_coefficients, lent_coins, lent);
+    assert_eq!(
+        told(answer_2),
+        model::prove_2(sheet, coefficients, coins, &mut second)
+    );
+    assert!(lent == second, "prove's output of edition 2 differs");
+
     let mut table = vec![0xA5A5_A5A5; length];
     let lent = fences.table.lend(&table);
     let encoded = tevrolig::encode(lent_sheet, lent_coefficients, lent);
@@ -100,17 +145,20 @@ fn orders(fences: &mut Fences, order: &Order) {
 
     let only_read = lent_sheet == sheet && lent_coefficients == coefficients && lent_coins == coins;
     assert!(only_read, "the lists are only read");
-    if let Ok(blocks) = answer {
-        let verdict = verdicts(fences, &expected[..blocks * tevrolig::BLOCK_BYTES]);
-        assert_eq!(verdict.outcome, Outcome::Accepted, "the prover's file");
+    for (edition, (answer, output)) in [(answer, expected), (answer_2, second)].iter().enumerate() {
+        if let Ok(blocks) = answer {
+            let verdicts = verdicts(fences, &output[..blocks * tevrolig::BLOCK_BYTES]);
+            let outcome = verdicts[edition].outcome;
+            assert_eq!(outcome, Outcome::Accepted, "the prover's file");
+        }
     }
 }
 
 /// An answer in the model's terms.
-fn told(answer: Result<usize, tevrolig::OrderRefusal>) -> model::Answer {
+fn told(answer: Result<usize, tevrolig::OrderRefusal>) -> Answer {
     match answer {
-        Ok(size) => model::Answer::Done(size as u64),
-        Err(refusal) => model::Answer::Refused {
+        Ok(size) => Answer::Done(size as u64),
+        Err(refusal) => Answer::Refused {
             number: refusal.number(),
             place: refusal.place(),
         },

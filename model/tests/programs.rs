@@ -7,6 +7,7 @@ use std::collections::BTreeMap;
 use std::io::Write;
 use std::process::{Command, Stdio};
 use tevrolig_model::load::{Generator, WORKED_SHEET};
+use tevrolig_model::{to_edition_1, to_edition_2, Answer};
 
 /// What model-check prints for an input.
 fn check(input: &[u8]) -> String {
@@ -84,6 +85,63 @@ fn definition_cases_are_small_and_of_every_kind() {
     assert!(kinds.values().all(|&count| count >= 15), "{kinds:?}");
     assert!((200..=350).contains(&kinds["0"]), "{kinds:?}");
     assert!(fields.iter().all(|&count| count >= 60), "{fields:?}");
+}
+
+#[test]
+fn definition_cases_of_edition_2() {
+    let text = cases(&["9", "800", "edition2"]);
+    let mut kinds: BTreeMap<String, usize> = BTreeMap::new();
+    let mut differing = 0;
+    for case in text.lines() {
+        let (hexadecimal, verdict) = case.split_once(' ').unwrap();
+        let file = bytes(hexadecimal);
+        assert_eq!(edition2::judged(&file), verdict);
+        assert!(file.len() <= 1024);
+        let kind = verdict.split(' ').nth(1).unwrap();
+        *kinds.entry(kind.to_string()).or_default() += 1;
+        if kind == "0" && file[16] > 0 {
+            // k_0 and k_1.
+            differing += usize::from(file[12] != file[48]);
+        }
+    }
+    assert_eq!(text.lines().count(), 800);
+    assert_eq!(kinds.len(), 10);
+    assert!(kinds.values().all(|&count| count >= 15), "{kinds:?}");
+    assert!(differing >= 40, "{differing}");
+}
+
+#[test]
+fn conversions_are_small_and_of_every_kind() {
+    let text = cases(&["9", "1000", "convert"]);
+    assert_eq!(text.lines().count(), 1000);
+    let mut kinds: BTreeMap<(String, String), usize> = BTreeMap::new();
+    for case in text.lines() {
+        let parts: Vec<&str> = case.split(' ').collect();
+        let &[edition, file, length, answer, number, place, after] = &parts[..] else {
+            panic!("{case}");
+        };
+        let (file, after) = (bytes(file), bytes(after));
+        let mut output = vec![165; length.parse().unwrap()];
+        let said = match edition {
+            "2" => to_edition_2(&file, &mut output),
+            _ => to_edition_1(&file, &mut output),
+        };
+        let (number_said, place_said) = match said {
+            Answer::Done(blocks) => (0, blocks),
+            Answer::Refused { number, place } => (number, place),
+        };
+        assert_eq!(
+            (number, place),
+            (&*number_said.to_string(), &*place_said.to_string())
+        );
+        assert_eq!(answer == "done", number == "0");
+        assert_eq!(output, after);
+        assert!(file.len() <= 1024 && after.len() <= 1024);
+        *kinds.entry((edition.into(), number.into())).or_default() += 1;
+    }
+    // 1 to 6, 11 and done both ways, and 13 to edition 1.
+    assert_eq!(kinds.len(), 17, "{kinds:?}");
+    assert!(kinds.values().all(|&count| count >= 10), "{kinds:?}");
 }
 
 #[test]

@@ -25,6 +25,8 @@
 //! ```
 
 mod archive;
+pub mod convert;
+pub mod edition2;
 mod field;
 mod order;
 mod verdict;
@@ -48,8 +50,8 @@ pub const SHEET_WORDS: usize = 12;
 /// No file with more blocks is accepted, and no order needs more.
 pub const MAX_BLOCKS: usize = 67;
 
-/// What document 01 calls the words of the sheet.
-const SHEET_NAMES: [&str; SHEET_WORDS] = [
+/// What the documents call the words of the sheet; the last six are of edition 2 alone.
+const SHEET_NAMES: [&str; edition2::SHEET_WORDS] = [
     "the field",
     "n0",
     "d0",
@@ -62,6 +64,12 @@ const SHEET_NAMES: [&str; SHEET_WORDS] = [
     "t_3",
     "t_4",
     "t_5",
+    "k_1",
+    "k_2",
+    "k_3",
+    "k_4",
+    "k_5",
+    "the edition",
 ];
 
 /// A sheet word's refusal in words, which verify, prove and encode have in common.

@@ -1,52 +1,101 @@
 //! Prints small test cases in all three fields, one per line: the file's bytes in
-//! hexadecimal (`-` for the empty file), then outcome, number, place and reads.
+//! hexadecimal (`-` for none), then outcome, number, place and reads.
 //!
-//! Arguments: seed, count, and optionally the word `orders`: then each line is a state
-//! of the load's generator, the state after one run, and the run's sheet,
-//! coefficients and coins, with bars between them.
+//! Arguments: seed, count, and optionally what to print instead:
+//! - `edition2`: the same for files of edition 2;
+//! - `convert`: the edition to convert to, the file's bytes, the output's length,
+//!   `done 0 BLOCKS` or `refused NUMBER PLACE`, and the output's bytes afterwards,
+//!   all of which were 165 before;
+//! - `orders`: a state of the load's generator, the state after one run, and the
+//!   run's sheet, coefficients and coins, with bars between them.
 
 use std::env;
 use std::io::{self, BufWriter, Write};
 use std::process::ExitCode;
-use tevrolig_model::generate::{aim, coefficients, coins, damage, honest_file, sheet_over, Rng};
+use tevrolig_model::generate::{
+    aim, coefficients, coins, convert, damage, edition2, honest_file, sheet_over, Rng,
+};
 use tevrolig_model::load::{Generator, WORKED_SHEET};
 use tevrolig_model::sheet::MOST_COINS;
-use tevrolig_model::{line, verify};
+use tevrolig_model::{line, to_edition_1, to_edition_2, verify, verify_2, Answer};
+
+/// Bytes of a file at most.
+const MOST_BYTES: usize = 1024;
 
 fn main() -> ExitCode {
     let arguments: Vec<String> = env::args().skip(1).collect();
     let number = |at: usize| arguments.get(at).and_then(|text| text.parse::<u64>().ok());
-    let (Some(seed), Some(count)) = (number(0), number(1)) else {
-        eprintln!("usage: definition-cases SEED COUNT [orders]");
+    let draw: Option<fn(&mut Rng, u64) -> String> = match arguments.get(2).map(String::as_str) {
+        None => Some(judged),
+        Some("edition2") => Some(judged_2),
+        Some("convert") => Some(converted),
+        Some("orders") => Some(drawn_order),
+        Some(_) => None,
+    };
+    let (Some(seed), Some(count), Some(draw)) = (number(0), number(1), draw) else {
+        eprintln!("usage: definition-cases SEED COUNT [edition2 | convert | orders]");
         return ExitCode::FAILURE;
     };
-    let orders = arguments.get(2).is_some_and(|word| word == "orders");
 
     let mut rng = Rng::new(seed);
     let mut out = BufWriter::new(io::stdout().lock());
-    if orders {
-        for case in 0..count {
-            if writeln!(out, "{}", drawn_order(&mut rng, case)).is_err() {
-                return ExitCode::FAILURE;
-            }
-        }
-        return ExitCode::SUCCESS;
-    }
     for case in 0..count {
-        let file = match case {
-            0 => Vec::new(),
-            _ => small(&mut rng),
-        };
-        let bytes = if file.is_empty() {
-            "-".to_string()
-        } else {
-            file.iter().map(|byte| format!("{byte:02x}")).collect()
-        };
-        if writeln!(out, "{bytes} {}", line(verify(&file))).is_err() {
+        if writeln!(out, "{}", draw(&mut rng, case)).is_err() {
             return ExitCode::FAILURE;
         }
     }
     ExitCode::SUCCESS
+}
+
+fn hexadecimal(bytes: &[u8]) -> String {
+    if bytes.is_empty() {
+        return "-".to_string();
+    }
+    bytes.iter().map(|byte| format!("{byte:02x}")).collect()
+}
+
+/// A file with its verdict; the first is empty.
+fn judged(rng: &mut Rng, case: u64) -> String {
+    let file = match case {
+        0 => Vec::new(),
+        _ => small(rng),
+    };
+    format!("{} {}", hexadecimal(&file), line(verify(&file)))
+}
+
+/// The same in edition 2.
+fn judged_2(rng: &mut Rng, case: u64) -> String {
+    let file = match case {
+        0 => Vec::new(),
+        _ => small_2(rng),
+    };
+    format!("{} {}", hexadecimal(&file), line(verify_2(&file)))
+}
+
+/// A file that is converted, or refused, with the output afterwards. One in two is
+/// made for edition 2.
+fn converted(rng: &mut Rng, case: u64) -> String {
+    let two = case.is_multiple_of(2);
+    let case = loop {
+        let case = match two {
+            true => convert::to_edition_2(rng, 32),
+            false => convert::to_edition_1(rng, 32),
+        };
+        if case.file.len() <= MOST_BYTES && case.length <= MOST_BYTES {
+            break case;
+        }
+    };
+    let mut output = vec![165; case.length];
+    let (edition, answer) = match two {
+        true => (2, to_edition_2(&case.file, &mut output)),
+        false => (1, to_edition_1(&case.file, &mut output)),
+    };
+    let answer = match answer {
+        Answer::Done(blocks) => format!("done 0 {blocks}"),
+        Answer::Refused { number, place } => format!("refused {number} {place}"),
+    };
+    let (file, output) = (hexadecimal(&case.file), hexadecimal(&output));
+    format!("{edition} {file} {} {answer} {output}", case.length)
 }
 
 /// A run of the load that is short to compute: half of them have rounds, and so out
@@ -80,6 +129,32 @@ fn small(rng: &mut Rng) -> Vec<u8> {
         };
         small_counts(rng, sheet)
     });
+    sometimes_damaged(rng, file, aim, damage)
+}
+
+/// The same in edition 2: the sheets mostly have rounds.
+fn small_2(rng: &mut Rng) -> Vec<u8> {
+    let field = rng.below(3) as u32;
+    let mut sheet = edition2::sheet_over(rng, field, 32);
+    while sheet[4] == 0 && !rng.one_in(8) {
+        sheet = edition2::sheet_over(rng, field, 32);
+    }
+    let last = 6 + sheet[4] as usize;
+    sheet[last] = sheet[last].min(1 + rng.below(6) as u32);
+    let polynomial = edition2::coefficients(rng, &sheet);
+    let hostile = rng.one_in(2);
+    let coins = edition2::coins(rng, &sheet, hostile);
+    let file = edition2::honest_file(&sheet, &polynomial, &coins);
+    sometimes_damaged(rng, file, edition2::aim, edition2::damage)
+}
+
+/// One in three files as it is, the others damaged.
+fn sometimes_damaged(
+    rng: &mut Rng,
+    file: Vec<u8>,
+    aim: fn(&mut Rng, &mut Vec<u8>, u32) -> bool,
+    damage: fn(&mut Rng, &mut Vec<u8>) -> Option<u32>,
+) -> Vec<u8> {
     if rng.one_in(3) {
         return file;
     }
@@ -91,7 +166,7 @@ fn small(rng: &mut Rng) -> Vec<u8> {
             0 => damage(rng, &mut damaged).is_none(),
             _ => aim(rng, &mut damaged, number),
         };
-        if hit && !damaged.is_empty() && damaged.len() <= 1024 {
+        if hit && !damaged.is_empty() && damaged.len() <= MOST_BYTES {
             return damaged;
         }
     }

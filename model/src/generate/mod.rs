@@ -1,6 +1,9 @@
 //! Deterministic test data: sheets, coefficients, coins, honest and damaged files.
+//! What stands here is of edition 1; `edition2` has the same for edition 2.
 
+pub mod convert;
 mod damage;
+pub mod edition2;
 mod random;
 
 pub use crate::stream::write_checks as rewrite_checks;
@@ -8,10 +11,9 @@ pub use damage::{aim, damage};
 pub use random::Rng;
 
 use crate::domain::Subgroup;
-use crate::field::Field;
 use crate::layout::{Layout, Part};
-use crate::prove::{prove, Answer};
-use crate::sheet::{Sheet, MOST_COINS, SHEET_WORDS};
+use crate::prove::{prove_in, Answer};
+use crate::sheet::{Edition, Sheet, MOST_COINS, SHEET_WORDS};
 use crate::stream::BLOCK_BYTES;
 
 /// A random sheet without fault.
@@ -38,9 +40,7 @@ pub fn sheet_over(rng: &mut Rng, field: u32, most_n0: u32) -> [u32; SHEET_WORDS]
 }
 
 fn any_sheet(rng: &mut Rng, field: u32, most_n0: u32) -> [u32; SHEET_WORDS] {
-    let most_n0 = most_n0.clamp(4, if field == 0 { 16 } else { 4096 });
-    let n0 = power_of_two(rng, 4, most_n0);
-    let d0 = power_of_two(rng, 2, n0 / 2).max(power_of_two(rng, 2, n0 / 2));
+    let (n0, d0) = sizes(rng, field, most_n0);
     let k = power_of_two(rng, 2, d0.min(16));
     let outs = 1 + rng.below(2) as u32;
 
@@ -55,15 +55,33 @@ fn any_sheet(rng: &mut Rng, field: u32, most_n0: u32) -> [u32; SHEET_WORDS] {
 
     let mut words = [0; SHEET_WORDS];
     words[..6].copy_from_slice(&[field, n0, d0, k, rounds, outs]);
-    for i in 0..=rounds {
-        let most = if i < rounds {
-            MOST_COINS.min(d0 / k.pow(i + 1) - outs - 1)
+    let folds = vec![k; rounds as usize + 1];
+    words[6..].copy_from_slice(&coin_counts(rng, d0, outs, &folds));
+    words
+}
+
+/// n0, at most the limit (or 4), and d0.
+fn sizes(rng: &mut Rng, field: u32, most_n0: u32) -> (u32, u32) {
+    let most_n0 = most_n0.clamp(4, if field == 0 { 16 } else { 4096 });
+    let n0 = power_of_two(rng, 4, most_n0);
+    let d0 = power_of_two(rng, 2, n0 / 2).max(power_of_two(rng, 2, n0 / 2));
+    (n0, d0)
+}
+
+/// t_0 to t_5 for k_0 to k_M, which leave room for them: t_i + s < d_(i+1) below M.
+fn coin_counts(rng: &mut Rng, d0: u32, outs: u32, folds: &[u32]) -> [u32; 6] {
+    let mut counts = [0; 6];
+    let mut bound = d0;
+    for (i, k) in folds.iter().enumerate() {
+        bound /= k;
+        let most = if i + 1 < folds.len() {
+            MOST_COINS.min(bound - outs - 1)
         } else {
             MOST_COINS
         };
-        words[6 + i as usize] = coin_count(rng, most);
+        counts[i] = coin_count(rng, most);
     }
-    words
+    counts
 }
 
 /// A power of two from `least`, which is one itself, to `most`, which is not below it.
@@ -84,7 +102,11 @@ fn coin_count(rng: &mut Rng, most: u32) -> u32 {
 
 /// d0 coefficients: mostly random, sometimes sparse or all at an end of the range.
 pub fn coefficients(rng: &mut Rng, sheet: &[u32; SHEET_WORDS]) -> Vec<u32> {
-    let Ok(sheet) = Sheet::read(sheet) else {
+    coefficients_for(rng, Sheet::read(sheet))
+}
+
+fn coefficients_for(rng: &mut Rng, sheet: Result<Sheet, usize>) -> Vec<u32> {
+    let Ok(sheet) = sheet else {
         return Vec::new();
     };
     let p = sheet.field.p;
@@ -102,14 +124,17 @@ pub fn coefficients(rng: &mut Rng, sheet: &[u32; SHEET_WORDS]) -> Vec<u32> {
 /// fold coins at a root, out coins at a shift point or equal, repeated indices,
 /// combination coins that are 0 or inverse to a point.
 pub fn coins(rng: &mut Rng, sheet: &[u32; SHEET_WORDS], hostile: bool) -> Vec<u32> {
-    let Ok(sheet) = Sheet::read(sheet) else {
+    coins_for(rng, Sheet::read(sheet), hostile)
+}
+
+fn coins_for(rng: &mut Rng, sheet: Result<Sheet, usize>, hostile: bool) -> Vec<u32> {
+    let Ok(sheet) = sheet else {
         return Vec::new();
     };
     let layout = Layout::new(&sheet);
     let mut draw = Draw {
-        field: sheet.field,
         subgroup: Subgroup::of(&sheet),
-        k: sheet.k,
+        sheet,
         favourite: 0,
         hostile,
     };
@@ -127,9 +152,8 @@ pub fn coins(rng: &mut Rng, sheet: &[u32; SHEET_WORDS], hostile: bool) -> Vec<u3
 
 /// What drawing a coin needs to know.
 struct Draw {
-    field: Field,
+    sheet: Sheet,
     subgroup: Subgroup,
-    k: usize,
     /// The index at whose shift point a round's coins like to meet.
     favourite: usize,
     hostile: bool,
@@ -139,7 +163,7 @@ impl Draw {
     /// The out coins open a round: its favourite index is drawn with them.
     fn favour(&mut self, rng: &mut Rng, part: Part) {
         if let Part::OutCoins(i) = part {
-            self.favourite = rng.place(self.subgroup.size(i - 1) / self.k);
+            self.favourite = rng.place(self.sheet.indices(i - 1));
         }
     }
 
@@ -153,11 +177,12 @@ impl Draw {
                 rng.pick(&[0, 1, limit - 1, root, root])
             }
             Part::OutCoins(i) => {
-                let meeting = self.subgroup.shift_point(i - 1, self.k, self.favourite);
+                let k = self.sheet.folds[i - 1];
+                let meeting = self.subgroup.shift_point(i - 1, k, self.favourite);
                 rng.pick(&[0, meeting, meeting, before.unwrap_or(meeting)])
             }
             Part::Combination(i) => {
-                let inverse = self.field.div(1, self.some_point(rng, i));
+                let inverse = self.sheet.field.div(1, self.some_point(rng, i));
                 rng.pick(&[0, inverse, inverse, limit - 1])
             }
             Part::ShiftIndices(_) => {
@@ -189,11 +214,15 @@ impl Draw {
 
 /// The prover's file; empty if the prover refuses.
 pub fn honest_file(sheet: &[u32; SHEET_WORDS], coefficients: &[u32], coins: &[u32]) -> Vec<u8> {
-    let Ok(judged) = Sheet::read(sheet) else {
+    honest_file_in(Edition::One, sheet, coefficients, coins)
+}
+
+fn honest_file_in(edition: Edition, sheet: &[u32], coefficients: &[u32], coins: &[u32]) -> Vec<u8> {
+    let Some(Ok(judged)) = Sheet::read_in(edition, sheet) else {
         return Vec::new();
     };
     let mut file = vec![0; Layout::new(&judged).blocks() * BLOCK_BYTES];
-    match prove(sheet, coefficients, coins, &mut file) {
+    match prove_in(edition, sheet, coefficients, coins, &mut file) {
         Answer::Done(_) => file,
         Answer::Refused { .. } => Vec::new(),
     }

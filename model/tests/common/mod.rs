@@ -1,6 +1,8 @@
 //! What several tests share: the transcript by hand and a few functions.
 #![allow(dead_code)]
 
+pub mod edition2;
+
 use tevrolig_model::generate::{self, rewrite_checks, Rng};
 use tevrolig_model::layout::Layout;
 use tevrolig_model::sheet::Sheet;

@@ -1,6 +1,8 @@
 //! Orders to prove and to encode, run in the archive and in the model.
 #![allow(dead_code)]
 
+pub mod edition2;
+
 use std::ops::Range;
 use tevrolig::OrderRefusal;
 use tevrolig_model::generate::{self, Rng};
@@ -31,10 +33,10 @@ fn told(answer: Result<usize, OrderRefusal>) -> Answer {
 
 /// Runs an operation in the archive and in the model on outputs of this length with guards at both ends, and answers what both say and the
 /// output: the outputs are equal with their guards, what comes after the part written is as before, and after a refusal all is.
-fn agree<T: Copy + PartialEq>(
+pub fn agree<T: Copy + PartialEq>(
     filled: impl Fn(usize) -> T,
     length: usize,
-    archive: impl FnOnce(&mut [T]) -> Result<usize, OrderRefusal>,
+    archive: impl FnOnce(&mut [T]) -> Answer,
     model: impl FnOnce(&mut [T]) -> Answer,
     written: impl FnOnce(u64) -> usize,
     what: &str,
@@ -42,7 +44,7 @@ fn agree<T: Copy + PartialEq>(
     let before: Vec<T> = (0..GUARD + length + GUARD).map(filled).collect();
     let output = GUARD..GUARD + length;
     let (mut room, mut expected) = (before.clone(), before.clone());
-    let answer = told(archive(&mut room[output.clone()]));
+    let answer = archive(&mut room[output.clone()]);
     assert_eq!(answer, model(&mut expected[output.clone()]), "{what}");
     let kept = match answer {
         Answer::Done(size) => GUARD + written(size),
@@ -95,7 +97,7 @@ impl Order {
         let (answer, output) = agree(
             |i| (37 * i + length) as u8,
             length,
-            |output| tevrolig::prove(sheet, coefficients, coins, output),
+            |output| told(tevrolig::prove(sheet, coefficients, coins, output)),
             |output| model::prove(sheet, coefficients, coins, output),
             |blocks| 512 * blocks as usize,
             what,
@@ -120,7 +122,7 @@ impl Order {
         let (answer, _) = agree(
             |i| (0x9E37_79B9_u32).wrapping_mul((i + length) as u32),
             length,
-            |output| tevrolig::encode(sheet, coefficients, output),
+            |output| told(tevrolig::encode(sheet, coefficients, output)),
             |output| model::encode(sheet, coefficients, output),
             |words| words as usize,
             what,
