@@ -26,10 +26,14 @@ fn point(x: u32) -> Line
 fn head(i: usize) -> Line
     ensures { λ r. ⌜ Holds r (headText i) × (r .length ≤ 28) ⌝ }
 {
-    line::put(
-        line::digits(line::text(line::empty(), b"domain "), i),
-        b':',
-    )
+    line::put(line::digits(line::text(line::empty(), b"domain "), i), b':')
+}
+
+// The line's end.
+fn end() -> Line
+    ensures { λ r. ⌜ Holds r (10 ∷ []) × (r .length ≤ 1) ⌝ }
+{
+    line::put(line::empty(), b'\n')
 }
 
 // The points at every scale-th place of the table, after the first `at` bytes of the output; answers the place behind them.
@@ -49,21 +53,14 @@ fn points(pw: &[u32], scale: usize, at: usize, out: &mut [u8; 131072]) -> usize
 }
 
 // The line of domain i, whose points stand at every scale-th place of the table.
-fn domain_line(
-    pw: &[u32],
-    i: usize,
-    scale: usize,
-    at: usize,
-    out: &mut [u8; 131072],
-) -> usize
+fn domain_line(pw: &[u32], i: usize, scale: usize, at: usize, out: &mut [u8; 131072]) -> usize
     requires { ⌜ (0 < scale) × (at + 29 + 11 * (length (now pw) / scale) ≤ 131072) ⌝ }
     ensures { λ r. ⌜ take r (now (out .exit)) ≡ take at (now (out .entry)) ++ lineAt (now (pw .entry)) i scale ⌝ }
     ensures { λ r. ⌜ r ≤ at + 29 + 11 * (length (now (pw .entry)) / scale) ⌝ }
 {
     let begun = line::write(head(i), at, out);
     let ended = points(pw, scale, begun, out);
-    out[ended] = b'\n';
-    ended + 1
+    line::write(end(), ended, out)
 }
 
 // The lines of domains 0 to M. All of them take 6·29 + 22·4,096 bytes at most.
@@ -92,11 +89,7 @@ fn kept(w: &[u32], out: &mut [u8; 131072]) -> usize
     let mut pw = domain::points_room();
     let size = domain::of_sheet(w, &mut pw);
     let rounds = w[4] as usize;
-    let begun = line::write(
-        line::text(line::empty(), b"keeps its rules\n"),
-        0,
-        out,
-    );
+    let begun = line::write(line::text(line::empty(), b"keeps its rules\n"), 0, out);
     domain_lines(&pw[..size], rounds, begun, out)
 }
 
