@@ -8,6 +8,7 @@ use Rattle.definition.specs.Prove.{sheetLengthTest}
 use Rattle.definition.specs.Reading.{sheetTest}
 use Rattle.definition.specs.Sheet.{Level, Sheet, edition1, firstLevel, laterLevels, rootOfUnity, sheetOf}
 use Rattle.definition.specs.Verdict.{Outcome, accepted, refused, _then_}
+use Rattle.word_input.specs.Input.{taken, wholeWordsTest, wordsOf}
 
 -- `domain `, a number, a colon, each point after a blank, and a line end
 unfoldable pub pointsLine : ℕ → List ℕ → List ℕ
@@ -32,3 +33,7 @@ textAfter (refused number place) text = refusalLine number place
 -- of a sheet of edition 1, given as its words
 unfoldable pub sheetListing : List ℕ → List ℕ
 sheetListing w = textAfter (sheetLengthTest edition1 w then sheetTest edition1 w) (domainsText (sheetOf edition1 w))
+
+-- of the bytes that the program reads: all their words are the sheet
+unfoldable pub listing : List ℕ → List ℕ
+listing bytes = textAfter (wholeWordsTest (taken bytes)) (sheetListing (wordsOf (taken bytes)))

@@ -1,6 +1,7 @@
 // What the program `domains` prints of a sheet, as bytes.
 use edition::Edition;
 use line::Line;
+use outcome::Answer;
 use outcome::Outcome;
 ghost use mathlib.Core.Path.{_≡_};
 ghost use mathlib.Core.List.{[], _∷_, _++_, flatMap};
@@ -11,7 +12,7 @@ ghost use Rattle.definition.specs.Reading.{sheetTest};
 ghost use Rattle.definition.specs.Sheet.{edition1, sheetOf};
 ghost use Rattle.definition.specs.Verdict.{accepted};
 ghost use Rattle.line.specs.Text.{Holds};
-ghost use Rattle.listing.specs.Listing.{domainsText, sheetListing};
+ghost use Rattle.listing.specs.Listing.{domainsText, listing, sheetListing};
 ghost use Rattle.listing.specs.Table.{headText, lineAt, linesFrom, pointsFrom, pointsText, pointText};
 
 // A blank and a point.
@@ -93,14 +94,28 @@ fn kept(w: &[u32], out: &mut [u8; 131072]) -> usize
     domain_lines(&pw[..size], rounds, begun, out)
 }
 
-// The listing of any words, at the front of the output; answers its length.
-pub fn of_words(w: &[u32], out: &mut [u8; 131072]) -> usize
-    ensures { λ r. ⌜ take r (now (out .exit)) ≡ sheetListing (now (w .entry)) ⌝ }
+// The listing of the first `count` words.
+fn of_words(words: &[u32; 4096], count: usize, out: &mut [u8; 131072]) -> usize
+    ensures { λ r. ⌜ take r (now (out .exit)) ≡ sheetListing (take count (now (words .entry))) ⌝ }
     ensures { λ r. ⌜ r ≤ 131072 ⌝ }
 {
+    let w = word_input::front(words, count);
     let tests = orders::sheet_tests(Edition::One, w);
     match tests {
         Outcome::Accepted => kept(w, out),
         Outcome::Refused(number, place) => line::write(line::of_refusal(number, place), 0, out),
+    }
+}
+
+// What the program prints on an input, all of whose words are the sheet; answers its length.
+pub fn output(bytes: &[u8], out: &mut [u8; 131072]) -> usize
+    ensures { λ r. ⌜ take r (now (out .exit)) ≡ listing (now (bytes .entry)) ⌝ }
+    ensures { λ r. ⌜ r ≤ 131072 ⌝ }
+{
+    let mut room = [0u32; 4096];
+    let read = word_input::words(bytes, &mut room);
+    match read {
+        Answer::Done(count) => of_words(&room, count, out),
+        Answer::Refusal(number, place) => line::write(line::of_refusal(number, place), 0, out),
     }
 }

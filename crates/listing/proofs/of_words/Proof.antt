@@ -1,11 +1,15 @@
 -- `listing::of_words` meets its contract. Assumes nothing.
-use mathlib.Core.Path.{_∙_}
+use mathlib.Core.Path.{ap, _∙_}
 use native.Mathlib.Omega.{arith}
 use borrow.Author.Needs.{needs}
 use Rattle.edition.specs.Meaning.{editionOf}
+use Rattle.listing.specs.Listing.{sheetListing}
 use Rattle.listing.proofs.Tested.{sheet-passes, text-passed, text-refused}
 use Rattle.listing.proofs.of_words.Statement.{statement}
 use Rattle.listing.proofs.of_words.Tie as tie
+
+front-requires : tie.Need-front-requires
+front-requires c κs = search needs
 
 sheet-tests-requires : tie.Need-sheet-tests-requires
 sheet-tests-requires c κs = search needs
@@ -17,7 +21,7 @@ kept-requires : tie.Need-kept-requires
 unfolding editionOf
 kept-requires c κs =
     let t = c .before .before .before in
-    sheet-passes (t .before .before .args .w .now) (t .sheet-tests .ensures) (c .before .enum-told .given .1)
+    sheet-passes (t .before .front .result .now) (t .sheet-tests .ensures) (c .before .enum-told .given .1)
 
 enum-known-tests : tie.Need-enum-known-tests
 enum-known-tests c = search needs
@@ -32,21 +36,24 @@ returns : tie.Need-returns
 unfolding editionOf
 returns c =
     let t = c .before .before .before .before in
+    let f = t .before .front in
     let k = c .kept .ensures in
-    (k .0 ∙ text-passed (t .before .before .args .w .now) (t .sheet-tests .ensures) (c .before .before .enum-told .given .1), k .1)
+    (k .0 ∙ text-passed (f .result .now) (t .sheet-tests .ensures) (c .before .before .enum-told .given .1) ∙ ap sheetListing (f .ensures), k .1)
 
 returns-2 : tie.Need-returns-2
 unfolding editionOf
 returns-2 c =
     let t = c .before .before .before .before .before .before in
+    let f = t .before .front in
     let o = c .before .before .of-refusal .ensures in
     let w = c .write .ensures in
-    (w .0 ∙ o .0 ∙ text-refused (t .before .before .args .w .now) (t .sheet-tests .ensures) (c .before .before .before .before .tests .given .1), omega (arith, w .1, o .1))
+    (w .0 ∙ o .0 ∙ text-refused (f .result .now) (t .sheet-tests .ensures) (c .before .before .before .before .tests .given .1) ∙ ap sheetListing (f .ensures), omega (arith, w .1, o .1))
 
 pub of-words-spec : {M : Type 1} → statement M
 of-words-spec =
     tie.close
     (tie.spec
+    front-requires
     sheet-tests-requires
     enum-told
     kept-requires
