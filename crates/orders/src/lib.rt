@@ -78,7 +78,7 @@ fn coin_in_domain(e: Edition, w: &[u32], coins: &[u32]) -> Found
 }
 
 // What both begin with: the sheet is as long as its edition says (else 10), and none of its words breaks its rule (else 3).
-fn sheet_tests(e: Edition, w: &[u32]) -> Outcome
+pub fn sheet_tests(e: Edition, w: &[u32]) -> Outcome
     ensures { λ r. ⌜ outcomeOf r ≡ (sheetLengthTest (editionOf e) (now (w .entry)) then sheetTest (editionOf e) (now (w .entry))) ⌝ }
 {
     if w.len() != edition::sheet_words(e) {
