@@ -123,10 +123,11 @@ spread-long w h =
     length-append (take 12 w) (p ++ (2 ∷ [])) ∙ (λ i. length-take-le 12 w h i + (length-append p (2 ∷ []) ∙ ap (λ (n : ℕ). n + 1) (later-long (getD w 4 0) (getD w 3 0))) i)
 
 -- the stream s stands from place 6 on, before its sheet is laid anew
-pub forward-words : (l s : List ℕ) (n : ℕ) {l₁ : List ℕ} {due : ℕ} → 18 ≤ length l → take n (drop 6 l) ≡ s → due ≤ n → l₁ ≡ spread (drop 6 l) ++ drop 18 l →
+pub forward-words : (l s : List ℕ) (n : ℕ) {l₁ : List ℕ} {due : ℕ} → 18 ≤ length l → take n (drop 6 l) ≡ s → due ≤ length s → l₁ ≡ spread (drop 6 l) ++ drop 18 l →
     due ≡ wordsDue edition1 (sheetOf edition1 s) → take (due + 6) l₁ ≡ forward s
 unfolding forward bodyOf wordsDue
-forward-words l s n {l₁} {due} long e few f is =
+forward-words l s n {l₁} {due} long e there f is =
+    let few : due ≤ n = omega (arith, ap length e, length-take n (drop 6 l)) in
     let m = length (layout (sheetOf edition1 s)) in
     let sheet : spread (drop 6 l) ≡ spread s = spread-words (drop 6 l) ∙ ap spread (begins (drop 6 l) s n 0 12 e (omega arith)) ∙ sym (spread-words s) in
     let count : due + 6 ≡ length (spread (drop 6 l)) + m = omega (arith, spread-long (drop 6 l) (simp length-drop (omega arith))) in
@@ -134,10 +135,11 @@ forward-words l s n {l₁} {due} long e few f is =
     ∙ (λ i. sheet i ++ (ap (take m) (sym (drop-drop 12 6 l)) ∙ begins (drop 6 l) s n 12 m e (omega arith)) i)
 
 -- the stream s stands at the front, before its sheet is laid anew
-pub backward-words : (l s : List ℕ) (n : ℕ) {l₁ : List ℕ} {due : ℕ} → 18 ≤ length l → take n l ≡ s → due ≤ n → l₁ ≡ take 12 l ++ drop 18 l →
+pub backward-words : (l s : List ℕ) (n : ℕ) {l₁ : List ℕ} {due : ℕ} → 18 ≤ length l → take n l ≡ s → due ≤ length s → l₁ ≡ take 12 l ++ drop 18 l →
     due ≡ wordsDue edition2 (sheetOf edition2 s) → take (due - 6) l₁ ≡ backward s
 unfolding backward bodyOf wordsDue
-backward-words l s n {l₁} {due} long e few f is =
+backward-words l s n {l₁} {due} long e there f is =
+    let few : due ≤ n = omega (arith, ap length e, length-take n l) in
     let m = length (layout (sheetOf edition2 s)) in
     let count : due - 6 ≡ length (take 12 l) + m = omega (arith, length-take-le 12 l (omega arith)) in
     (λ i. take (count i) (f i)) ∙ take-append-add (take 12 l) (drop 18 l) m

@@ -1,11 +1,12 @@
 -- What the tests of a conversion answer and leave, and what that says of the definition's result.
-use Prim.Native.Nat.{ℕ, _+_, _-_, _*_, _/_, _≤_, min}
+use Prim.Native.Nat.{ℕ, _+_, _-_, _*_, _/_, _≤_}
 use native.Mathlib.Omega.{arith}
 use borrow.Author.Tests.{ltb-false}
 use mathlib.Core.List.{List, _++_}
 use mathlib.Core.Path.{_≡_, refl, sym, ap, _∙_, subst}
 use lib.Dec.{ltb}
-use lib.ListN.{length, take, drop}
+use lib.ListN.{length, take, drop, length-take}
+use lib.Seq.{length-take-le, take-take}
 use Rattle.definition.specs.Block.{blockCount, fileOf, streamOf}
 use Rattle.definition.specs.Convert.{backward, convert, foldsTest, forward}
 use Rattle.definition.specs.Layout.{wordsDue}
@@ -19,9 +20,10 @@ use Rattle.completeness.specs.Tests.{if-passes, then-passes}
 use Rattle.outcome.specs.declared.Outcome.{Outcome}
 use Rattle.outcome.specs.declared.Outcome.the-variants.{Accepted, Refused}
 use Rattle.outcome.specs.Meaning.{outcomeOf}
-use Rattle.reading.specs.Passed.{few-blocks, sheet-passes, words-there}
+use Rattle.reading.specs.Passed.{sheet-passes, words-there}
 use Rattle.reading.specs.Stages.{Read}
 use Rattle.ranges.specs.RoundsOfLayout.{long-enough}
+use Rattle.sheet.specs.Front.{sheet-front, test-front}
 
 -- 11, of the words to write and the number of bytes of the output
 abbrev pub outputFor : List ℕ → ℕ → definition.Outcome
@@ -40,23 +42,49 @@ unfolding _then_
 then-assoc definition.accepted b c = refl
 then-assoc (definition.refused n p) b c = refl
 
--- ---- the words handed on after reading
-
--- a file that passes has no more blocks than are loaded
-pub fits : (ed : Edition) (file : List ℕ) {n : ℕ} → reading ed file ≡ definition.accepted → 127 * min (length file / 512) 68 ≤ n → 127 * (length file / 512) ≤ n
-fits ed file passed h = omega (arith, few-blocks ed file passed)
+-- ---- the sheet and the words due, after reading
 
 module _ (ed : Edition) (file words : List ℕ) (passed : reading ed file ≡ definition.accepted) (stream : take (127 * (length file / 512)) words ≡ streamOf file) where
-  -- the words of the stream, among the places lent
-  abbrev s : List ℕ
-  s = take (127 * (length file / 512)) words
+  enough : sheetLength ed ≤ length (streamOf file)
+  enough = long-enough ed (streamOf file) (words-there ed file passed)
 
-  pub handed : (sheetLength ed ≤ length (take (127 * (length file / 512)) words)) × (sheetTest ed (take (127 * (length file / 512)) words) ≡ definition.accepted)
-  handed = subst (λ (l : List ℕ). (sheetLength ed ≤ length l) × (sheetTest ed l ≡ definition.accepted)) (sym stream)
-      (long-enough ed (streamOf file) (words-there ed file passed), sheet-passes ed file passed)
+  front : take (sheetLength ed) words ≡ take (sheetLength ed) (streamOf file)
+  front =
+      sym (take-take (sheetLength ed) (127 * (length file / 512)) words (omega (arith, enough, ap length stream, length-take (127 * (length file / 512)) words)))
+      ∙ ap (take (sheetLength ed)) stream
 
-  pub due-is : {due : ℕ} → due ≡ wordsDue ed (sheetOf ed (take (127 * (length file / 512)) words)) → due ≡ wordsDue ed (sheetOf ed (streamOf file))
-  due-is e = e ∙ ap (λ (l : List ℕ). wordsDue ed (sheetOf ed l)) stream
+  pub head-passes : (sheetLength ed ≤ length (take (sheetLength ed) words)) × (sheetTest ed (take (sheetLength ed) words) ≡ definition.accepted)
+  head-passes =
+      subst (λ (l : List ℕ). (sheetLength ed ≤ length l) × (sheetTest ed l ≡ definition.accepted)) (sym front)
+      (omega (arith, length-take-le (sheetLength ed) (streamOf file) enough), test-front ed (streamOf file) enough ∙ sheet-passes ed file passed)
+
+  pub head-is : sheetOf ed (take (sheetLength ed) words) ≡ sheetOf ed (streamOf file)
+  head-is = ap (sheetOf ed) front ∙ sheet-front ed (streamOf file) enough (sheet-passes ed file passed)
+
+  module _ {due : ℕ} (is : due ≡ wordsDue ed (sheetOf ed (take (sheetLength ed) words))) where
+    pub due-is : due ≡ wordsDue ed (sheetOf ed (streamOf file))
+    due-is = is ∙ ap (wordsDue ed) head-is
+
+    pub due-there : due ≤ length (streamOf file)
+    due-there = omega (arith, due-is, words-there ed file passed)
+
+    pub due-lent : due ≤ length words
+    due-lent = omega (arith, due-there, ap length stream, length-take (127 * (length file / 512)) words)
+
+-- the words that the definition writes, by number
+module _ (file : List ℕ) {due : ℕ} where
+  pub forward-count : reading edition1 file ≡ definition.accepted → due ≡ wordsDue edition1 (sheetOf edition1 (streamOf file)) → due + 6 ≡ length (forward (streamOf file))
+  unfolding wordsDue
+  forward-count passed is = omega (arith, forward-length file passed)
+
+  pub backward-count : reading edition2 file ≡ definition.accepted → foldsTest (sheetOf edition2 (streamOf file)) ≡ definition.accepted → due ≡ wordsDue edition2 (sheetOf edition2 (streamOf file)) →
+      due - 6 ≡ length (backward (streamOf file))
+  unfolding wordsDue
+  backward-count passed equal is = omega (arith, backward-length file passed equal)
+
+pub output-for : (words : List ℕ) (size : ℕ) {count : ℕ} {o : definition.Outcome} → count ≡ length words → o ≡ outputTest (blockCount count) (512 * blockCount count) size →
+    o ≡ outputFor words size
+output-for words size e h = h ∙ ap (λ (n : ℕ). outputTest (blockCount n) (512 * blockCount n) size) e
 
 -- ---- the tests one after the other
 
@@ -84,21 +112,6 @@ folds-refuse next h e = ap (λ (x : definition.Outcome). x then next) (sym (ap o
 pub folds-pass : {o : Outcome} {f last next : definition.Outcome} → outcomeOf o ≡ f → o ≡ Accepted → last ≡ next → last ≡ (f then next)
 unfolding outcomeOf _then_
 folds-pass {next = next} h e g = g ∙ ap (λ (x : definition.Outcome). x then next) (sym (ap outcomeOf e) ∙ h)
-
--- 11 is of the words that the definition writes
-pub forward-size : (file : List ℕ) (size : ℕ) {due : ℕ} {o : definition.Outcome} → reading edition1 file ≡ definition.accepted → due ≡ wordsDue edition1 (sheetOf edition1 (streamOf file)) →
-    o ≡ outputTest (blockCount (due + 6)) (512 * blockCount (due + 6)) size → o ≡ outputFor (forward (streamOf file)) size
-unfolding wordsDue
-forward-size file size {due} passed is h =
-    let e : due + 6 ≡ length (forward (streamOf file)) = omega (arith, forward-length file passed) in
-    h ∙ ap (λ (n : ℕ). outputTest (blockCount n) (512 * blockCount n) size) e
-
-pub backward-size : (file : List ℕ) (size : ℕ) {due : ℕ} {o : definition.Outcome} → reading edition2 file ≡ definition.accepted → foldsTest (sheetOf edition2 (streamOf file)) ≡ definition.accepted →
-    due ≡ wordsDue edition2 (sheetOf edition2 (streamOf file)) → o ≡ outputTest (blockCount (due - 6)) (512 * blockCount (due - 6)) size → o ≡ outputFor (backward (streamOf file)) size
-unfolding wordsDue
-backward-size file size {due} passed equal is h =
-    let e : due - 6 ≡ length (backward (streamOf file)) = omega (arith, backward-length file passed equal) in
-    h ∙ ap (λ (n : ℕ). outputTest (blockCount n) (512 * blockCount n) size) e
 
 -- ---- what the outcome of all tests says about the result
 
@@ -129,6 +142,34 @@ module _ (tests : definition.Outcome) (words output : List ℕ) (r : Outcome) (t
         result = result-is (ap outcomeOf e);
       }
 
+-- the same with the words read: they stand at the front of the places lent
+pub record Ready (ed : Edition) (tests : definition.Outcome) (words file output lent : List ℕ) : Type 0 where
+  pub read : reading ed file ≡ definition.accepted
+  pub passes : Passes tests words output
+  pub stream : take (127 * (length file / 512)) lent ≡ streamOf file
+
+module _ (file output : List ℕ) {r : Outcome} {lent : List ℕ} where
+  pub forward-ready : Tested (reading edition1 file then outputFor (forward (streamOf file)) (length output)) file r lent → r ≡ Accepted →
+      Ready edition1 (reading edition1 file) (forward (streamOf file)) file output lent
+  unfolding outcomeOf
+  forward-ready t e =
+      let p = passes (reading edition1 file) (forward (streamOf file)) output r (t .outcome) e in
+      record { read = p .tests-pass; passes = p; stream = t .stream (sym (t .outcome) ∙ ap outcomeOf e) }
+
+  abbrev backTests : definition.Outcome
+  backTests = reading edition2 file then foldsTest (sheetOf edition2 (streamOf file))
+
+  pub back-tested : Tested (reading edition2 file then foldsTest (sheetOf edition2 (streamOf file)) then outputFor (backward (streamOf file)) (length output)) file r lent →
+      outcomeOf r ≡ ((reading edition2 file then foldsTest (sheetOf edition2 (streamOf file))) then outputFor (backward (streamOf file)) (length output))
+  back-tested t = t .outcome ∙ sym (then-assoc (reading edition2 file) (foldsTest (sheetOf edition2 (streamOf file))) (outputFor (backward (streamOf file)) (length output)))
+
+  pub backward-ready : Tested (reading edition2 file then foldsTest (sheetOf edition2 (streamOf file)) then outputFor (backward (streamOf file)) (length output)) file r lent → r ≡ Accepted →
+      Ready edition2 (reading edition2 file then foldsTest (sheetOf edition2 (streamOf file))) (backward (streamOf file)) file output lent
+  unfolding outcomeOf
+  backward-ready t e =
+      let p = passes backTests (backward (streamOf file)) output r (back-tested t) e in
+      record { read = then-passes (reading edition2 file) _ (p .tests-pass) .0; passes = p; stream = t .stream (sym (t .outcome) ∙ ap outcomeOf e) }
+
 -- the answer and the output of the function that writes are the definition's
 pub written-is : {tests : definition.Outcome} {words output output₁ w : List ℕ} {count : ℕ} {a : Answer} → Passes tests words output → w ≡ words → count ≡ length words →
     a ≡ done (blockCount count) → output₁ ≡ fileOf w ++ drop (length (fileOf w)) output → (a ≡ convert tests words output .answer) × (output₁ ≡ convert tests words output .output)
@@ -136,3 +177,7 @@ written-is {output = output} p e n ea eo = (
   ea ∙ ap (λ (m : ℕ). done (blockCount m)) n ∙ sym (ap (λ (x : Result). x .answer) (p .result)),
   eo ∙ ap (λ (l : List ℕ). fileOf l ++ drop (length (fileOf l)) output) e ∙ sym (ap (λ (x : Result). x .output) (p .result)),
 )
+
+-- and it has the room
+pub room-for : {tests : definition.Outcome} {words output : List ℕ} {count : ℕ} → Passes tests words output → count ≡ length words → 512 * blockCount count ≤ length output
+room-for {output = output} p n = subst (λ (m : ℕ). 512 * blockCount m ≤ length output) (sym n) (p .size)

@@ -86,7 +86,7 @@ fn cut_sheet(words: &mut [u32])
     copy_within(words, 0, 6, 6);
 }
 
-// Refusal 13, of the words of a stream of edition 2: the first level whose folding number is not k_0.
+// Refusal 13, of a sheet of edition 2: the first level whose folding number is not k_0.
 fn folds_test(w: &[u32]) -> Outcome
     requires { ⌜ (18 ≤ length (now w)) × (getD (now w) 4 0 ≤ 5) ⌝ }
     ensures { λ r. ⌜ outcomeOf r ≡ foldsTest (sheetOf edition2 (now (w .entry))) ⌝ }
@@ -117,32 +117,31 @@ fn output_test(count: usize, size: usize) -> Outcome
 
 // All tests of the way to edition 2; `size` is the number of bytes of the output. Where they pass, the words of the file stand at the front of the places lent.
 fn forward_tests(file: &[u8], words: &mut [u32], size: usize) -> Outcome
-    requires { ⌜ 127 * min (length (now file) / 512) 68 ≤ length (now words) ⌝ }
+    requires { ⌜ (127 * min (length (now file) / 512) 68 ≤ length (now words)) × (12 ≤ length (now words)) ⌝ }
     ensures { λ r. ⌜ Tested (reading edition1 (now (file .entry)) then outputFor (forwardOf (streamOf (now (file .entry)))) size) (now (file .entry)) r (now (words .exit)) ⌝ }
 {
     let read = reading::read(Edition::One, file, words);
     if let Outcome::Refused(number, place) = read {
         return Outcome::Refused(number, place);
     }
-    let stream = &words[..127 * (file.len() / 512)];
-    output_test(sheet::words_due(Edition::One, stream) + 6, size)
+    output_test(sheet::words_due(Edition::One, &words[..12]) + 6, size)
 }
 
 // All tests of the way to edition 1.
 fn backward_tests(file: &[u8], words: &mut [u32], size: usize) -> Outcome
-    requires { ⌜ 127 * min (length (now file) / 512) 68 ≤ length (now words) ⌝ }
+    requires { ⌜ (127 * min (length (now file) / 512) 68 ≤ length (now words)) × (18 ≤ length (now words)) ⌝ }
     ensures { λ r. ⌜ Tested (reading edition2 (now (file .entry)) then foldsTest (sheetOf edition2 (streamOf (now (file .entry)))) then outputFor (backwardOf (streamOf (now (file .entry)))) size) (now (file .entry)) r (now (words .exit)) ⌝ }
 {
     let read = reading::read(Edition::Two, file, words);
     if let Outcome::Refused(number, place) = read {
         return Outcome::Refused(number, place);
     }
-    let stream = &words[..127 * (file.len() / 512)];
-    let folds = folds_test(stream);
+    let head = &words[..18];
+    let folds = folds_test(head);
     if let Outcome::Refused(number, place) = folds {
         return Outcome::Refused(number, place);
     }
-    output_test(sheet::words_due(Edition::Two, stream) - 6, size)
+    output_test(sheet::words_due(Edition::Two, head) - 6, size)
 }
 
 // Writes the file of the first `count` words at the front of the output. The answer is its number of blocks.
@@ -165,8 +164,7 @@ fn forward(file: &[u8], words: &mut [u32], output: &mut [u8]) -> Answer
     if let Outcome::Refused(number, place) = tests {
         return Answer::Refusal(number, place);
     }
-    let end = 127 * (file.len() / 512) + 6;
-    let due = sheet::words_due(Edition::One, &words[6..end]);
+    let due = sheet::words_due(Edition::One, &words[6..18]);
     spread_sheet(words);
     write(words, due + 6, output)
 }
@@ -181,7 +179,7 @@ fn backward(file: &[u8], words: &mut [u32], output: &mut [u8]) -> Answer
     if let Outcome::Refused(number, place) = tests {
         return Answer::Refusal(number, place);
     }
-    let due = sheet::words_due(Edition::Two, &words[..127 * (file.len() / 512)]);
+    let due = sheet::words_due(Edition::Two, &words[..18]);
     cut_sheet(words);
     write(&words[6..], due - 6, output)
 }

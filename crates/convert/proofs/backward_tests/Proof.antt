@@ -8,73 +8,69 @@ use Rattle.convert.proofs.output_test.Reads as output-test-reads
 use Rattle.reading.proofs.read.Reads as read-reads
 use Rattle.sheet.proofs.words_due.Reads as words-due-reads
 
--- src/lib.rt:136:9
+-- src/lib.rt:135:9
 read-requires : tie.Need-read-requires
 read-requires c κs = search needs
 
--- src/lib.rt:137:29
+-- src/lib.rt:136:29
 enum-known-read : tie.Need-enum-known-read
 enum-known-read c = search needs
 
--- src/lib.rt:138:9
+-- src/lib.rt:137:9
 same-length : tie.Need-same-length
 same-length c = search needs
 
--- src/lib.rt:138:9
+-- src/lib.rt:137:9
 returns : tie.Need-returns
 returns c = ?
 
 enum-told : tie.Need-enum-told
 enum-told c = search needs
 
--- src/lib.rt:140:27
-mul-stream : tie.Need-mul-stream
-mul-stream c = search needs
+-- src/lib.rt:139:16
+slice-reshare-prefix-head : tie.Need-slice-reshare-prefix-head
+slice-reshare-prefix-head c = search needs
 
--- src/lib.rt:140:18
-slice-reshare-prefix-stream : tie.Need-slice-reshare-prefix-stream
-slice-reshare-prefix-stream c = ?
+-- src/lib.rt:139:9
+slice-aggregate-head : tie.Need-slice-aggregate-head
+slice-aggregate-head c = ?
 
 -- src/lib.rt:140:9
-slice-aggregate-stream : tie.Need-slice-aggregate-stream
-slice-aggregate-stream c = ?
-
--- src/lib.rt:141:9
 folds-test-requires : tie.Need-folds-test-requires
 folds-test-requires c κs = ?
 
--- src/lib.rt:142:29
+-- src/lib.rt:141:29
 enum-known-folds : tie.Need-enum-known-folds
 enum-known-folds c = search needs
 
--- src/lib.rt:143:9
+-- src/lib.rt:142:9
 same-length-2 : tie.Need-same-length-2
 same-length-2 c = search needs
 
--- src/lib.rt:143:9
+-- src/lib.rt:142:9
 returns-2 : tie.Need-returns-2
 returns-2 c = ?
 
 enum-told-2 : tie.Need-enum-told-2
 enum-told-2 c = search needs
 
--- src/lib.rt:145:17
+-- src/lib.rt:144:17
 words-due-requires : tie.Need-words-due-requires
 words-due-requires c κs = ?
 
--- src/lib.rt:145:17
+-- src/lib.rt:144:17
 sub-output-test : tie.Need-sub-output-test
 sub-output-test c = ?
 
--- src/lib.rt:145:5
+-- src/lib.rt:144:5
 output-test-requires : tie.Need-output-test-requires
 output-test-requires c κs = search needs
 
--- src/lib.rt:132:1
+-- src/lib.rt:131:1
 same-length-3 : tie.Need-same-length-3
 same-length-3 c = search needs
 
--- src/lib.rt:132:1
+-- src/lib.rt:131:1
 returns-3 : tie.Need-returns-3
 returns-3 c = ?
 
@@ -87,9 +83,8 @@ backward-tests-spec =
     same-length
     returns
     enum-told
-    mul-stream
-    slice-reshare-prefix-stream
-    slice-aggregate-stream
+    slice-reshare-prefix-head
+    slice-aggregate-head
     folds-test-requires
     enum-known-folds
     same-length-2

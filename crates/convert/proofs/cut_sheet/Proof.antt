@@ -1,3 +1,5 @@
+-- `convert::cut_sheet` meets its contract. Assumes nothing.
+use Rattle.convert.specs.Sheets.{cut-laid}
 use borrow.Author.Needs.{needs}
 use Rattle.convert.proofs.cut_sheet.Statement.{statement}
 use Rattle.convert.proofs.cut_sheet.Tie as tie
@@ -19,7 +21,10 @@ same-length c = search needs
 
 -- src/lib.rt:81:1
 returns : tie.Need-returns
-returns c = ?
+returns c =
+    let q = c .before .before .before .before .before .before in
+    let s = q .before .before .before in
+    cut-laid (s .args .words .now) (s .pre) (q .copy-within .ensures) (c .before .before .copy-within2 .ensures)
 
 pub cut-sheet-spec : {M : Type 1} → statement M
 cut-sheet-spec =

@@ -1,13 +1,4 @@
--- `convert::forward_tests` meets its contract. Assumes nothing.
-use Prim.Native.Nat.{_*_, _/_}
-use native.Mathlib.Omega.{arith}
-use mathlib.Core.Path.{sym}
-use lib.ListN.{length}
-use lib.Seq.{length-take-le}
 use borrow.Author.Needs.{needs}
-use Rattle.definition.specs.Sheet.{edition1}
-use Rattle.edition.specs.Meaning.{editionOf}
-use Rattle.convert.specs.Stages.{due-is, fits, forward-size, handed, read-passes, read-refused, read-then}
 use Rattle.convert.proofs.forward_tests.Statement.{statement}
 use Rattle.convert.proofs.forward_tests.Tie as tie
 use Rattle.convert.proofs.forward_tests.Reads as reads
@@ -16,70 +7,52 @@ use Rattle.convert.proofs.output_test.Reads as output-test-reads
 use Rattle.reading.proofs.read.Reads as read-reads
 use Rattle.sheet.proofs.words_due.Reads as words-due-reads
 
+-- src/lib.rt:123:9
 read-requires : tie.Need-read-requires
 read-requires c κs = search needs
 
+-- src/lib.rt:124:29
 enum-known-read : tie.Need-enum-known-read
 enum-known-read c = search needs
 
+-- src/lib.rt:125:9
 same-length : tie.Need-same-length
 same-length c = search needs
 
+-- src/lib.rt:125:9
 returns : tie.Need-returns
-unfolding editionOf
-returns c =
-    let r = c .before .before .before .before .before in
-    read-refused edition1 (r .before .before .before .before .args .file .now) (r .read .ensures) _ (c .before .read2 .given .1)
+returns c = ?
 
 enum-told : tie.Need-enum-told
 enum-told c = search needs
 
-mul-stream : tie.Need-mul-stream
-mul-stream c = search needs
+-- src/lib.rt:127:48
+slice-reshare-prefix-words-due : tie.Need-slice-reshare-prefix-words-due
+slice-reshare-prefix-words-due c = search needs
 
-slice-reshare-prefix-stream : tie.Need-slice-reshare-prefix-stream
-unfolding editionOf
-slice-reshare-prefix-stream c =
-    let r = c .before .before .before .before in
-    let s = r .before .before .before .before in
-    let f = s .args .file .now in
-    omega (arith, fits edition1 f (read-passes edition1 f (r .read .ensures) (c .enum-told .given .1)) (s .pre), r .read .kept .1 .1 .0)
+-- src/lib.rt:127:48
+slice-aggregate-words-due : tie.Need-slice-aggregate-words-due
+slice-aggregate-words-due c = ?
 
-slice-aggregate-stream : tie.Need-slice-aggregate-stream
-unfolding editionOf
-slice-aggregate-stream c =
-    let r = c .before .before .before .before .before in
-    let s = r .before .before .before .before in
-    let f = s .args .file .now in
-    let e = fits edition1 f (read-passes edition1 f (r .read .ensures) (c .before .enum-told .given .1)) (s .pre) in
-    sym (length-take-le (127 * (length f / 512)) (r .read .last .1 .1 .0) (omega (arith, e, r .read .kept .1 .1 .0)))
-
+-- src/lib.rt:127:17
 words-due-requires : tie.Need-words-due-requires
-unfolding editionOf
-words-due-requires c κs =
-    let r = c .before .before .before .before .before in
-    let f = r .before .before .before .before .args .file .now in
-    let p = read-passes edition1 f (r .read .ensures) (c .before .enum-told .given .1) in
-    handed edition1 f (r .read .last .1 .1 .0) p (r .read .ensures .stream p)
+words-due-requires c κs = ?
 
+-- src/lib.rt:127:17
 add-output-test : tie.Need-add-output-test
 add-output-test c = search needs
 
+-- src/lib.rt:127:5
 output-test-requires : tie.Need-output-test-requires
 output-test-requires c κs = search needs
 
+-- src/lib.rt:119:1
 same-length-2 : tie.Need-same-length-2
 same-length-2 c = search needs
 
+-- src/lib.rt:119:1
 returns-2 : tie.Need-returns-2
-unfolding editionOf
-returns-2 c =
-    let r = c .before .before .before .before .before .before .before in
-    let a = r .before .before .before .before .args in
-    let f = a .file .now in
-    let e = c .before .before .before .enum-told .given .1 in
-    let p = read-passes edition1 f (r .read .ensures) e in
-    read-then edition1 f (r .read .ensures) e (forward-size f (a .size) p (due-is edition1 f (r .read .last .1 .1 .0) p (r .read .ensures .stream p) (c .before .words-due .ensures .0)) (c .output-test .ensures))
+returns-2 c = ?
 
 pub forward-tests-spec : {M : Type 1} → statement M
 forward-tests-spec =
@@ -90,9 +63,8 @@ forward-tests-spec =
     same-length
     returns
     enum-told
-    mul-stream
-    slice-reshare-prefix-stream
-    slice-aggregate-stream
+    slice-reshare-prefix-words-due
+    slice-aggregate-words-due
     words-due-requires
     add-output-test
     output-test-requires

@@ -1,3 +1,7 @@
+-- `convert::spread_sheet` meets its contract. Assumes nothing.
+use native.Mathlib.Omega.{arith}
+use lib.ListN.{length-set}
+use Rattle.convert.specs.Sheets.{spread-laid}
 use borrow.Author.Needs.{needs}
 use Rattle.convert.proofs.spread_sheet.Statement.{statement}
 use Rattle.convert.proofs.spread_sheet.Tie as tie
@@ -20,11 +24,14 @@ slice-write-words c = search needs
 
 -- src/lib.rt:71:1
 same-length : tie.Need-same-length
-same-length c = ?
+same-length c = simp length-set (omega (arith, c .before .before .put-later-folds .kept .0, c .before .before .before .before .before .before .copy-within .kept .0))
 
 -- src/lib.rt:71:1
 returns : tie.Need-returns
-returns c = ?
+returns c =
+    let q = c .before .before .before .before .before .before in
+    let s = q .before .before .before in
+    spread-laid (s .args .words .now) (s .pre) (q .copy-within .ensures) (c .before .before .put-later-folds .ensures)
 
 pub spread-sheet-spec : {M : Type 1} → statement M
 spread-sheet-spec =
