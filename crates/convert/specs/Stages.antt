@@ -88,6 +88,11 @@ output-for words size e h = h ∙ ap (λ (n : ℕ). outputTest (blockCount n) (5
 
 -- ---- the tests one after the other
 
+-- a test that answers Accepted passes
+pub told : {o : Outcome} {f : definition.Outcome} → outcomeOf o ≡ f → o ≡ Accepted → f ≡ definition.accepted
+unfolding outcomeOf
+told h e = sym h ∙ ap outcomeOf e
+
 module _ (ed : Edition) (file : List ℕ) {r : Outcome} {words : List ℕ} (read : Read ed file r words) where
   pub read-refused : (next : definition.Outcome) {number place : ℕ} → r ≡ Refused number place → Tested (reading ed file then next) file (Refused number place) words
   unfolding outcomeOf _then_
@@ -95,13 +100,9 @@ module _ (ed : Edition) (file : List ℕ) {r : Outcome} {words : List ℕ} (read
       let o = ap (λ (x : definition.Outcome). x then next) (sym (ap outcomeOf e) ∙ read .outcome) in
       record { outcome = o; stream = λ h. absurd (never (o ∙ h)) }
 
-  pub read-passes : r ≡ Accepted → reading ed file ≡ definition.accepted
-  unfolding outcomeOf
-  read-passes e = sym (read .outcome) ∙ ap outcomeOf e
-
   pub read-then : {next : definition.Outcome} {o : Outcome} → r ≡ Accepted → outcomeOf o ≡ next → Tested (reading ed file then next) file o words
   unfolding _then_
-  read-then {next} e h = record { outcome = h ∙ ap (λ (x : definition.Outcome). x then next) (sym (read-passes e)); stream = λ _. read .stream (read-passes e) }
+  read-then {next} e h = let p = told (read .outcome) e in record { outcome = h ∙ ap (λ (x : definition.Outcome). x then next) (sym p); stream = λ _. read .stream p }
 
 -- 13 refuses, or passes
 pub folds-refuse : {o : Outcome} {f : definition.Outcome} (next : definition.Outcome) {number place : ℕ} → outcomeOf o ≡ f → o ≡ Refused number place →
@@ -110,8 +111,8 @@ unfolding outcomeOf _then_
 folds-refuse next h e = ap (λ (x : definition.Outcome). x then next) (sym (ap outcomeOf e) ∙ h)
 
 pub folds-pass : {o : Outcome} {f last next : definition.Outcome} → outcomeOf o ≡ f → o ≡ Accepted → last ≡ next → last ≡ (f then next)
-unfolding outcomeOf _then_
-folds-pass {next = next} h e g = g ∙ ap (λ (x : definition.Outcome). x then next) (sym (ap outcomeOf e) ∙ h)
+unfolding _then_
+folds-pass {next = next} h e g = g ∙ ap (λ (x : definition.Outcome). x then next) (sym (told h e))
 
 -- ---- what the outcome of all tests says about the result
 
@@ -151,13 +152,9 @@ pub record Ready (ed : Edition) (tests : definition.Outcome) (words file output 
 module _ (file output : List ℕ) {r : Outcome} {lent : List ℕ} where
   pub forward-ready : Tested (reading edition1 file then outputFor (forward (streamOf file)) (length output)) file r lent → r ≡ Accepted →
       Ready edition1 (reading edition1 file) (forward (streamOf file)) file output lent
-  unfolding outcomeOf
   forward-ready t e =
       let p = passes (reading edition1 file) (forward (streamOf file)) output r (t .outcome) e in
-      record { read = p .tests-pass; passes = p; stream = t .stream (sym (t .outcome) ∙ ap outcomeOf e) }
-
-  abbrev backTests : definition.Outcome
-  backTests = reading edition2 file then foldsTest (sheetOf edition2 (streamOf file))
+      record { read = p .tests-pass; passes = p; stream = t .stream (told (t .outcome) e) }
 
   pub back-tested : Tested (reading edition2 file then foldsTest (sheetOf edition2 (streamOf file)) then outputFor (backward (streamOf file)) (length output)) file r lent →
       outcomeOf r ≡ ((reading edition2 file then foldsTest (sheetOf edition2 (streamOf file))) then outputFor (backward (streamOf file)) (length output))
@@ -165,10 +162,9 @@ module _ (file output : List ℕ) {r : Outcome} {lent : List ℕ} where
 
   pub backward-ready : Tested (reading edition2 file then foldsTest (sheetOf edition2 (streamOf file)) then outputFor (backward (streamOf file)) (length output)) file r lent → r ≡ Accepted →
       Ready edition2 (reading edition2 file then foldsTest (sheetOf edition2 (streamOf file))) (backward (streamOf file)) file output lent
-  unfolding outcomeOf
   backward-ready t e =
-      let p = passes backTests (backward (streamOf file)) output r (back-tested t) e in
-      record { read = then-passes (reading edition2 file) _ (p .tests-pass) .0; passes = p; stream = t .stream (sym (t .outcome) ∙ ap outcomeOf e) }
+      let p = passes (reading edition2 file then foldsTest (sheetOf edition2 (streamOf file))) (backward (streamOf file)) output r (back-tested t) e in
+      record { read = then-passes (reading edition2 file) _ (p .tests-pass) .0; passes = p; stream = t .stream (told (t .outcome) e) }
 
 -- the answer and the output of the function that writes are the definition's
 pub written-is : {tests : definition.Outcome} {words output output₁ w : List ℕ} {count : ℕ} {a : Answer} → Passes tests words output → w ≡ words → count ≡ length words →

@@ -9,8 +9,6 @@ use Rattle.stream.specs.Overwriting.{overwrite, overwrite-next, overwrite-none}
 use Rattle.convert.specs.Sheets.{next-word}
 use Rattle.convert.proofs.copy_within.Statement.{statement}
 use Rattle.convert.proofs.copy_within.Tie as tie
-use Rattle.convert.proofs.copy_within.Reads as reads
-use Rattle.convert.proofs.copy_within.Lts as lts
 
 abbrev Inv-loop : tie.InvT-loop
 Inv-loop words₀ from to count i₀ words i = (i ≤ count) × ((length words ≡ length words₀) × (words ≡ overwrite words₀ to (take i (take count (drop from words₀)))))
@@ -58,8 +56,8 @@ loop-again c =
       (
         simp length-set (l .inv .1 .0),
         overwrite-next w (a .to) x (l .i) (omega (arith, n, s .pre .0 .1)) (omega (arith, n, t))
-        (ap (λ (v : List _). getD v (a .from + l .i) 0) (l .inv .1 .1) ∙ next-word w (a .from) (a .to) (a .count) (l .i) (s .pre .0 .0) (s .pre .0 .1) (s .pre .1) (omega (arith, t)))
-        (l .inv .1 .1),
+            (ap (λ (v : List _). getD v (a .from + l .i) 0) (l .inv .1 .1) ∙ next-word w (a .from) (a .to) (a .count) (l .i) (s .pre .0 .0) (s .pre .0 .1) (s .pre .1) (omega (arith, t)))
+            (l .inv .1 .1),
       ),
     )
 

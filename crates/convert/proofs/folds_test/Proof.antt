@@ -10,9 +10,6 @@ use Rattle.outcome.specs.Meaning.{outcomeOf}
 use Rattle.convert.proofs.Folds.{differs-here, equal-here, foldsFrom, from-one, none-after}
 use Rattle.convert.proofs.folds_test.Statement.{statement}
 use Rattle.convert.proofs.folds_test.Tie as tie
-use Rattle.convert.proofs.folds_test.Reads as reads
-use Rattle.convert.proofs.folds_test.Lts as lts
-use Rattle.edition.proofs.fold.Reads as fold-reads
 
 abbrev Inv-loop : tie.InvT-loop
 Inv-loop w first rounds i₀ i = (i ≤ rounds + 1) × (foldsFrom w i ≡ foldsTest (sheetOf edition2 w))

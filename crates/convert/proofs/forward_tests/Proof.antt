@@ -1,58 +1,68 @@
+-- `convert::forward_tests` meets its contract. Assumes nothing.
+use mathlib.Core.Path.{sym}
+use lib.Seq.{length-take-le}
+use native.Mathlib.Omega.{arith}
 use borrow.Author.Needs.{needs}
+use Rattle.definition.specs.Block.{streamOf}
+use Rattle.definition.specs.Convert.{forward}
+use Rattle.definition.specs.Sheet.{edition1}
+use Rattle.edition.specs.Meaning.{editionOf}
+use Rattle.convert.specs.Stages.{due-is, forward-count, head-passes, output-for, read-refused, read-then, told}
 use Rattle.convert.proofs.forward_tests.Statement.{statement}
 use Rattle.convert.proofs.forward_tests.Tie as tie
-use Rattle.convert.proofs.forward_tests.Reads as reads
-use Rattle.convert.proofs.forward_tests.Lts as lts
-use Rattle.convert.proofs.output_test.Reads as output-test-reads
-use Rattle.reading.proofs.read.Reads as read-reads
-use Rattle.sheet.proofs.words_due.Reads as words-due-reads
 
--- src/lib.rt:123:9
 read-requires : tie.Need-read-requires
 read-requires c κs = search needs
 
--- src/lib.rt:124:29
 enum-known-read : tie.Need-enum-known-read
 enum-known-read c = search needs
 
--- src/lib.rt:125:9
 same-length : tie.Need-same-length
 same-length c = search needs
 
--- src/lib.rt:125:9
 returns : tie.Need-returns
-returns c = ?
+unfolding editionOf
+returns c =
+    let r = c .before .before .before .before .before in
+    read-refused edition1 (r .before .before .before .before .args .file .now) (r .read .ensures) _ (c .before .read2 .given .1)
 
 enum-told : tie.Need-enum-told
 enum-told c = search needs
 
--- src/lib.rt:127:48
 slice-reshare-prefix-words-due : tie.Need-slice-reshare-prefix-words-due
 slice-reshare-prefix-words-due c = search needs
 
--- src/lib.rt:127:48
 slice-aggregate-words-due : tie.Need-slice-aggregate-words-due
-slice-aggregate-words-due c = ?
+slice-aggregate-words-due c =
+    let r = c .before .before .before .before .before in
+    sym (length-take-le 12 (r .read .last .1 .1 .0) (omega (arith, r .before .before .before .before .pre .1, r .read .kept .1 .1 .0)))
 
--- src/lib.rt:127:17
 words-due-requires : tie.Need-words-due-requires
-words-due-requires c κs = ?
+unfolding editionOf
+words-due-requires c κs =
+    let r = c .before .before .before .before .before in
+    let p = told (r .read .ensures .outcome) (c .before .enum-told .given .1) in
+    head-passes edition1 (r .before .before .before .before .args .file .now) (r .read .last .1 .1 .0) p (r .read .ensures .stream p)
 
--- src/lib.rt:127:17
 add-output-test : tie.Need-add-output-test
 add-output-test c = search needs
 
--- src/lib.rt:127:5
 output-test-requires : tie.Need-output-test-requires
 output-test-requires c κs = search needs
 
--- src/lib.rt:119:1
 same-length-2 : tie.Need-same-length-2
 same-length-2 c = search needs
 
--- src/lib.rt:119:1
 returns-2 : tie.Need-returns-2
-returns-2 c = ?
+unfolding editionOf
+returns-2 c =
+    let r = c .before .before .before .before .before .before .before in
+    let a = r .before .before .before .before .args in
+    let f = a .file .now in
+    let e = c .before .before .before .enum-told .given .1 in
+    let p = told (r .read .ensures .outcome) e in
+    let is = due-is edition1 f (r .read .last .1 .1 .0) p (r .read .ensures .stream p) (c .before .words-due .ensures .0) in
+    read-then edition1 f (r .read .ensures) e (output-for (forward (streamOf f)) (a .size) (forward-count f p is) (c .output-test .ensures))
 
 pub forward-tests-spec : {M : Type 1} → statement M
 forward-tests-spec =

@@ -3,8 +3,6 @@ use native.Mathlib.Omega.{arith}
 use Rattle.convert.specs.Sheets.{later-unused, later-used}
 use Rattle.convert.proofs.later_fold.Statement.{statement}
 use Rattle.convert.proofs.later_fold.Tie as tie
-use Rattle.convert.proofs.later_fold.Reads as reads
-use Rattle.convert.proofs.later_fold.Lts as lts
 
 returns : tie.Need-returns
 returns c = let s = c .before in later-used (s .args .rounds) (s .args .k) (s .args .j) (s .pre) (omega (arith, c .if1 .taken))

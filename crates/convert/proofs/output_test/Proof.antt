@@ -11,8 +11,6 @@ use Rattle.definition.specs.Verdict.{refuseIf}
 use Rattle.outcome.specs.Meaning.{outcomeOf}
 use Rattle.convert.proofs.output_test.Statement.{statement}
 use Rattle.convert.proofs.output_test.Tie as tie
-use Rattle.convert.proofs.output_test.Reads as reads
-use Rattle.convert.proofs.output_test.Lts as lts
 
 add-blocks : tie.Need-add-blocks
 add-blocks c = search needs

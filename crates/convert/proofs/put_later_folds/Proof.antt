@@ -9,9 +9,6 @@ use Rattle.stream.specs.Overwriting.{overwrite, overwrite-next, overwrite-none}
 use Rattle.convert.specs.Sheets.{later-long, laterFolds}
 use Rattle.convert.proofs.put_later_folds.Statement.{statement}
 use Rattle.convert.proofs.put_later_folds.Tie as tie
-use Rattle.convert.proofs.put_later_folds.Reads as reads
-use Rattle.convert.proofs.put_later_folds.Lts as lts
-use Rattle.convert.proofs.later_fold.Reads as later-fold-reads
 
 abbrev Inv-loop : tie.InvT-loop
 Inv-loop words₀ rounds k j₀ words j = (j ≤ 5) × ((length words ≡ length words₀) × (words ≡ overwrite words₀ 12 (take j (laterFolds rounds k))))

@@ -5,9 +5,6 @@ use Rattle.definition.specs.Block.{blockCount}
 use Rattle.outcome.specs.Meaning.{answerOf}
 use Rattle.convert.proofs.write.Statement.{statement}
 use Rattle.convert.proofs.write.Tie as tie
-use Rattle.convert.proofs.write.Reads as reads
-use Rattle.convert.proofs.write.Lts as lts
-use Rattle.stream.proofs.seal.Reads as seal-reads
 
 seal-requires : tie.Need-seal-requires
 seal-requires c κs = search needs
