@@ -16,8 +16,8 @@ coefficients-requires c κs = search needs
 coins-requires : tie.Need-coins-requires
 coins-requires c κs = search needs
 
-prove-requires : tie.Need-prove-requires
-prove-requires c κs = search needs
+prove-in-requires : tie.Need-prove-in-requires
+prove-in-requires c κs = search needs
 
 same-length : tie.Need-same-length
 same-length c = search needs
@@ -25,7 +25,7 @@ same-length c = search needs
 returns : tie.Need-returns
 unfolding proveWords
 returns c =
-    let p = c .before .before .prove .ensures in
+    let p = c .before .before .prove-in .ensures in
     let coins = c .before .before .before .before .coins .ensures in
     let coefficients = c .before .before .before .before .before .coefficients .ensures in
     let sheet = c .before .before .before .before .before .before .sheet .ensures in
@@ -40,6 +40,6 @@ prove-words-spec =
     sheet-requires
     coefficients-requires
     coins-requires
-    prove-requires
+    prove-in-requires
     same-length
     returns)

@@ -4,8 +4,8 @@ use Rattle.word_input.specs.Input.{coefficientsPart}
 use Rattle.word_input.proofs.coefficients.Statement.{statement}
 use Rattle.word_input.proofs.coefficients.Tie as tie
 
-after-requires : tie.Need-after-requires
-after-requires c κs = search needs
+body-requires : tie.Need-body-requires
+body-requires c κs = search needs
 
 degree-bound-requires : tie.Need-degree-bound-requires
 degree-bound-requires c κs = search needs
@@ -15,7 +15,7 @@ front-requires c κs = search needs
 
 returns : tie.Need-returns
 unfolding coefficientsPart
-returns c = cc (c .front .ensures, c .before .degree-bound .ensures, c .before .before .after .ensures)
+returns c = cc (c .front .ensures, c .before .degree-bound .ensures, c .before .before .body .ensures)
 
 pub coefficients-spec : {M : Type 1} → statement M
-coefficients-spec = tie.close (tie.spec after-requires degree-bound-requires front-requires returns)
+coefficients-spec = tie.close (tie.spec body-requires degree-bound-requires front-requires returns)
