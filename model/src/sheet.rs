@@ -2,6 +2,7 @@
 //! document 02, CR 1 and CR 5).
 
 use crate::field::Field;
+use std::cmp::Ordering;
 
 /// Number of sheet words in edition 1.
 pub const SHEET_WORDS: usize = 12;
@@ -52,6 +53,9 @@ pub struct Sheet {
     pub d0: usize,
     /// k_0 to k_M, and zeros; in edition 1 they are all k.
     pub k: [usize; 6],
+    /// d_0 to d_(M+1), and zeros: each round's degree bound, and the number of final
+    /// coefficients.
+    pub d: [usize; 7],
     /// M, the number of rounds.
     pub rounds: usize,
     /// s, the out coins of each round.
@@ -97,20 +101,20 @@ impl Sheet {
             read_later_folds(&mut k, d0, rounds, &words[SHEET_WORDS..])?;
         }
 
-        let mut t = [0; 6];
-        for (i, due) in t.iter_mut().enumerate() {
-            let (place, word) = (6 + i, words[6 + i]);
-            let Some(rounds_after) = (rounds as usize).checked_sub(i) else {
-                keep(place, word == 0)?;
-                continue;
-            };
-            keep(place, (1..=MOST_COINS).contains(&word))?;
-            if rounds_after > 0 {
+        let mut d = [d0, 0, 0, 0, 0, 0, 0];
+        for i in 0..=rounds as usize {
+            d[i + 1] = d[i] / k[i];
+        }
+
+        let t: [u32; 6] = words[6..SHEET_WORDS].try_into().expect("six words");
+        for (i, &t) in t.iter().enumerate() {
+            let place = 6 + i;
+            match i.cmp(&(rounds as usize)) {
                 // d_(i+1) bounds what round i+1 takes away from its polynomial.
-                let bound = d0 / k[..=i].iter().product::<u32>();
-                keep(place, word + outs < bound)?;
+                Ordering::Less => keep(place, count_of_coins(t) && t + outs < d[i + 1])?,
+                Ordering::Equal => keep(place, count_of_coins(t))?,
+                Ordering::Greater => keep(place, t == 0)?,
             }
-            *due = word as usize;
         }
 
         Ok(Sheet {
@@ -119,9 +123,10 @@ impl Sheet {
             n0: n0 as usize,
             d0: d0 as usize,
             k: k.map(|k| k as usize),
+            d: d.map(|d| d as usize),
             rounds: rounds as usize,
             outs: outs as usize,
-            t,
+            t: t.map(|t| t as usize),
         })
     }
 
@@ -133,11 +138,6 @@ impl Sheet {
     /// n_i, the size of domain i.
     pub fn n(&self, i: usize) -> usize {
         self.n0 >> i
-    }
-
-    /// d_i, round i's degree bound. For i = M + 1 the number of final coefficients.
-    pub fn d(&self, i: usize) -> usize {
-        self.k[..i].iter().fold(self.d0, |d, k| d / k)
     }
 
     /// Number of indices over domain i: each shift point of it has one.
@@ -165,6 +165,11 @@ fn read_later_folds(k: &mut [u32; 6], d0: u32, rounds: u32, later: &[u32]) -> Re
 /// The rule of word 3, which k_1 to k_5 have too.
 fn folding_number(word: u32, d0: u32) -> bool {
     power_of_two_within(word, 2, d0.min(16))
+}
+
+/// The rule of t_0 to t_M, but for their room.
+fn count_of_coins(word: u32) -> bool {
+    (1..=MOST_COINS).contains(&word)
 }
 
 /// The place as an error, unless the word there keeps its rule.

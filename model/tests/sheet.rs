@@ -6,18 +6,10 @@ mod common;
 use common::*;
 use std::cmp::Ordering;
 use std::collections::BTreeSet;
-use tevrolig_model::generate::{self, differing_at, fault, Rng};
+use tevrolig_model::generate::{self, differing_at, fault, test_order, Rng};
 use tevrolig_model::prove::prove_in;
 use tevrolig_model::sheet::Sheet;
 use tevrolig_model::Answer;
-
-/// The order of the tests.
-fn order(edition: Edition) -> Vec<usize> {
-    match edition {
-        One => (0..12).collect(),
-        Two => (0..6).chain(12..18).chain(6..12).collect(),
-    }
-}
 
 /// The rules written once more, in wide numbers and word by word: the first place
 /// that breaks its rule.
@@ -59,7 +51,8 @@ fn first_broken(words: &[u32]) -> Option<usize> {
             }
         }
     };
-    order(edition).into_iter().find(|&place| !kept(place))
+    let mut order = test_order(edition).into_iter();
+    order.find(|&place| !kept(place))
 }
 
 /// What the reader and prove say of a sheet: the place, or nothing.
@@ -296,7 +289,7 @@ fn any_words() {
 fn one_fault_and_two() {
     for edition in Edition::BOTH {
         let mut rng = Rng::new(32);
-        let order = order(edition);
+        let order = test_order(edition);
         for _ in 0..2000 {
             let sheet = generate::sheet_up_to(edition, &mut rng, 256);
             assert_eq!(first_broken(&sheet), None, "{sheet:?}");

@@ -142,7 +142,7 @@ impl<const P: u64> Level<'_, P, true> {
         let mut tops = [0; PLACES];
         let tops = &mut tops[..indices.len() * k];
         for (tops, &j) in tops.chunks_exact_mut(k).zip(indices) {
-            let values = self.table[j as usize..].iter().step_by(self.step());
+            let values = self.table[j as usize..].iter().step_by(self.step);
             for (top, &value) in tops.iter_mut().zip(values) {
                 *top = value;
             }
@@ -179,7 +179,7 @@ impl Lists {
         let mut powers = [0; MOST_COEFFICIENTS];
         let powers = &mut powers[..self.columns];
         level.powers_of(j, powers);
-        let (at, between) = (level.scale * j, level.scale * level.step());
+        let (at, between) = (level.scale * j, level.scale * level.step);
         let mut sums = [0; MOST_ROOTS];
         let mut at_roots = |list: &[u32], out: &mut [u32]| {
             for (m, sum) in sums[..k].iter_mut().enumerate() {

@@ -142,7 +142,7 @@ impl<const P: u64, const TUNED: bool> Correction<P, TUNED> for Newton {
         r: u32,
         out: &mut [u32],
     ) {
-        let (step, half) = (level.step(), level.k / 2);
+        let (step, half) = (level.step, level.k / 2);
         for (&j, out) in indices.iter().zip(out) {
             let j = j as usize;
             let mut values = [0; MOST_ROOTS];

@@ -38,7 +38,7 @@ fn words_due(sheet: &Sheet) -> usize {
         .map(|i| sheet.n(i) + 2 * sheet.outs + 2 + sheet.t[i - 1])
         .sum();
     let before = sheet.edition.sheet_words() + sheet.n0 + 1;
-    before + rounds + sheet.d(sheet.rounds + 1) + sheet.t[sheet.rounds]
+    before + rounds + sheet.d[sheet.rounds + 1] + sheet.t[sheet.rounds]
 }
 
 /// Refusal 5: round after round, elements and then indices.
@@ -51,7 +51,7 @@ fn out_of_range(sheet: &Sheet, words: &[u32]) -> Option<usize> {
                 let elements = if i <= sheet.rounds {
                     sheet.n(i) + 2 * sheet.outs + 2
                 } else {
-                    sheet.d(i)
+                    sheet.d[i]
                 };
                 (elements, sheet.t[i - 1], sheet.indices(i - 1))
             }

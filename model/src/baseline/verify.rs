@@ -19,14 +19,11 @@ pub struct Level<'a, const P: u64, const TUNED: bool> {
     pub(super) table: &'a [u32],
     pub(super) scale: usize,
     pub(super) k: usize,
+    /// What the numbers of a shift point's roots are apart.
+    pub(super) step: usize,
 }
 
 impl<const P: u64, const TUNED: bool> Level<'_, P, TUNED> {
-    /// What the numbers of a shift point's roots are apart.
-    pub(super) fn step(&self) -> usize {
-        self.table.len() / self.k
-    }
-
     pub(super) fn shift_point(&self, j: usize) -> u32 {
         self.powers[(self.k - 1 + self.k * self.scale * j) % self.powers.len()]
     }
@@ -35,7 +32,7 @@ impl<const P: u64, const TUNED: bool> Level<'_, P, TUNED> {
     pub(super) fn fold(&self, j: usize, r: u32, values: &mut [u32]) -> u32 {
         let f = self.prime;
         let order = self.powers.len();
-        let (mut exponent, mut between) = (1 + self.scale * j, self.scale * self.step());
+        let (mut exponent, mut between) = (1 + self.scale * j, self.scale * self.step);
         let mut count = self.k / 2;
         let mut coin = r;
         while count > 0 {
@@ -136,6 +133,7 @@ fn decide<C: Correction<P, TUNED>, const P: u64, const TUNED: bool>(
         table: &words[at..at + sheet.n(i)],
         scale: 1 << i,
         k: sheet.k[i],
+        step: sheet.indices(i),
     };
     let mut at = sheet.edition.sheet_words();
     let mut level = level_at(0, at);
@@ -170,7 +168,7 @@ fn decide<C: Correction<P, TUNED>, const P: u64, const TUNED: bool>(
         at = later + 2 + shifts.len();
     }
 
-    let finals = at + sheet.d(sheet.rounds + 1);
+    let finals = at + sheet.d[sheet.rounds + 1];
     let coefficients = &words[at..finals];
     let indices = &words[finals..finals + sheet.t[sheet.rounds]];
     C::folds(correction.as_ref(), &level, indices, r, &mut folds);

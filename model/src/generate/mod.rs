@@ -9,7 +9,7 @@ mod sheets;
 pub use crate::stream::write_checks as rewrite_checks;
 pub use damage::{aim, damage};
 pub use random::Rng;
-pub use sheets::{differing_at, fault, sheet, sheet_over, sheet_up_to};
+pub use sheets::{differing_at, fault, sheet, sheet_over, sheet_up_to, test_order, two_faults};
 
 use crate::domain::Subgroup;
 use crate::layout::{Layout, Part};

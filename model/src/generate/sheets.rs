@@ -188,7 +188,24 @@ pub fn fault(rng: &mut Rng, sheet: &[u32], place: usize) -> u32 {
     rng.pick(&broken)
 }
 
-/// The same for any place, or a word that keeps its own rule and breaks another's.
+/// The places of a sheet in the order in which they are tested.
+pub fn test_order(edition: Edition) -> Vec<usize> {
+    match edition {
+        Edition::One => (0..12).collect(),
+        Edition::Two => (0..6).chain(12..18).chain(6..12).collect(),
+    }
+}
+
+/// Two such words, with their places; the first, which may be the second too, is
+/// tested first.
+pub fn two_faults(rng: &mut Rng, sheet: &[u32]) -> [(usize, u32); 2] {
+    let order = Edition::of(sheet).map_or(Vec::new(), test_order);
+    let first = rng.place(order.len());
+    let second = first + rng.place(order.len() - first);
+    [first, second].map(|turn| (order[turn], fault(rng, sheet, order[turn])))
+}
+
+/// A place and a word that breaks its rule, or keeps it and breaks another's.
 pub(super) fn any_fault(rng: &mut Rng, sheet: &[u32]) -> (usize, u32) {
     let place = rng.place(sheet.len());
     let mut words = sheet.to_vec();
