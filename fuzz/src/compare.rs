@@ -3,8 +3,12 @@
 use crate::fence::Fence;
 use crate::input::{Input, Order};
 use std::cell::RefCell;
-use tevrolig::convert::{to_edition_1, to_edition_2, ConvertRefusal};
+use tevrolig::convert::{to_edition_1, to_edition_2};
 use tevrolig::{edition2, Field, Outcome, Verdict};
+use tevrolig_model::convert::convert_to;
+use tevrolig_model::prove::prove_in;
+use tevrolig_model::sheet::Edition;
+use tevrolig_model::verify::verify_in;
 use tevrolig_model::{self as model, field, stream, Answer};
 
 /// The fences, made once.
@@ -42,67 +46,70 @@ pub fn agree(input: &Input) {
     });
 }
 
-/// The verdicts of both in edition 1 and edition 2, and some words of the stream: the place of the refusal, the words at the end, one that the
-/// file itself names, and the sheet.
-fn verdicts(fences: &mut Fences, file: &[u8]) -> [Verdict; 2] {
+/// Verify of an edition in the archive.
+fn verify(edition: Edition, file: &[u8]) -> Verdict {
+    match edition {
+        Edition::One => tevrolig::verify(file),
+        Edition::Two => edition2::verify(file),
+    }
+}
+
+/// The verdicts of both in each edition, and some words of the stream: the places of the refusals, the words at the end, one that the file itself
+/// names, and the sheet.
+fn verdicts(fences: &mut Fences, file: &[u8]) {
     let lent: &[u8] = fences.file.lend(file);
-    let verdict = tevrolig::verify(lent);
-    assert_eq!(verdict.line(), model::line(model::verify(file)));
-    let second = edition2::verify(lent);
-    assert_eq!(second.line(), model::line(model::verify_2(file)));
+    let places = Edition::BOTH.map(|edition| {
+        let verdict = verify(edition, lent);
+        assert_eq!(verdict.line(), model::line(verify_in(edition, file)));
+        match verdict.outcome {
+            Outcome::Accepted => 0,
+            Outcome::Refused(refusal) => refusal.place(),
+        }
+    });
 
     let end = (file.len() / stream::BLOCK_BYTES * stream::BLOCK_WORDS) as u64;
-    let place = match verdict.outcome {
-        Outcome::Accepted => 0,
-        Outcome::Refused(refusal) => refusal.place(),
-    };
     let named = file
         .iter()
         .take(8)
         .fold(0, |sum, &byte| sum << 8 | u64::from(byte));
-    for number in [place, end.wrapping_sub(1), end, named] {
+    let [place, place_2] = places;
+    for number in [place, place_2, end.wrapping_sub(1), end, named] {
         let word = (number < end).then(|| stream::read_word(file, number as usize));
         assert_eq!(tevrolig::word(lent, number), word, "word {number}");
     }
     let sheet = (0 < end).then(|| std::array::from_fn(|number| stream::read_word(file, number)));
     assert_eq!(tevrolig::sheet_of(lent), sheet, "the sheet");
     assert_eq!(lent, file, "the file is only read");
-    [verdict, second]
 }
 
-/// One way of the converter in the archive, and in the model.
-type Way = (
-    fn(&[u8], &mut [u8]) -> Result<usize, ConvertRefusal>,
-    fn(&[u8], &mut [u8]) -> Answer,
-);
-
-/// The converters of both, with an output that is long enough for every file that has as many blocks, with one that is too short for most, and
-/// with none.
+/// The converters of both, with an output that is long enough for every file that has as many blocks, with outputs of as many blocks and of a byte
+/// less, and with none.
 fn conversions(fences: &mut Fences, file: &[u8]) {
     let lent: &[u8] = fences.file.lend(file);
-    let ways: [Way; 2] = [
-        (to_edition_2, model::to_edition_2),
-        (to_edition_1, model::to_edition_1),
-    ];
-    for (archive, model) in ways {
-        for length in [file.len() + 513, file.len().saturating_sub(1), 0] {
+    for to in Edition::BOTH {
+        let convert = match to {
+            Edition::One => to_edition_1,
+            Edition::Two => to_edition_2,
+        };
+        let length = file.len();
+        for length in [length + 513, length, length.saturating_sub(1), 0] {
             let mut expected = vec![0xA5; length];
             let output = fences.output.lend(&expected);
-            let answer = match archive(lent, output) {
+            let answer = match convert(lent, output) {
                 Ok(blocks) => Answer::Done(blocks as u64),
                 Err(refusal) => Answer::Refused {
                     number: refusal.number(),
                     place: refusal.place(),
                 },
             };
-            assert_eq!(answer, model(file, &mut expected));
+            assert_eq!(answer, convert_to(to, file, &mut expected));
             assert!(output == expected, "the converter's output differs");
         }
     }
     assert_eq!(lent, file, "the file is only read");
 }
 
-/// Prove of both in both editions, encode of both, and the verdicts on the files.
+/// Prove of both in each edition, the verdicts on the files that come of it and their conversions, and encode of both.
 fn orders(fences: &mut Fences, order: &Order) {
     let Order {
         sheet,
@@ -116,23 +123,23 @@ fn orders(fences: &mut Fences, order: &Order) {
     let lent_coefficients: &[u32] = lent_coefficients.lend(coefficients);
     let lent_coins: &[u32] = lent_coins.lend(coins);
 
-    let mut expected = vec![0xA5; length];
-    let lent = fences.output.lend(&expected);
-    let answer = tevrolig::prove(lent_sheet, lent_coefficients, lent_coins, lent);
-    assert_eq!(
-        told(answer),
-        model::prove(sheet, coefficients, coins, &mut expected)
-    );
-    assert!(lent == expected, "prove's output differs");
-
-    let mut second = vec![0xA5; length];
-    let lent = fences.output.lend(&second);
-    let answer_2 = edition2::prove(lent_sheet, lent_coefficients, lent_coins, lent);
-    assert_eq!(
-        told(answer_2),
-        model::prove_2(sheet, coefficients, coins, &mut second)
-    );
-    assert!(lent == second, "prove's output of edition 2 differs");
+    let mut files = Vec::new();
+    for edition in Edition::BOTH {
+        let prove = match edition {
+            Edition::One => tevrolig::prove,
+            Edition::Two => edition2::prove,
+        };
+        let mut expected = vec![0xA5; length];
+        let lent = fences.output.lend(&expected);
+        let answer = told(prove(lent_sheet, lent_coefficients, lent_coins, lent));
+        let due = prove_in(edition, sheet, coefficients, coins, &mut expected);
+        assert_eq!(answer, due);
+        assert!(lent == expected, "prove's output differs");
+        if let Answer::Done(blocks) = answer {
+            expected.truncate(blocks as usize * tevrolig::BLOCK_BYTES);
+            files.push((edition, expected));
+        }
+    }
 
     let mut table = vec![0xA5A5_A5A5; length];
     let lent = fences.table.lend(&table);
@@ -145,12 +152,11 @@ fn orders(fences: &mut Fences, order: &Order) {
 
     let only_read = lent_sheet == sheet && lent_coefficients == coefficients && lent_coins == coins;
     assert!(only_read, "the lists are only read");
-    for (edition, (answer, output)) in [(answer, expected), (answer_2, second)].iter().enumerate() {
-        if let Ok(blocks) = answer {
-            let verdicts = verdicts(fences, &output[..blocks * tevrolig::BLOCK_BYTES]);
-            let outcome = verdicts[edition].outcome;
-            assert_eq!(outcome, Outcome::Accepted, "the prover's file");
-        }
+    for (edition, file) in files {
+        let outcome = verify(edition, &file).outcome;
+        assert_eq!(outcome, Outcome::Accepted, "the prover's file");
+        verdicts(fences, &file);
+        conversions(fences, &file);
     }
 }
 

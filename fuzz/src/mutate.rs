@@ -4,9 +4,9 @@
 use crate::input::{Input, Order};
 use tevrolig_model::convert::with_equal_folds;
 use tevrolig_model::domain::Subgroup;
-use tevrolig_model::generate::{self, edition2, Rng};
+use tevrolig_model::generate::{self, aim, coefficients, coins, honest_file, known, Rng};
 use tevrolig_model::layout::{Layout, Part};
-use tevrolig_model::sheet::{Edition, Sheet};
+use tevrolig_model::sheet::Edition;
 use tevrolig_model::stream::{read_word, write_word, BLOCK_BYTES, BLOCK_WORDS};
 
 /// An input made from another. `change` alters bytes in libFuzzer's own ways, which know what the model compared.
@@ -37,18 +37,16 @@ pub fn mutate(bytes: &[u8], seed: u32, change: impl Fn(&mut [u8])) -> Vec<u8> {
 
 /// An honest file of either edition, whole or damaged, an allowed order, or words for a field.
 fn fresh(rng: &mut Rng) -> Input {
-    let order = allowed(rng);
+    let (edition, order) = allowed(rng);
     match rng.below(16) {
-        0 => Input::Raw(honest_file(&order).unwrap_or_default()),
-        1..=7 => {
-            let mut file = honest_file(&order).unwrap_or_default();
-            let number = rng.pick(&[5, 7, 8, 8, 9, 9, 9]);
+        form @ 0..=7 => {
+            let mut file = honest_file(&order.sheet, &order.coefficients, &order.coins);
+            if form == 0 {
+                return Input::Raw(file);
+            }
+            let number = rng.pick(&[3, 5, 6, 7, 8, 8, 9, 9, 9]);
             if rng.one_in(2) {
-                let aim = match edition(&order.sheet) {
-                    Edition::One => generate::aim,
-                    Edition::Two => edition2::aim,
-                };
-                aim(rng, &mut file, number);
+                aim(edition, rng, &mut file, number);
             }
             Input::Sealed(file)
         }
@@ -57,60 +55,31 @@ fn fresh(rng: &mut Rng) -> Input {
     }
 }
 
-/// An allowed order of either edition; in edition 2 the folding numbers are equal in one of four.
-fn allowed(rng: &mut Rng) -> Order {
+/// An allowed order of either edition; in edition 2 the folding numbers are equal in one of four, so that the file has an edition 1.
+fn allowed(rng: &mut Rng) -> (Edition, Order) {
     let most_n0 = rng.pick(&[16, 16, 32, 64, 128]);
-    let sheet = match rng.below(8) {
-        0..=3 => generate::sheet_up_to(rng, most_n0).to_vec(),
-        4 => with_equal_folds(&generate::sheet_up_to(rng, most_n0)).to_vec(),
-        _ => edition2::sheet_up_to(rng, 2 * most_n0).to_vec(),
+    let (edition, sheet) = match rng.below(8) {
+        0..=3 => (
+            Edition::One,
+            generate::sheet_up_to(Edition::One, rng, most_n0),
+        ),
+        4 => {
+            let equal = generate::sheet_up_to(Edition::One, rng, most_n0);
+            (Edition::Two, with_equal_folds(&equal))
+        }
+        _ => (
+            Edition::Two,
+            generate::sheet_up_to(Edition::Two, rng, 2 * most_n0),
+        ),
     };
     let hostile = rng.one_in(2);
-    Order {
-        coefficients: coefficients(rng, &sheet).unwrap_or_default(),
-        coins: coins(rng, &sheet, hostile).unwrap_or_default(),
+    let order = Order {
+        coefficients: coefficients(rng, &sheet),
+        coins: coins(rng, &sheet, hostile),
         output: output_due(&sheet) + rng.pick(&[0, 0, 1, 600]),
         sheet,
-    }
-}
-
-/// The edition whose sheet has so many words; edition 1 where none has.
-fn edition(sheet: &[u32]) -> Edition {
-    if sheet.len() == Edition::Two.sheet_words() {
-        Edition::Two
-    } else {
-        Edition::One
-    }
-}
-
-/// Coefficients for a sheet of either edition; nothing where the words are not as many.
-fn coefficients(rng: &mut Rng, sheet: &[u32]) -> Option<Vec<u32>> {
-    match edition(sheet) {
-        Edition::One => Some(generate::coefficients(rng, sheet.try_into().ok()?)),
-        Edition::Two => Some(edition2::coefficients(rng, sheet.try_into().ok()?)),
-    }
-}
-
-/// Coins likewise.
-fn coins(rng: &mut Rng, sheet: &[u32], hostile: bool) -> Option<Vec<u32>> {
-    match edition(sheet) {
-        Edition::One => Some(generate::coins(rng, sheet.try_into().ok()?, hostile)),
-        Edition::Two => Some(edition2::coins(rng, sheet.try_into().ok()?, hostile)),
-    }
-}
-
-/// The prover's file of an order likewise.
-fn honest_file(order: &Order) -> Option<Vec<u8>> {
-    let (sheet, coefficients, coins) = (&order.sheet[..], &order.coefficients, &order.coins);
-    Some(match edition(sheet) {
-        Edition::One => generate::honest_file(sheet.try_into().ok()?, coefficients, coins),
-        Edition::Two => edition2::honest_file(sheet.try_into().ok()?, coefficients, coins),
-    })
-}
-
-/// The sheet of these words, where it has no fault.
-fn known(sheet: &[u32]) -> Option<Sheet> {
-    Sheet::read_in(edition(sheet), sheet)?.ok()
+    };
+    (edition, order)
 }
 
 /// The bytes that prove's output needs; none for a sheet with a fault.
@@ -122,8 +91,8 @@ fn output_due(sheet: &[u32]) -> u16 {
 
 fn change_file(rng: &mut Rng, file: &mut Vec<u8>) {
     if file.len() < BLOCK_BYTES || rng.one_in(2) {
-        let damage = rng.pick(&[generate::damage, edition2::damage]);
-        damage(rng, file);
+        let edition = rng.pick(&Edition::BOTH);
+        generate::damage(edition, rng, file);
         return;
     }
     let words = file.len() / BLOCK_BYTES * BLOCK_WORDS;
@@ -152,8 +121,8 @@ fn change_order(rng: &mut Rng, order: &mut Order) {
             ];
             order.output = rng.pick(&lengths);
         }
-        1 => order.coins = coins(rng, &order.sheet, true).unwrap_or_default(),
-        2 => order.coefficients = coefficients(rng, &order.sheet).unwrap_or_default(),
+        1 => order.coins = coins(rng, &order.sheet, true),
+        2 => order.coefficients = coefficients(rng, &order.sheet),
         3 => move_out_coin(rng, &order.sheet, &mut order.coins),
         _ => {
             let list = match rng.below(4) {

@@ -60,7 +60,7 @@ impl Layout {
         }
         let last = sheet.rounds;
         plan.extend([
-            (Part::FinalCoefficients, sheet.d(last + 1), p),
+            (Part::FinalCoefficients, sheet.d[last + 1], p),
             (Part::FinalIndices, sheet.t[last], indices(last)),
         ]);
 

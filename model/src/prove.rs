@@ -114,19 +114,19 @@ fn sheet_and_polynomial(
 /// All tests of prove in order.
 fn request(
     edition: Edition,
-    sheet: &[u32],
+    words: &[u32],
     coefficients: &[u32],
     coins: &[u32],
     output_bytes: usize,
 ) -> Result<Request, Fault> {
-    let sheet = sheet_and_polynomial(edition, sheet, coefficients)?;
+    let sheet = sheet_and_polynomial(edition, words, coefficients)?;
     let layout = Layout::new(&sheet);
     if coins.len() != layout.coins() {
         return Err(Fault::new(10, 2));
     }
 
     // The coins at their places in the stream; `due` has their word numbers.
-    let mut stream = sheet.all_words();
+    let mut stream = words.to_vec();
     stream.resize(layout.words(), 0);
     let due: Vec<(usize, u64)> = layout
         .coin_sections()
@@ -225,12 +225,12 @@ impl Request {
     /// The fold of f_i by k_i and fold coin i.
     fn folded(&self, i: usize, f: &[u64]) -> Vec<u64> {
         let coin = self.read(Part::FoldCoin(i))[0];
-        fold(self.sheet.field, f, self.sheet.folds[i], coin)
+        fold(self.sheet.field, f, self.sheet.k[i], coin)
     }
 
     /// From g_i to f_i by long division; V_i leaves no remainder.
     fn correct(&self, i: usize, g: Vec<u64>) -> Round {
-        let (field, k) = (self.sheet.field, self.sheet.folds[i - 1]);
+        let (field, k) = (self.sheet.field, self.sheet.k[i - 1]);
         let outs = self.read(Part::OutCoins(i)).into_iter();
         let shifts = self
             .read(Part::ShiftIndices(i))

@@ -200,7 +200,7 @@ impl Transcript {
         let mut f = self.elements(Part::Table(0));
         for i in 1..=self.sheet.rounds {
             // The shift coins of round i fold f_(i-1), which has its own k.
-            let k = self.sheet.folds[i - 1];
+            let k = self.sheet.k[i - 1];
             let folds = self.folds(i - 1, &f);
             let shifts = self.indices(Part::ShiftIndices(i));
             *reads += (k * shifts.len()) as u64;
@@ -214,7 +214,7 @@ impl Transcript {
         }
 
         let last = self.sheet.rounds;
-        let k = self.sheet.folds[last];
+        let k = self.sheet.k[last];
         let folds = self.folds(last, &f);
         let polynomial = self.elements(Part::FinalCoefficients);
         for (position, j) in self.indices(Part::FinalIndices).into_iter().enumerate() {
@@ -230,7 +230,7 @@ impl Transcript {
     /// The folds of f_i by fold coin i.
     fn folds(&self, i: usize, f: &[u64]) -> Vec<u64> {
         let coin = self.coin(Part::FoldCoin(i));
-        fold_table(&self.subgroup, i, f, self.sheet.folds[i], coin)
+        fold_table(&self.subgroup, i, f, self.sheet.k[i], coin)
     }
 
     /// f_i over domain i: quotient of g_i, times the correction.

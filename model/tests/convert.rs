@@ -3,28 +3,22 @@
 
 mod common;
 
-use common::edition2::{self as second, LARGE_FIRST};
-use common::{changed, hand_file, honest};
+use common::*;
 use std::collections::BTreeMap;
-use tevrolig_model::convert::with_equal_folds;
-use tevrolig_model::generate::convert::{self as cases, Case};
-use tevrolig_model::generate::{self, edition2, Rng};
-use tevrolig_model::sheet::Sheet;
+use tevrolig_model::convert::{convert_to, with_equal_folds};
+use tevrolig_model::generate::{self, aim, convert::case, Rng};
 use tevrolig_model::stream::{read_word, write_word};
-use tevrolig_model::{line, to_edition_1, to_edition_2, verify, verify_2, Answer};
-
-type Converter = fn(&[u8], &mut [u8]) -> Answer;
-type Draw = fn(&mut Rng, u32) -> Case;
+use tevrolig_model::Answer;
 
 /// Room for every file.
 const ROOM: usize = 512 * 68;
 
-/// Converts into an output of this length: what is answered, and the blocks
-/// written. Bytes after the blocks stay, and all of them after a refusal.
-fn converted(converter: Converter, file: &[u8], length: usize) -> Result<Vec<u8>, (u32, u64)> {
+/// Converts to an edition into an output of this length: what is answered, and the
+/// blocks written. Bytes after the blocks stay, and all of them after a refusal.
+fn converted(to: Edition, file: &[u8], length: usize) -> Result<Vec<u8>, (u32, u64)> {
     let before: Vec<u8> = (0..length).map(|i| (i % 251) as u8).collect();
     let (mut output, given) = (before.clone(), file.to_vec());
-    let answer = converter(file, &mut output);
+    let answer = convert_to(to, file, &mut output);
     assert_eq!(file, given);
     match answer {
         Answer::Done(blocks) => {
@@ -41,23 +35,22 @@ fn converted(converter: Converter, file: &[u8], length: usize) -> Result<Vec<u8>
 }
 
 fn there(file: &[u8]) -> Vec<u8> {
-    converted(to_edition_2, file, ROOM).unwrap()
+    converted(Two, file, ROOM).unwrap()
 }
 
 fn back(file: &[u8]) -> Vec<u8> {
-    converted(to_edition_1, file, ROOM).unwrap()
+    converted(One, file, ROOM).unwrap()
 }
 
 #[test]
 fn the_transcript_by_hand() {
     let file = there(&hand_file());
     let stream: Vec<u32> = (0..127).map(|word| read_word(&file, word)).collect();
-    let sheet = [0, 16, 8, 2, 1, 1, 1, 1, 0, 0, 0, 0, 2, 0, 0, 0, 0, 2];
-    assert_eq!(stream[..18], sheet);
-    assert_eq!(stream[18..51], common::STREAM[12..]);
+    assert_eq!(stream[..18], SHEET_2);
+    assert_eq!(stream[18..51], STREAM[12..]);
     assert!(stream[51..].iter().all(|&fill| fill == 0));
     assert_eq!(file[508..], 7495_u32.to_le_bytes());
-    assert_eq!(second::judged(&file), "accepted 0 0 4");
+    assert_eq!(judged(Two, &file), "accepted 0 0 4");
     assert_eq!(back(&file), hand_file());
 }
 
@@ -85,21 +78,21 @@ fn there_and_back() {
     let mut lines = BTreeMap::new();
     for round in 0..8000 {
         let most_n0 = if round % 20 == 0 { 512 } else { 64 };
-        let sheet = generate::sheet_up_to(&mut rng, most_n0);
+        let sheet = generate::sheet_up_to(One, &mut rng, most_n0);
         let mut file = honest(&mut rng, &sheet, round % 2 == 0);
         let number = rng.pick(&[0, 7, 8, 9]);
-        generate::aim(&mut rng, &mut file, number);
+        aim(One, &mut rng, &mut file, number);
         let other = there(&file);
         assert_eq!(back(&other), file);
 
         // The words after the sheet, and nothing but zeros after them.
-        let (due, all) = (common::layout(&sheet).words(), other.len() / 512 * 127);
+        let (due, all) = (layout(&sheet).words(), other.len() / 512 * 127);
         assert!((0..12).all(|word| read_word(&file, word) == read_word(&other, word)));
         assert!((12..due).all(|word| read_word(&file, word) == read_word(&other, word + 6)));
         assert!((due + 6..all).all(|word| read_word(&other, word) == 0));
 
-        let before = line(verify(&file));
-        let after = line(verify_2(&other));
+        let before = judged(One, &file);
+        let after = judged(Two, &other);
         let expected = match before.strip_prefix("refused 7 ") {
             Some(rest) => {
                 let place: u32 = rest.strip_suffix(" 0").unwrap().parse().unwrap();
@@ -119,15 +112,15 @@ fn there_and_back() {
 fn back_and_there() {
     let mut rng = Rng::new(51);
     for round in 0..4000 {
-        let sheet = with_equal_folds(&generate::sheet_up_to(&mut rng, 64));
-        let mut file = second::honest(&mut rng, &sheet, round % 2 == 0);
+        let sheet = with_equal_folds(&generate::sheet_up_to(One, &mut rng, 64));
+        let mut file = honest(&mut rng, &sheet, round % 2 == 0);
         let number = rng.pick(&[0, 7, 8, 9]);
-        edition2::aim(&mut rng, &mut file, number);
+        aim(Two, &mut rng, &mut file, number);
         let other = back(&file);
         assert_eq!(there(&other), file);
         assert_eq!(
             other.len() / 512,
-            (second::layout(&sheet).words() - 6).div_ceil(127)
+            (layout(&sheet).words() - 6).div_ceil(127)
         );
     }
 }
@@ -146,22 +139,19 @@ fn numbers_of_blocks() {
         assert_eq!(there(&file).len(), due);
         for length in [0, 512, due - 1] {
             if length < due {
-                let short = converted(to_edition_2, &file, length);
+                let short = converted(Two, &file, length);
                 assert_eq!(short, Err((11, two as u64)));
             }
         }
-        let other = converted(to_edition_2, &file, due).unwrap();
-        assert_eq!(
-            converted(to_edition_1, &other, 512 * one - 1),
-            Err((11, one as u64))
-        );
-        assert_eq!(converted(to_edition_1, &other, 512 * one), Ok(file));
+        let other = converted(Two, &file, due).unwrap();
+        assert_eq!(converted(One, &other, 512 * one - 1), Err((11, one as u64)));
+        assert_eq!(converted(One, &other, 512 * one), Ok(file));
     }
     let longest = [2, 4096, 2048, 2, 5, 2, 48, 48, 48, 48, 48, 48];
     let file = honest(&mut rng, &longest, false);
-    assert_eq!(converted(to_edition_2, &file, 512 * 67 - 1), Err((11, 67)));
-    let other = converted(to_edition_2, &file, 512 * 67).unwrap();
-    assert_eq!(converted(to_edition_1, &other, 512 * 67), Ok(file));
+    assert_eq!(converted(Two, &file, 512 * 67 - 1), Err((11, 67)));
+    let other = converted(Two, &file, 512 * 67).unwrap();
+    assert_eq!(converted(One, &other, 512 * 67), Ok(file));
 }
 
 /// 13 at each i, after 1 to 6 and before 11, whatever verify says from 7 on.
@@ -171,31 +161,31 @@ fn differing_folding_numbers_13() {
     for i in 1..=5 {
         let expected = Err((13, i as u64));
         for _ in 0..60 {
-            let sheet = edition2::differing_at(&mut rng, i);
-            let mut file = second::honest(&mut rng, &sheet, false);
+            let sheet = generate::differing_at(&mut rng, i);
+            let mut file = honest(&mut rng, &sheet, false);
             let later = rng.pick(&[0, 7, 8, 9]);
-            edition2::aim(&mut rng, &mut file, later);
-            let blocks = (second::layout(&sheet).words() - 6).div_ceil(127);
+            aim(Two, &mut rng, &mut file, later);
+            let blocks = (layout(&sheet).words() - 6).div_ceil(127);
             for length in [0, 512 * blocks - 1, 512 * blocks, ROOM] {
-                assert_eq!(converted(to_edition_1, &file, length), expected);
+                assert_eq!(converted(One, &file, length), expected);
             }
             let number = 1 + rng.below(6) as u32;
-            if edition2::aim(&mut rng, &mut file, number) {
-                let (found, _) = converted(to_edition_1, &file, 0).unwrap_err();
+            if aim(Two, &mut rng, &mut file, number) {
+                let (found, _) = converted(One, &file, 0).unwrap_err();
                 assert_eq!(found, number);
             }
         }
     }
     // By hand; what follows the first other k does not count.
-    let file = second::honest(&mut rng, &LARGE_FIRST, false);
-    assert_eq!(converted(to_edition_1, &file, ROOM), Err((13, 1)));
+    let file = honest(&mut rng, &LARGE_FIRST, false);
+    assert_eq!(converted(One, &file, ROOM), Err((13, 1)));
     let sheet = [1, 256, 128, 2, 3, 1, 1, 1, 1, 1, 0, 0, 2, 4, 2, 0, 0, 2];
-    let file = second::honest(&mut rng, &sheet, false);
-    assert_eq!(converted(to_edition_1, &file, ROOM), Err((13, 2)));
+    let file = honest(&mut rng, &sheet, false);
+    assert_eq!(converted(One, &file, ROOM), Err((13, 2)));
     // The zeros past k_M are no folding numbers.
     let sheet = [1, 256, 128, 2, 1, 1, 1, 1, 0, 0, 0, 0, 2, 0, 0, 0, 0, 2];
-    let file = second::honest(&mut rng, &sheet, false);
-    assert!(converted(to_edition_1, &file, ROOM).is_ok());
+    let file = honest(&mut rng, &sheet, false);
+    assert!(converted(One, &file, ROOM).is_ok());
 }
 
 /// Places of the refusals 1 to 6, counted in the edition that is read.
@@ -206,8 +196,8 @@ fn refusals_by_hand() {
     let both = |changes: [&[(usize, u32)]; 2]| {
         let [one, two] = [changed(&one, changes[0]), changed(&two, changes[1])];
         (
-            converted(to_edition_2, &one, 0).unwrap_err(),
-            converted(to_edition_1, &two, 0).unwrap_err(),
+            converted(Two, &one, 0).unwrap_err(),
+            converted(One, &two, 0).unwrap_err(),
         )
     };
     assert_eq!(both([&[], &[]]), ((11, 1), (11, 1)));
@@ -219,53 +209,39 @@ fn refusals_by_hand() {
     assert_eq!(both([&[(126, 1)], &[(126, 9)]]), ((6, 126), (6, 126)));
     // 7, 8 and 9 are not looked at.
     assert_eq!(both([&[(37, 3)], &[(43, 3)]]), ((11, 1), (11, 1)));
-    for (converter, file) in [(to_edition_2 as Converter, &one), (to_edition_1, &two)] {
+    for (to, file) in [(Two, &one), (One, &two)] {
         for length in [0, 1, 511] {
-            assert_eq!(converted(converter, &file[..length], ROOM), Err((1, 0)));
+            assert_eq!(converted(to, &file[..length], ROOM), Err((1, 0)));
         }
         let mut wrong = file.clone();
         wrong[100] ^= 1;
-        assert_eq!(converted(converter, &wrong, ROOM), Err((2, 0)));
+        assert_eq!(converted(to, &wrong, ROOM), Err((2, 0)));
         let mut longer = file.clone();
         longer.resize(1024, 0);
-        assert_eq!(converted(converter, &longer, ROOM), Err((2, 1)));
-        assert_eq!(
-            converted(converter, &changed(&longer, &[]), ROOM),
-            Err((4, 1))
-        );
+        assert_eq!(converted(to, &longer, ROOM), Err((2, 1)));
+        assert_eq!(converted(to, &changed(&longer, &[]), ROOM), Err((4, 1)));
     }
     // Each takes its own edition: 3 at word 12 is a table's, and the reply 5 stands
     // where edition 1 has its final index, which is below 4.
-    assert_eq!(converted(to_edition_1, &one, ROOM), Err((3, 12)));
-    assert_eq!(converted(to_edition_2, &two, ROOM), Err((5, 44)));
+    assert_eq!(converted(One, &one, ROOM), Err((3, 12)));
+    assert_eq!(converted(Two, &two, ROOM), Err((5, 44)));
 }
 
-/// Thousands of files with up to three faults and outputs of any length: what is
-/// due by the way that they are made, and the same places as verify's for 1 to 6.
+/// Files with up to three faults and outputs of any length: what is due by the way
+/// that they are made, and the same places as verify's for 1 to 6.
 #[test]
 fn files_with_faults() {
-    let mut rng = Rng::new(54);
-    let kinds: [(Converter, Draw, _, &[u32]); 2] = [
-        (
-            to_edition_2,
-            cases::to_edition_2,
-            verify as fn(&[u8]) -> _,
-            &[0, 1, 2, 3, 4, 5, 6, 11],
-        ),
-        (
-            to_edition_1,
-            cases::to_edition_1,
-            verify_2,
-            &[0, 1, 2, 3, 4, 5, 6, 11, 13],
-        ),
+    let numbers: [(Edition, &[u32]); 2] = [
+        (Two, &[0, 1, 2, 3, 4, 5, 6, 11]),
+        (One, &[0, 1, 2, 3, 4, 5, 6, 11, 13]),
     ];
-    for (converter, draw, judge, all) in kinds {
+    for (to, all) in numbers {
+        let mut rng = Rng::new(54);
         let mut met = BTreeMap::new();
         let mut second_faults = BTreeMap::new();
         for _ in 0..20_000 {
-            let case = draw(&mut rng, 64);
-            let answer = converted(converter, &case.file, case.length);
-            match answer {
+            let case = case(to, &mut rng, 64);
+            match converted(to, &case.file, case.length) {
                 Ok(written) => {
                     assert_eq!(case.refused, None);
                     assert_eq!(written.len(), 512 * case.blocks);
@@ -276,7 +252,7 @@ fn files_with_faults() {
                         11 => assert_eq!(place, case.blocks as u64),
                         13 => assert!((1..=5).contains(&place)),
                         _ => {
-                            let verdict = line(judge(&case.file));
+                            let verdict = judged(to.other(), &case.file);
                             assert_eq!(verdict, format!("refused {number} {place} 0"));
                         }
                     }
@@ -308,16 +284,16 @@ fn any_bytes() {
         let length = rng.pick(&[0, 511, 512, 512, 1024]);
         let mut file: Vec<u8> = (0..length).map(|_| rng.bits() as u8).collect();
         if length % 512 == 0 && length > 0 {
-            let sheet = edition2::sheet_up_to(&mut rng, 32);
+            let edition = rng.pick(&Edition::BOTH);
+            let sheet = generate::sheet_up_to(edition, &mut rng, 32);
             for (word, &value) in sheet.iter().enumerate() {
                 write_word(&mut file, word, value);
             }
             generate::rewrite_checks(&mut file);
-            assert!(Sheet::read_2(&sheet).is_ok());
         }
         let room = rng.pick(&[0, 512, 2000]);
-        for converter in [to_edition_1 as Converter, to_edition_2] {
-            assert!(converted(converter, &file, room).is_err());
+        for to in Edition::BOTH {
+            assert!(converted(to, &file, room).is_err());
         }
     }
 }

@@ -6,8 +6,9 @@ use common::*;
 use std::collections::BTreeMap;
 use std::io::Write;
 use std::process::{Command, Stdio};
+use tevrolig_model::convert::convert_to;
 use tevrolig_model::load::{Generator, WORKED_SHEET};
-use tevrolig_model::{to_edition_1, to_edition_2, Answer};
+use tevrolig_model::Answer;
 
 /// What model-check prints for an input.
 fn check(input: &[u8]) -> String {
@@ -55,7 +56,7 @@ fn check_judges_the_first_65536_bytes() {
     let mut long = changed(&long, &[]);
     assert_eq!(check(&long), "refused 4 1 0\n");
     long.extend([1, 2, 3]);
-    assert_eq!(judged(&long), "refused 1 0 0");
+    assert_eq!(judged(One, &long), "refused 1 0 0");
     assert_eq!(check(&long), "refused 4 1 0\n");
 }
 
@@ -69,7 +70,7 @@ fn definition_cases_are_small_and_of_every_kind() {
     for case in text.lines() {
         let (hexadecimal, verdict) = case.split_once(' ').unwrap();
         let file = bytes(hexadecimal);
-        assert_eq!(judged(&file), verdict);
+        assert_eq!(judged(One, &file), verdict);
         assert!(file.len() <= 1024);
         empty += usize::from(file.is_empty());
         let kind = verdict.split(' ').nth(1).unwrap();
@@ -95,7 +96,7 @@ fn definition_cases_of_edition_2() {
     for case in text.lines() {
         let (hexadecimal, verdict) = case.split_once(' ').unwrap();
         let file = bytes(hexadecimal);
-        assert_eq!(edition2::judged(&file), verdict);
+        assert_eq!(judged(Two, &file), verdict);
         assert!(file.len() <= 1024);
         let kind = verdict.split(' ').nth(1).unwrap();
         *kinds.entry(kind.to_string()).or_default() += 1;
@@ -122,10 +123,8 @@ fn conversions_are_small_and_of_every_kind() {
         };
         let (file, after) = (bytes(file), bytes(after));
         let mut output = vec![165; length.parse().unwrap()];
-        let said = match edition {
-            "2" => to_edition_2(&file, &mut output),
-            _ => to_edition_1(&file, &mut output),
-        };
+        let to = if edition == "2" { Two } else { One };
+        let said = convert_to(to, &file, &mut output);
         let (number_said, place_said) = match said {
             Answer::Done(blocks) => (0, blocks),
             Answer::Refused { number, place } => (number, place),

@@ -77,7 +77,7 @@ impl Display for ConvertRefusal {
 impl std::error::Error for ConvertRefusal {}
 
 /// Writes a file of edition 1 as one of edition 2 to the front of the output and answers its number of blocks; the bytes after them are
-/// as before. All its folding numbers are k. [`MOST_BLOCKS`](crate::MOST_BLOCKS) blocks are enough for every file.
+/// as before. All its folding numbers are k. [`MAX_BLOCKS`](crate::MAX_BLOCKS) blocks are enough for every file.
 pub fn to_edition_2(file: &[u8], output: &mut [u8]) -> Result<usize, ConvertRefusal> {
     converted(archive::tevrolig_to_edition_2, file, output)
 }

@@ -1,8 +1,7 @@
 //! Files for the converter (document 02, CR 5), with the answer that they are made
 //! for.
 
-use super::damage::aim_in;
-use super::{coefficients_for, coins_for, edition2, honest_file_in, sheet_up_to, Rng};
+use super::{aim, coefficients, coins, honest_file, sheet_up_to, Rng};
 use crate::convert::with_equal_folds;
 use crate::layout::Layout;
 use crate::sheet::{Edition, Sheet};
@@ -26,39 +25,35 @@ pub struct Case {
 /// make are 7, 8 and 9.
 const TESTS: [u32; 8] = [1, 2, 3, 4, 5, 6, 13, 11];
 
-/// A file of edition 1, with up to three faults.
-pub fn to_edition_2(rng: &mut Rng, most_n0: u32) -> Case {
-    let sheet = sheet_up_to(rng, most_n0);
-    case(rng, Edition::One, &sheet)
-}
-
-/// A file of edition 2, with up to three faults; different folding numbers are
-/// one of them.
-pub fn to_edition_1(rng: &mut Rng, most_n0: u32) -> Case {
-    let mut sheet = with_equal_folds(&sheet_up_to(rng, most_n0));
-    if rng.one_in(3) {
-        // Most small sheets have no two folding numbers that differ.
-        for _ in 0..8 {
-            sheet = edition2::sheet_up_to(rng, most_n0);
-            if sheet[4] > 0 && sheet[12] != sheet[3] {
-                break;
+/// A file to convert to this edition, with up to three faults; on the way to edition
+/// 1 different folding numbers are one of them.
+pub fn case(to: Edition, rng: &mut Rng, most_n0: u32) -> Case {
+    let mut sheet = sheet_up_to(Edition::One, rng, most_n0);
+    if to == Edition::One {
+        sheet = with_equal_folds(&sheet);
+        if rng.one_in(3) {
+            // Most small sheets have no two folding numbers that differ.
+            for _ in 0..8 {
+                sheet = sheet_up_to(Edition::Two, rng, most_n0);
+                if sheet[4] > 0 && sheet[12] != sheet[3] {
+                    break;
+                }
             }
         }
     }
-    case(rng, Edition::Two, &sheet)
+    case_of(rng, &sheet)
 }
 
 /// An honest file of a sheet without fault, damaged on purpose or not.
-fn case(rng: &mut Rng, edition: Edition, words: &[u32]) -> Case {
-    let sheet = Sheet::read_in(edition, words).and_then(Result::ok);
-    let sheet = sheet.expect("a sheet without fault");
-    let coefficients = coefficients_for(rng, Ok(sheet.clone()));
+fn case_of(rng: &mut Rng, words: &[u32]) -> Case {
+    let sheet = Sheet::read(words).expect("a sheet without fault");
+    let coefficients = coefficients(rng, words);
     let hostile = rng.one_in(2);
-    let coins = coins_for(rng, Ok(sheet.clone()), hostile);
-    let mut file = honest_file_in(edition, words, &coefficients, &coins);
+    let coins = coins(rng, words, hostile);
+    let mut file = honest_file(words, &coefficients, &coins);
 
     let stream = Layout::new(&sheet).words();
-    let converted = match edition {
+    let converted = match sheet.edition {
         Edition::One => stream + 6,
         Edition::Two => stream - 6,
     };
@@ -67,7 +62,7 @@ fn case(rng: &mut Rng, edition: Edition, words: &[u32]) -> Case {
     let mut length = due + rng.pick(&[0, 0, 1, 700]);
 
     let mut faults = Vec::new();
-    if edition == Edition::Two && sheet.folds.iter().any(|&k| k != sheet.k) {
+    if sheet.folds().iter().any(|k| k != &sheet.k[0]) {
         faults.push(13);
     }
     if rng.one_in(3) {
@@ -80,7 +75,7 @@ fn case(rng: &mut Rng, edition: Edition, words: &[u32]) -> Case {
     numbers.sort_unstable();
     numbers.dedup();
     for &number in numbers.iter().rev() {
-        if aim_in(edition, rng, &mut file, number) {
+        if aim(sheet.edition, rng, &mut file, number) {
             faults.push(number);
         }
     }

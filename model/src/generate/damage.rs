@@ -1,21 +1,18 @@
 //! Damage done to a file on purpose, each kind aimed at one refusal.
 
+use super::sheets::any_fault;
 use super::{rewrite_checks, Rng};
 use crate::domain::Subgroup;
 use crate::layout::{Layout, Part};
 use crate::sheet::{Edition, Sheet};
 use crate::stream::{read_word, write_word, BLOCK_BYTES, BLOCK_WORDS};
 
-/// Damages a file; answers the refusal it aimed at, or nothing if it did not
-/// aim (the file may then even be as good as before). Damage of the kinds 1 to 7
-/// always hits an honest file; a small field may let 8 and 9 miss.
-pub fn damage(rng: &mut Rng, file: &mut Vec<u8>) -> Option<u32> {
-    damage_in(Edition::One, rng, file)
-}
-
-pub(super) fn damage_in(edition: Edition, rng: &mut Rng, file: &mut Vec<u8>) -> Option<u32> {
+/// Damages a file of an edition; answers the refusal it aimed at, or nothing if it
+/// did not aim (the file may then even be as good as before). Damage of the kinds 1
+/// to 7 always hits an honest file; a small field may let 8 and 9 miss.
+pub fn damage(edition: Edition, rng: &mut Rng, file: &mut Vec<u8>) -> Option<u32> {
     let number = 1 + rng.below(10) as u32;
-    if aim_in(edition, rng, file, number) {
+    if aim(edition, rng, file, number) {
         return Some(number);
     }
     noise(rng, file);
@@ -24,11 +21,7 @@ pub(super) fn damage_in(edition: Edition, rng: &mut Rng, file: &mut Vec<u8>) -> 
 
 /// Damages a file so that it is refused with this number. False, with the file
 /// as before, if the file has no place for that.
-pub fn aim(rng: &mut Rng, file: &mut Vec<u8>, number: u32) -> bool {
-    aim_in(Edition::One, rng, file, number)
-}
-
-pub(super) fn aim_in(edition: Edition, rng: &mut Rng, file: &mut Vec<u8>, number: u32) -> bool {
+pub fn aim(edition: Edition, rng: &mut Rng, file: &mut Vec<u8>, number: u32) -> bool {
     match number {
         1 => return break_length(rng, file),
         2 => return break_check(rng, file),
@@ -123,6 +116,7 @@ fn noise(rng: &mut Rng, file: &mut Vec<u8>) {
 struct Target<'a> {
     rng: &'a mut Rng,
     file: &'a mut Vec<u8>,
+    words: Vec<u32>,
     sheet: Sheet,
     layout: Layout,
 }
@@ -139,6 +133,7 @@ impl<'a> Target<'a> {
         (file.len() == layout.blocks() * BLOCK_BYTES).then_some(Target {
             rng,
             file,
+            words,
             sheet,
             layout,
         })
@@ -174,19 +169,8 @@ impl<'a> Target<'a> {
     }
 
     fn break_sheet(&mut self) -> bool {
-        let mut words = self.sheet.all_words();
-        let place = self.rng.place(words.len());
-        let (old, any) = (words[place], self.rng.word());
-        let values = [0, 1, 2, 3, 5, 6, 12, 32, 49, 65, 8192, any];
-        let near = [old + 1, old.wrapping_sub(1), old / 2, old * 2];
-        words[place] = match self.rng.below(3) {
-            0 => self.rng.pick(&near),
-            _ => self.rng.pick(&values),
-        };
-        if let Some(Ok(_)) = Sheet::read_in(self.sheet.edition, &words) {
-            words[place] = u32::MAX;
-        }
-        self.write(place, u64::from(words[place]));
+        let (place, word) = any_fault(self.rng, &self.words);
+        self.write(place, u64::from(word));
         true
     }
 
@@ -253,7 +237,7 @@ impl<'a> Target<'a> {
         } else {
             let index = self.some_index(Part::ShiftIndices(i), i - 1);
             let out = self.rng.place(outs.len());
-            let k = self.sheet.folds[i - 1];
+            let k = self.sheet.k[i - 1];
             let point = Subgroup::of(&self.sheet).shift_point(i - 1, k, index);
             self.write(outs.start + out, point);
             let reply = self.other_element(replies.start + out);
@@ -268,7 +252,7 @@ impl<'a> Target<'a> {
         let last = self.sheet.rounds;
         let word = if self.rng.one_in(2) {
             let index = self.some_index(Part::FinalIndices, last);
-            let m = self.rng.place(self.sheet.folds[last]);
+            let m = self.rng.place(self.sheet.k[last]);
             let stride = self.sheet.indices(last);
             self.layout.range(Part::Table(last)).start + index + m * stride
         } else {

@@ -1,11 +1,11 @@
--- `prover::send` meets its contract.
+-- `files::send` meets its contract.
 use Prim.Native.Nat.{_*_}
 use mathlib.Core.Path.{sym}
 use native.Mathlib.Omega.{arith}
 use lib.Seq.{length-take-le}
 use borrow.Author.Needs.{needs}
-use Rattle.prover.proofs.send.Statement.{statement}
-use Rattle.prover.proofs.send.Tie as tie
+use Rattle.files.proofs.send.Statement.{statement}
+use Rattle.files.proofs.send.Tie as tie
 
 mul-write-all : tie.Need-mul-write-all
 mul-write-all c = search needs
