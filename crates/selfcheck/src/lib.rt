@@ -30,16 +30,6 @@ fn blocks(answer: Answer) -> usize
     }
 }
 
-// The verdict on a file of the edition.
-fn verify_in(e: Edition, file: &[u8]) -> Verdict
-    ensures { λ r. ⌜ verdictOf r ≡ verifyIn (editionOf e) (now (file .entry)) ⌝ }
-{
-    match e {
-        Edition::One => verify::verify(file),
-        Edition::Two => verify::verify_2(file),
-    }
-}
-
 // Proves with a sheet of the edition, and then judges the blocks written; of a refused order that is the empty file. Wherever prove answers done, the verdict
 // is accepted with the due reads.
 fn prove_then_verify_in(
@@ -56,7 +46,7 @@ fn prove_then_verify_in(
 {
     let answer = prove::prove_in(e, sheet, coefficients, coins, output);
     let count = blocks(answer);
-    let verdict = verify_in(e, &output[..512 * count]);
+    let verdict = verify::verify_in(e, &output[..512 * count]);
     Checked {
         answer: answer,
         verdict: verdict,
