@@ -10,20 +10,29 @@ use Rattle.definition.specs.Sheet.{Level, Sheet, edition1, firstLevel, laterLev
 use Rattle.definition.specs.Verdict.{Outcome, accepted, refused, _then_}
 use Rattle.word_input.specs.Input.{taken, wholeWordsTest, wordsOf}
 
--- `domain `, a number, a colon, each point after a blank, and a line end
-unfoldable pub pointsLine : ℕ → List ℕ → List ℕ
-pointsLine i xs =
-    (100 ∷ 111 ∷ 109 ∷ 97 ∷ 105 ∷ 110 ∷ 32 ∷ []) ++ (decimal i ++ (58 ∷ (flatMap (λ x. 32 ∷ decimal x) xs ++ (10 ∷ []))))
+-- what stands before the points of a line: `domain `, a number and a colon
+abbrev pub headText : ℕ → List ℕ
+headText i = (100 ∷ 111 ∷ 109 ∷ 97 ∷ 105 ∷ 110 ∷ 32 ∷ []) ++ (decimal i ++ (58 ∷ []))
 
--- the domain of a level
+-- a point: a blank and a number
+abbrev pub pointText : ℕ → List ℕ
+pointText x = 32 ∷ decimal x
+
+-- a line: its number, its points and a line end
+unfoldable pub pointsLine : ℕ → List ℕ → List ℕ
+pointsLine i xs = headText i ++ (flatMap pointText xs ++ (10 ∷ []))
+
+-- the line of a level's domain
 unfoldable pub domainLine : Sheet → Level → List ℕ
 domainLine h l = pointsLine (l .number) (domain (primeField (h .prime)) (rootOfUnity h) l)
 
--- `keeps its rules`, a line end, and the domains of the levels 0 to M
+-- `keeps its rules` and a line end
+abbrev pub keptText : List ℕ
+keptText = 107 ∷ 101 ∷ 101 ∷ 112 ∷ 115 ∷ 32 ∷ 105 ∷ 116 ∷ 115 ∷ 32 ∷ 114 ∷ 117 ∷ 108 ∷ 101 ∷ 115 ∷ 10 ∷ []
+
+-- that line, and those of the domains of levels 0 to M
 unfoldable pub domainsText : Sheet → List ℕ
-domainsText h =
-    (107 ∷ 101 ∷ 101 ∷ 112 ∷ 115 ∷ 32 ∷ 105 ∷ 116 ∷ 115 ∷ 32 ∷ 114 ∷ 117 ∷ 108 ∷ 101 ∷ 115 ∷ 10 ∷ [])
-    ++ flatMap (domainLine h) (firstLevel h ∷ laterLevels h)
+domainsText h = keptText ++ flatMap (domainLine h) (firstLevel h ∷ laterLevels h)
 
 -- a text, where the tests are passed; else the refusal's line
 unfoldable pub textAfter : Outcome → List ℕ → List ℕ

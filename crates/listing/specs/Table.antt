@@ -1,20 +1,9 @@
 -- The lines from a table of the points of domain 0: line i has every 2^i-th of them.
 use Prim.Native.Nat.{ℕ, _*_, _/_, _^_}
-use mathlib.Core.List.{List, [], _∷_, _++_, flatMap, map}
+use mathlib.Core.List.{List, flatMap, map}
 use lib.ListN.{length, getD}
-use Rattle.definition.specs.Line.{decimal}
 use Rattle.definition.specs.Lists.{range}
 use Rattle.listing.specs.Listing.{pointsLine}
-
--- a line's parts: what stands before the points, a point, and all points
-abbrev pub headText : ℕ → List ℕ
-headText i = (100 ∷ 111 ∷ 109 ∷ 97 ∷ 105 ∷ 110 ∷ 32 ∷ []) ++ (decimal i ++ (58 ∷ []))
-
-abbrev pub pointText : ℕ → List ℕ
-pointText x = 32 ∷ decimal x
-
-unfoldable pub pointsText : List ℕ → List ℕ
-pointsText xs = flatMap pointText xs
 
 -- `count` points of those at every scale-th place, from number j on
 unfoldable pub pointsFrom : List ℕ → ℕ → ℕ → ℕ → List ℕ

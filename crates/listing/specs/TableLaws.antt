@@ -2,7 +2,7 @@
 use Prim.Native.Nat.{ℕ, zero, suc, _+_, _*_, _/_, _^_, _≤_, _<_}
 use lib.Pow.{pow-pos}
 use native.Mathlib.Omega.{arith}
-use mathlib.Core.List.{List, [], _∷_, _++_, flatMap, map}
+use mathlib.Core.List.{List, _∷_, _++_, flatMap, map}
 use mathlib.Core.Path.{_≡_, refl, sym, ap, _∙_}
 use lib.ListN.{length, getD}
 use Rattle.algebra.specs.ListFacts.{all-range, map-all}
@@ -13,11 +13,11 @@ use Rattle.definition.specs.Domain.{domain, point}
 use Rattle.definition.specs.Field.{fieldOf}
 use Rattle.definition.specs.Lists.{range}
 use Rattle.definition.specs.Reading.{sheetTest}
-use Rattle.definition.specs.Sheet.{Level, Sheet, edition1, firstLevel, laterLevels, rootOfUnity, sheetOf}
+use Rattle.definition.specs.Sheet.{Level, edition1, firstLevel, laterLevels, rootOfUnity, sheetOf}
 use Rattle.definition.specs.Verdict.{accepted}
 use Rattle.domain.specs.Points.{place-below, point-at}
 use Rattle.domain.specs.Powers.{Powers}
-use Rattle.listing.specs.Listing.{domainLine, domainsText, pointsLine}
+use Rattle.listing.specs.Listing.{domainLine, domainsText, keptText, pointsLine}
 use Rattle.listing.specs.Table.{lineAt, linesFrom, pointsFrom}
 
 -- the points of a level's domain stand at every 2^i-th place
@@ -53,8 +53,7 @@ module _ (w pw : List ℕ) (p : Powers (getD w 0 0) (rootOfUnity (sheetOf editio
       as-listed h (λ first later. linesFrom pw 0 (getD w 4 0 + 1) ≡ flatMap (domainLine h) (first ∷ later)) (lawful edition1 w long passed .paired)
       (ap (linesFrom pw 0) all ∙ lines-are (suc (roundsOf h)) 0)
 
-  pub text-of-sheet : 12 ≤ length w → sheetTest edition1 w ≡ accepted → {first text : List ℕ} →
-      first ≡ 107 ∷ 101 ∷ 101 ∷ 112 ∷ 115 ∷ 32 ∷ 105 ∷ 116 ∷ 115 ∷ 32 ∷ 114 ∷ 117 ∷ 108 ∷ 101 ∷ 115 ∷ 10 ∷ [] →
-      text ≡ first ++ linesFrom pw 0 (getD w 4 0 + 1) → text ≡ domainsText (sheetOf edition1 w)
+  pub text-of-sheet : 12 ≤ length w → sheetTest edition1 w ≡ accepted → {first text : List ℕ} → first ≡ keptText → text ≡ first ++ linesFrom pw 0 (getD w 4 0 + 1) →
+      text ≡ domainsText (sheetOf edition1 w)
   unfolding domainsText
   text-of-sheet long passed f t = t ∙ (λ x. f x ++ lines-of-sheet long passed x)

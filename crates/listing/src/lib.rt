@@ -7,13 +7,12 @@ ghost use mathlib.Core.Path.{_≡_};
 ghost use mathlib.Core.List.{[], _∷_, _++_, flatMap};
 ghost use Prim.Native.Nat.{_+_, _*_, _/_, _≤_, _<_};
 ghost use lib.ListN.{length, take};
-ghost use Rattle.definition.specs.Line.{decimal};
 ghost use Rattle.definition.specs.Reading.{sheetTest};
 ghost use Rattle.definition.specs.Sheet.{edition1, sheetOf};
 ghost use Rattle.definition.specs.Verdict.{accepted};
 ghost use Rattle.line.specs.Text.{Holds};
-ghost use Rattle.listing.specs.Listing.{domainsText, listing, sheetListing};
-ghost use Rattle.listing.specs.Table.{headText, lineAt, linesFrom, pointsFrom, pointsText, pointText};
+ghost use Rattle.listing.specs.Listing.{domainsText, headText, listing, pointText, sheetListing};
+ghost use Rattle.listing.specs.Table.{lineAt, linesFrom, pointsFrom};
 
 // A blank and a point.
 fn point(x: u32) -> Line
@@ -40,7 +39,7 @@ fn end() -> Line
 // The points at every scale-th place of the table, after the first `at` bytes of the output; answers the place behind them.
 fn points(pw: &[u32], scale: usize, at: usize, out: &mut [u8; 131072]) -> usize
     requires { ⌜ (0 < scale) × (at + 11 * (length (now pw) / scale) ≤ 131072) ⌝ }
-    ensures { λ r. ⌜ take r (now (out .exit)) ≡ take at (now (out .entry)) ++ pointsText (pointsFrom (now (pw .entry)) scale 0 (length (now (pw .entry)) / scale)) ⌝ }
+    ensures { λ r. ⌜ take r (now (out .exit)) ≡ take at (now (out .entry)) ++ flatMap pointText (pointsFrom (now (pw .entry)) scale 0 (length (now (pw .entry)) / scale)) ⌝ }
     ensures { λ r. ⌜ r ≤ at + 11 * (length (now (pw .entry)) / scale) ⌝ }
 {
     let count = pw.len() / scale;

@@ -2,14 +2,14 @@
 -- sheet); prove takes sheet, coefficients and coins (01, Verify, prove, encode), and here they stand one after the other. `prove2` takes a sheet of edition 2.
 use Prim.Native.Nat.{ℕ, _/_, _%_}
 use mathlib.Core.Bool.{not}
-use mathlib.Core.List.{List, _∷_, map}
+use mathlib.Core.List.{List, map}
 use lib.Dec.{eqb}
-use lib.ListN.{length, getD, take, drop, replicate}
+use lib.ListN.{length, getD, take, drop}
 use Rattle.definition.specs.Lists.{chunks}
 use Rattle.definition.specs.Block.{wordOf}
 use Rattle.definition.specs.Verdict.{Outcome, accepted, refused, refuseIf}
 use Rattle.definition.specs.Sheet.{Edition, edition1, sheetLength}
-use Rattle.definition.specs.Prove.{Result, refusal, finish, proveIn, encode}
+use Rattle.definition.specs.Prove.{Result, refusal, finish, proveIn}
 
 -- the bytes that count: of a longer input the first 16,384. No order that is done is so long (Length.antt)
 unfoldable pub taken : List ℕ → List ℕ
@@ -40,14 +40,6 @@ coinsPart e w = drop (getD w 2 0) (drop (sheetLength e) w)
 unfoldable pub proveWords : Edition → List ℕ → List ℕ → Result
 proveWords e w output = proveIn e (sheetPart e w) (coefficientsPart e w) (coinsPart e w) output
 
--- the polynomial X, with as many coefficients as any sheet asks for
-unfoldable pub monomial : List ℕ
-monomial = 0 ∷ 1 ∷ replicate 2046 0
-
--- all words are the sheet, and the points of domain 0 are table 0 of the polynomial X
-unfoldable pub encodeWords : List ℕ → List ℕ → Result
-encodeWords w output = encode w (take (getD w 2 0) monomial) output
-
 -- a result, where a test is passed; else its refusal, and the output as before
 unfoldable pub afterTest : Outcome → Result → List ℕ → Result
 afterTest accepted result output = result
@@ -59,11 +51,3 @@ proveInputIn e bytes output = afterTest (wholeWordsTest (taken bytes)) (proveWor
 
 abbrev pub proveInput : List ℕ → List ℕ → Result
 proveInput = proveInputIn edition1
-
--- the program `domains`, from the bytes of its input
-unfoldable pub encodeInput : List ℕ → List ℕ → Result
-encodeInput bytes output = afterTest (wholeWordsTest (taken bytes)) (encodeWords (wordsOf (taken bytes)) output) output
-
--- the sheet's M, 0 where it is missing
-unfoldable pub roundsInput : List ℕ → ℕ
-roundsInput bytes = getD (wordsOf (taken bytes)) 4 0

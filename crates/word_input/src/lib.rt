@@ -8,7 +8,7 @@ ghost use Rattle.definition.specs.Sheet.{sheetLength};
 ghost use Rattle.edition.specs.Meaning.{editionOf};
 ghost use Rattle.outcome.specs.Meaning.{answerOf};
 ghost use Rattle.stream.specs.Overwriting.{overwrite};
-ghost use Rattle.word_input.specs.Input.{taken as takenOf, wordsOf, takeWords, sheetPart, coefficientsPart, coinsPart, monomial, roundsInput};
+ghost use Rattle.word_input.specs.Input.{taken as takenOf, wordsOf, takeWords, sheetPart, coefficientsPart, coinsPart};
 
 // The bytes that count: the first 16,384, or all.
 fn taken(bytes: &[u8]) -> &[u8]
@@ -67,7 +67,7 @@ fn after(words: &[u32], count: usize) -> &[u32]
 }
 
 // Word 2 of a sheet, d0, which says how many coefficients an order has; 0 where it is missing.
-pub fn degree_bound(words: &[u32]) -> usize
+fn degree_bound(words: &[u32]) -> usize
     ensures { λ r. ⌜ r ≡ getD (now (words .entry)) 2 0 ⌝ }
 {
     if words.len() < 3 {
@@ -102,24 +102,4 @@ pub fn coins(e: Edition, words: &[u32]) -> &[u32]
     ensures { λ r. ⌜ now r ≡ coinsPart (editionOf e) (now (words .entry)) ⌝ }
 {
     after(body(e, words), degree_bound(words))
-}
-
-// The polynomial X, with as many coefficients as any sheet asks for.
-pub fn x_coefficients() -> [u32; 2048]
-    ensures { λ r. ⌜ r ≡ monomial ⌝ }
-{
-    let mut x = [0u32; 2048];
-    x[1] = 1;
-    x
-}
-
-// M of the sheet that an input holds, 0 where it is missing.
-pub fn rounds_input(bytes: &[u8]) -> u32
-    ensures { λ r. ⌜ r ≡ roundsInput (now (bytes .entry)) ⌝ }
-{
-    let counted = taken(bytes);
-    if counted.len() < 20 {
-        return 0;
-    }
-    stream::word(counted, 16)
 }

@@ -2,10 +2,11 @@
 use Prim.Native.Nat.{ℕ, _+_, _-_, _*_, _/_, _^_, _≤_}
 use mathlib.Core.List.{_++_}
 use mathlib.Core.Path.{_≡_, refl, ap}
+use native.Mathlib.Nat.{div-div-eq-div-mul}
 use native.Mathlib.Omega.{arith}
 use lib.ListN.{length, take}
 use Rattle.listing.specs.Table.{lineAt, linesFrom}
-use Rattle.listing.proofs.Writing.{halved, lines-next, lines-none, scale-next, scale-small, written-all, written-next}
+use Rattle.listing.proofs.Writing.{lines-next, lines-none, scale-next, scale-small, written-all, written-next}
 use Rattle.listing.proofs.domain_lines.Statement.{statement}
 use Rattle.listing.proofs.domain_lines.Tie as tie
 
@@ -50,7 +51,7 @@ loop-again c =
       (
         scale-next (l .i) (l .scale) (l .inv .1 .0),
         (
-          omega (arith, halved (length pw) (l .scale), d .1, l .inv .1 .1 .0),
+          omega (arith, div-div-eq-div-mul (length pw) (l .scale) 2, d .1, l .inv .1 .1 .0),
           written-next (take (l .place) (l .out)) (lineAt pw (l .i) (l .scale)) rest (d .0) (lines-next pw (l .i) (l .scale) (a .rounds) (omega arith) (l .inv .1 .0)) (l .inv .1 .1 .1),
         ),
       ),

@@ -1,6 +1,5 @@
 -- `listing::head` meets its contract. Assumes nothing.
-use Prim.Native.Nat.{ℕ}
-use mathlib.Core.List.{List, [], _∷_, _++_}
+use mathlib.Core.List.{[], _∷_, _++_}
 use native.Mathlib.Omega.{arith}
 use borrow.Author.Needs.{needs}
 use Rattle.definition.specs.Line.{decimal}
@@ -36,10 +35,9 @@ returns c =
     let e = c .before .before .before .before .empty in
     let s = c .before .before .before .before .before in
     let i = decimal (s .args .i) in
-    let word : List ℕ = 100 ∷ 111 ∷ 109 ∷ 97 ∷ 105 ∷ 110 ∷ 32 ∷ [] in
     let numbered = extends-then (t .result) (d .result) (p .result) i (58 ∷ []) (d .ensures) (p .ensures) in (
-      begun (e .result) (p .result) (word ++ (i ++ (58 ∷ []))) (e .ensures)
-          (extends-then (e .result) (t .result) (p .result) word (i ++ (58 ∷ [])) (t .ensures) numbered),
+      begun (e .result) (p .result) _ (e .ensures)
+          (extends-then (e .result) (t .result) (p .result) _ (i ++ (58 ∷ [])) (t .ensures) numbered),
       omega (arith, long-64 (s .args .i) (s .fits .i .fits)),
     )
 

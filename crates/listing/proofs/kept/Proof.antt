@@ -1,6 +1,4 @@
 -- `listing::kept` meets its contract. Assumes nothing.
-use Prim.Native.Nat.{ℕ}
-use mathlib.Core.List.{List, [], _∷_}
 use mathlib.Core.Path.{_∙_}
 use native.Mathlib.Omega.{arith}
 use borrow.Author.Needs.{needs}
@@ -8,6 +6,7 @@ use Rattle.completeness.specs.SheetRules.{rounds-most}
 use Rattle.definition.specs.Sheet.{edition1}
 use Rattle.domain.specs.OfSheet.{fitting, points-of-sheet}
 use Rattle.line.specs.Text.{begun}
+use Rattle.listing.specs.Listing.{keptText}
 use Rattle.listing.specs.TableLaws.{text-of-sheet}
 use Rattle.listing.proofs.kept.Statement.{statement}
 use Rattle.listing.proofs.kept.Tie as tie
@@ -64,8 +63,7 @@ returns c =
     let s = points .before .before .before .before in
     let size = points .of-sheet .ensures in
     let sheet = s .args .w .now in
-    let word : List ℕ = 107 ∷ 101 ∷ 101 ∷ 112 ∷ 115 ∷ 32 ∷ 105 ∷ 116 ∷ 115 ∷ 32 ∷ 114 ∷ 117 ∷ 108 ∷ 101 ∷ 115 ∷ 10 ∷ [] in
-    let first = w .ensures .0 ∙ begun (e .result) (t .result) word (e .ensures) (t .ensures) .text in
+    let first = w .ensures .0 ∙ begun (e .result) (t .result) keptText (e .ensures) (t .ensures) .text in
     (text-of-sheet sheet _ (points-of-sheet edition1 sheet _ (size .1 .0)) (size .1 .1) (s .pre .0) (s .pre .1) first (lines .0), lines .1)
 
 pub kept-spec : {M : Type 1} → statement M

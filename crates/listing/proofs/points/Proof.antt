@@ -1,13 +1,14 @@
 -- `listing::points` meets its contract. Assumes nothing.
 use Prim.Native.Nat.{ℕ, _+_, _-_, _*_, _/_, _≤_}
-use mathlib.Core.List.{List, _++_}
+use mathlib.Core.List.{List, _++_, flatMap}
 use mathlib.Core.Path.{_≡_, ap, _∙_}
 use native.Mathlib.Nat.{div-le-self}
 use native.Mathlib.Omega.{arith}
 use lib.ListN.{length, getD, take}
 use borrow.Author.Needs.{needs}
 use Rattle.domain.specs.Points.{place-below}
-use Rattle.listing.specs.Table.{pointText, pointsFrom, pointsText}
+use Rattle.listing.specs.Listing.{pointText}
+use Rattle.listing.specs.Table.{pointsFrom}
 use Rattle.listing.proofs.Writing.{points-next, points-none, written-all, written-next}
 use Rattle.listing.proofs.points.Statement.{statement}
 use Rattle.listing.proofs.points.Tie as tie
@@ -18,7 +19,7 @@ use Rattle.listing.proofs.point.Reads as point-reads
 
 abbrev Inv-loop : tie.InvT-loop
 Inv-loop pw scale at out₀ count place₀ j₀ out place j =
-    (j ≤ count) × ((place + 11 * (count - j) ≤ at + 11 * count) × (take place out ++ pointsText (pointsFrom pw scale j (count - j)) ≡ take at out₀ ++ pointsText (pointsFrom pw scale 0 count)))
+    (j ≤ count) × ((place + 11 * (count - j) ≤ at + 11 * count) × (take place out ++ flatMap pointText (pointsFrom pw scale j (count - j)) ≡ take at out₀ ++ flatMap pointText (pointsFrom pw scale 0 count)))
 
 abbrev μ-loop : tie.MeasureT-loop
 μ-loop pw scale at out₀ count place₀ j₀ out place j = count - j
@@ -33,7 +34,7 @@ loop-holds c =
     let a = c .before .args in
     let count = length (a .pw .now) / a .scale in
     let all : count - 0 ≡ count = omega arith in
-    (omega arith, (omega arith, ap (λ (n : ℕ). take (a .at) (a .out .now) ++ pointsText (pointsFrom (a .pw .now) (a .scale) 0 n)) all))
+    (omega arith, (omega arith, ap (λ (n : ℕ). take (a .at) (a .out .now) ++ flatMap pointText (pointsFrom (a .pw .now) (a .scale) 0 n)) all))
 
 -- src/lib.rt:45:38
 mul-point : tie.Need-mul-point Inv-loop μ-loop
@@ -84,7 +85,7 @@ loop-again c =
       omega arith,
       (
         omega (arith, p .1, w .1, l .inv .1 .0),
-        written-next (take (l .place) (l .out)) (pointText (getD pw (a .scale * l .j) 0)) (pointsText (pointsFrom pw (a .scale) (l .j + 1) (count - (l .j + 1)))) (w .0 ∙ ap (λ (xs : List ℕ). take (l .place) (l .out) ++ xs) (p .0 .text))
+        written-next (take (l .place) (l .out)) (pointText (getD pw (a .scale * l .j) 0)) (flatMap pointText (pointsFrom pw (a .scale) (l .j + 1) (count - (l .j + 1)))) (w .0 ∙ ap (λ (xs : List ℕ). take (l .place) (l .out) ++ xs) (p .0 .text))
             (points-next pw (a .scale) (l .j) count (omega arith)) (l .inv .1 .1),
       ),
     )
