@@ -1,4 +1,6 @@
 -- `word_input::coins` meets its contract.
+use mathlib.Core.Path.{_∙_}
+use lib.ListN.{drop}
 use borrow.Author.Needs.{needs}
 use Rattle.word_input.specs.Input.{coinsPart}
 use Rattle.word_input.proofs.coins.Statement.{statement}
@@ -15,7 +17,7 @@ after-requires c κs = search needs
 
 returns : tie.Need-returns
 unfolding coinsPart
-returns c = cc (c .after .ensures, c .before .degree-bound .ensures, c .before .before .body .ensures)
+returns c = c .after .ensures ∙ (λ t. drop (c .before .degree-bound .ensures t) (c .before .before .body .ensures t))
 
 pub coins-spec : {M : Type 1} → statement M
 coins-spec = tie.close (tie.spec body-requires degree-bound-requires after-requires returns)
