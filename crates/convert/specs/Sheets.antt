@@ -3,13 +3,12 @@ use Prim.Native.Nat.{ℕ, _+_, _-_, _≤_, _<_}
 use native.Mathlib.Decide.{decLt}
 use native.Mathlib.Omega.{arith}
 use mathlib.Core.List.{List, [], _∷_, _++_, append-assoc}
-use mathlib.Core.Path.{_≡_, refl, sym, ap, _∙_}
+use mathlib.Core.Path.{_≡_, sym, ap, _∙_}
 use lib.ListN.{length, getD, take, drop, set, replicate, getD-replicate, length-append, length-drop, length-replicate, length-take, List·getD-append}
 use lib.Seq.{drop-at, drop-drop, getD-append-add, getD-drop, getD-take, length-take-le, take-add, take-append-add, take-take}
-use Rattle.definition.specs.Block.{streamOf}
 use Rattle.definition.specs.Convert.{backward, bodyOf, forward, spread}
 use Rattle.definition.specs.Layout.{layout, wordsDue}
-use Rattle.definition.specs.Sheet.{Edition, edition1, edition2, sheetLength, sheetOf}
+use Rattle.definition.specs.Sheet.{edition1, edition2, sheetOf}
 use Rattle.completeness.specs.Conversion.{spread-words}
 use Rattle.completeness.specs.ListLaws.{drop-take}
 use Rattle.stream.specs.Overwriting.{overwrite, overwrite-before, overwrite-join, overwrite-store}

@@ -37,7 +37,7 @@ pub record Tested (tests : definition.Outcome) (file : List ℕ) (r : Outcome) (
 never : {n p : ℕ} → definition.refused n p ≡ definition.accepted → ⊥
 never e = let z : _≡_ {A = ℕ} 0 1 = cc in omega arith
 
-pub then-assoc : (a b c : definition.Outcome) → ((a then b) then c) ≡ (a then b then c)
+then-assoc : (a b c : definition.Outcome) → ((a then b) then c) ≡ (a then b then c)
 unfolding _then_
 then-assoc definition.accepted b c = refl
 then-assoc (definition.refused n p) b c = refl

@@ -1,9 +1,8 @@
 -- `convert::backward` meets its contract. Assumes nothing.
-use Prim.Native.Nat.{_-_, _*_, _/_}
+use Prim.Native.Nat.{_*_, _/_}
 use native.Mathlib.Omega.{arith}
-use mathlib.Core.List.{List}
 use mathlib.Core.Path.{sym, ap, _∙_}
-use lib.ListN.{length, take, length-drop}
+use lib.ListN.{length, length-drop}
 use lib.Seq.{length-take-le}
 use borrow.Author.Needs.{needs}
 use Rattle.definition.specs.Block.{streamOf}

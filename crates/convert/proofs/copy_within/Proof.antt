@@ -3,7 +3,7 @@ use Prim.Native.Nat.{_+_, _-_, _≤_}
 use native.Mathlib.Omega.{arith}
 use mathlib.Core.Path.{_≡_, refl, sym, ap, _∙_}
 use mathlib.Core.List.{List}
-use lib.ListN.{length, getD, take, drop, length-drop, length-set, length-take}
+use lib.ListN.{length, getD, take, drop, length-drop, length-set}
 use lib.Seq.{length-take-le, take-all}
 use Rattle.stream.specs.Overwriting.{overwrite, overwrite-next, overwrite-none}
 use Rattle.convert.specs.Sheets.{next-word}

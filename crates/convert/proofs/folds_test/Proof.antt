@@ -1,10 +1,9 @@
 -- `convert::folds_test` meets its contract. The loop's invariant: what 13 finds from level i on is what it finds.
-use Prim.Native.Nat.{ℕ, _+_, _-_, _≤_}
+use Prim.Native.Nat.{_+_, _-_, _≤_}
 use native.Mathlib.Omega.{arith}
-use mathlib.Core.Path.{_≡_, refl, sym, ap, _∙_}
-use lib.ListN.{getD}
+use mathlib.Core.Path.{_≡_, _∙_}
 use Rattle.definition.specs.Convert.{foldsTest}
-use Rattle.definition.specs.Sheet.{edition2, foldWords, sheetOf}
+use Rattle.definition.specs.Sheet.{edition2, sheetOf}
 use Rattle.edition.specs.Meaning.{editionOf}
 use Rattle.outcome.specs.Meaning.{outcomeOf}
 use Rattle.convert.proofs.Folds.{differs-here, equal-here, foldsFrom, from-one, none-after}

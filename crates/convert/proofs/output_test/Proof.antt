@@ -1,6 +1,5 @@
 -- `convert::output_test` meets its contract. Assumes nothing.
 use Prim.Native.Nat.{_*_}
-use native.Mathlib.Omega.{arith}
 use borrow.Author.Needs.{needs}
 use borrow.Author.Tests.{le-ltb, lt-ltb}
 use mathlib.Core.Path.{sym, ap}
