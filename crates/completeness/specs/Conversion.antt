@@ -102,7 +102,7 @@ module _ (a : Edition) (bytes : List ℕ) (read : reading a bytes ≡ accepted) 
       (λ i. thenVerdict (refuseAt 7 (first-six 12 zs i)) v) ∙ moved-test (firstTrue 12 zs) v decide-later
 
 -- spreading looks at 12 words
-spread-words : (w : List ℕ) → spread w ≡ spread (take 12 w)
+pub spread-words : (w : List ℕ) → spread w ≡ spread (take 12 w)
 unfolding spread
 spread-words w =
     let a : take 12 (take 12 w) ≡ take 12 w = take-take 12 12 w (omega arith) in
