@@ -23,6 +23,9 @@
 //! assert_eq!(verify(&file).outcome.result(), Err(Refusal::Final { position: 0 }));
 //! assert_eq!(word(&file, 42), Some(15));
 //! ```
+//!
+//! What stands here is for files of edition 1. [`edition2`] has verify and prove for edition 2, with a folding number for each round, and
+//! [`convert`] the way from one to the other.
 
 mod archive;
 pub mod convert;
