@@ -18,6 +18,18 @@ pub fn prove_order(e: Edition) {
     deliver(answer, &output);
 }
 
+// Converts a file of the other edition to this one. Of a longer input the first 65,536 bytes are read; no file that is converted is so long.
+pub fn convert_file(to: Edition) {
+    let mut bytes = [0u8; 65536];
+    let n = io::read_full(STDIN_FILENO, &mut bytes);
+    let mut output = [0u8; 34304];
+    let answer = match to {
+        Edition::One => convert::to_edition_1(&bytes[..n], &mut output),
+        Edition::Two => convert::to_edition_2(&bytes[..n], &mut output),
+    };
+    deliver(answer, &output);
+}
+
 // Writes what was answered.
 fn deliver(answer: Answer, output: &[u8; 34304]) {
     match answer {

@@ -145,6 +145,27 @@ pub extern "C" fn tevrolig_prove_2(
     write_value(answer, value)
 }
 
+// Writes a file of edition 1 as one of edition 2 at the front of `output`. Answers 0, with the number of blocks in `value`; or a refusal's number, with its place in
+// `value`, and the output is as before.
+#[no_mangle]
+pub extern "C" fn tevrolig_to_edition_2(file: &[u8], output: &mut [u8], value: &mut u64) -> u32
+    ensures { λ r. ⌜ r ≡ refusalOf (toEdition2 (now (file .entry)) (now (output .entry)) .answer) ⌝ }
+    ensures { λ r. ⌜ now (value .exit) ≡ valueOf (toEdition2 (now (file .entry)) (now (output .entry)) .answer) ⌝ }
+    ensures { λ r. ⌜ now (output .exit) ≡ toEdition2 (now (file .entry)) (now (output .entry)) .output ⌝ }
+{
+    write_value(convert::to_edition_2(file, output), value)
+}
+
+// And back.
+#[no_mangle]
+pub extern "C" fn tevrolig_to_edition_1(file: &[u8], output: &mut [u8], value: &mut u64) -> u32
+    ensures { λ r. ⌜ r ≡ refusalOf (toEdition1 (now (file .entry)) (now (output .entry)) .answer) ⌝ }
+    ensures { λ r. ⌜ now (value .exit) ≡ valueOf (toEdition1 (now (file .entry)) (now (output .entry)) .answer) ⌝ }
+    ensures { λ r. ⌜ now (output .exit) ≡ toEdition1 (now (file .entry)) (now (output .entry)) .output ⌝ }
+{
+    write_value(convert::to_edition_1(file, output), value)
+}
+
 // Writes table 0 of a polynomial at the front of `output`. Answers 0, with n0 in `value`; or a refusal's number, with its place in `value`, and the output is as
 // before.
 #[no_mangle]
