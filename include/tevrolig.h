@@ -50,7 +50,7 @@ extern "C" {
 #define TEVROLIG_BLOCK_BYTES 512
 #define TEVROLIG_BLOCK_WORDS 127
 
-/* No file with more blocks is accepted, and no order needs more. */
+/* No file with more blocks is accepted, and no order and no file that is converted needs more. */
 #define TEVROLIG_MAX_BLOCKS 67
 
 /* The largest n0: no table has more words, and so no encoding. */
@@ -85,7 +85,7 @@ extern "C" {
 #define TEVROLIG_VERIFY_STACK 98304
 #define TEVROLIG_PROVE_STACK 98304
 #define TEVROLIG_ENCODE_STACK 49152
-#define TEVROLIG_CONVERT_STACK 98304
+#define TEVROLIG_CONVERT_STACK 49152
 
 /* What the functions answer. The place that belongs to each number stands at the function. */
 enum {

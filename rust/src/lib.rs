@@ -50,7 +50,7 @@ pub const BLOCK_WORDS: usize = 127;
 /// Words of the sheet.
 pub const SHEET_WORDS: usize = 12;
 
-/// No file with more blocks is accepted, and no order needs more.
+/// No file with more blocks is accepted, and no order and no file that is converted needs more.
 pub const MAX_BLOCKS: usize = 67;
 
 /// What the documents call the words of the sheet; the last six are of edition 2 alone.
