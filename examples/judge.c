@@ -1,5 +1,5 @@
-/* Judges the file named on the command line, or standard input, and says what the verdict means.
- * The exit status is 0 for accepted, 1 for refused, 2 where the file cannot be read.
+/* Judges the file named on the command line, or standard input, and says what the verdict means: `judge [-2] [FILE]`,
+ * where -2 is for a file of edition 2. The exit status is 0 for accepted, 1 for refused, 2 where the file cannot be read.
  *
  * To build it, at the top of the repository, after `rt staticlib tevrolig`; or anywhere, after `tools/install`:
  *
@@ -7,14 +7,17 @@
  *   cc judge.c $(pkg-config --cflags --libs tevrolig) -o judge */
 #include <inttypes.h>
 #include <stdio.h>
+#include <string.h>
 
 #include "tevrolig.h"
 
 /* A file is read so far and no further, as the program `check` does it: no accepted file is so long. */
 #define MAX_BYTES 65536
 
-static const char *const SHEET_WORD[TEVROLIG_SHEET_WORDS] = {
-    "the field", "n0", "d0", "k", "M", "s", "t_0", "t_1", "t_2", "t_3", "t_4", "t_5"};
+/* Edition 1 has the first twelve. */
+static const char *const SHEET_WORD[TEVROLIG_SHEET_WORDS_2] = {
+    "the field", "n0", "d0", "k", "M", "s", "t_0", "t_1", "t_2", "t_3", "t_4", "t_5",
+    "k_1", "k_2", "k_3", "k_4", "k_5", "the edition"};
 
 /* One sentence on a refusal. */
 static void explain(const uint8_t *file, size_t length, uint32_t number, uint64_t place)
@@ -56,21 +59,24 @@ static void explain(const uint8_t *file, size_t length, uint32_t number, uint64_
 
 int main(int argc, char **argv)
 {
-    FILE *input = argc > 1 ? fopen(argv[1], "rb") : stdin;
+    int second = argc > 1 && strcmp(argv[1], "-2") == 0;
+    const char *name = argc > 1 + second ? argv[1 + second] : NULL;
+    FILE *input = name != NULL ? fopen(name, "rb") : stdin;
     if (input == NULL) {
-        perror(argv[1]);
+        perror(name);
         return 2;
     }
     uint8_t file[MAX_BYTES];
     size_t length = fread(file, 1, sizeof file, input);
     if (ferror(input)) {
-        perror(argc > 1 ? argv[1] : "standard input");
+        perror(name != NULL ? name : "standard input");
         return 2;
     }
     fclose(input);
 
     uint64_t place, reads;
-    uint32_t number = tevrolig_verify(file, length, &place, &reads);
+    uint32_t number = second ? tevrolig_verify_2(file, length, &place, &reads)
+                             : tevrolig_verify(file, length, &place, &reads);
     const char *outcome = number == TEVROLIG_ACCEPTED ? "accepted" : "refused";
     printf("%s %" PRIu32 " %" PRIu64 " %" PRIu64 "\n", outcome, number, place, reads);
     if (number == TEVROLIG_ACCEPTED)

@@ -24,10 +24,14 @@
  * - Everything is lent for the call alone. No pointer is kept, and inputs are only read.
  * - Nothing is allocated and no state is kept, so calls may run in several threads at once, over the same inputs too.
  * - Each number that a function gives by a pointer is written on every return, whatever was there before.
- * - The stack that a call takes is bounded: below TEVROLIG_VERIFY_STACK bytes for tevrolig_verify, likewise for prove and
- *   encode, and below 1,024 for tevrolig_word, tevrolig_sheet_of and the field operations. This is measured, not proved.
+ * - The stack that a call takes is bounded: below TEVROLIG_VERIFY_STACK bytes for tevrolig_verify, likewise for prove,
+ *   encode and the converters, in both editions, and below 1,024 for tevrolig_word, tevrolig_sheet_of and the field
+ *   operations. This is measured, not proved.
  *
  * Words are unsigned 32-bit numbers. Numbers, places and positions count from 0.
+ *
+ * There are two editions of a file, with a sheet of 12 words and one of 18. A file does not say of which it is: the
+ * caller does, by the function that is called. Those without an edition in their name are of edition 1.
  */
 #ifndef TEVROLIG_H
 #define TEVROLIG_H
@@ -46,7 +50,7 @@ extern "C" {
 #define TEVROLIG_BLOCK_BYTES 512
 #define TEVROLIG_BLOCK_WORDS 127
 
-/* No file with more blocks is accepted, and no order needs more. */
+/* No file with more blocks is accepted, and no order and no file that is converted needs more. */
 #define TEVROLIG_MAX_BLOCKS 67
 
 /* The largest n0: no table has more words, and so no encoding. */
@@ -65,15 +69,28 @@ extern "C" {
  */
 #define TEVROLIG_SHEET_WORDS 12
 
+/* The sheet of edition 2 has a folding number for each round. Words 0 to 2, 5 and 6 to 11 are as above, with d_(i+1) for
+ * d0/k^(i+1), where d_i = d0/(k_0*..*k_(i-1)); and
+ *
+ *   word   name         rule
+ *   3      k_0          a power of two from 2 to 16, at most d0
+ *   4      M            0 to 5
+ *   12..16 k_1 to k_5   k_i is as k_0 for i up to M, with k_0*..*k_i at most d0; past k_M zero
+ *   17     the edition  2
+ *
+ * Its words are tested in the order 0 to 5, 12 to 17, 6 to 11. */
+#define TEVROLIG_SHEET_WORDS_2 18
+
 /* Bytes of stack below which a call stays. */
 #define TEVROLIG_VERIFY_STACK 98304
 #define TEVROLIG_PROVE_STACK 98304
 #define TEVROLIG_ENCODE_STACK 49152
+#define TEVROLIG_CONVERT_STACK 49152
 
 /* What the functions answer. The place that belongs to each number stands at the function. */
 enum {
     TEVROLIG_ACCEPTED = 0,  /* verify: the file is accepted */
-    TEVROLIG_DONE = 0,      /* prove, encode, sheet_of: the output is written */
+    TEVROLIG_DONE = 0,      /* prove, encode, sheet_of, to_edition_1, to_edition_2: the output is written */
     TEVROLIG_LENGTH = 1,    /* the file is empty, or its length is no multiple of 512 bytes */
     TEVROLIG_CHECK = 2,     /* a block's check word is wrong */
     TEVROLIG_SHEET = 3,     /* a sheet word breaks its rule */
@@ -84,7 +101,8 @@ enum {
     TEVROLIG_CLASH = 8,     /* two equal points of a round have different values */
     TEVROLIG_FINAL = 9,     /* the final polynomial differs from the fold at a final index's point */
     TEVROLIG_COUNT = 10,    /* the sheet, the coefficients or the coins are too few or too many */
-    TEVROLIG_OUTPUT = 11    /* the output is too short */
+    TEVROLIG_OUTPUT = 11,   /* the output is too short */
+    TEVROLIG_FOLDS = 13     /* the folding numbers differ, so that there is no such file of edition 1 */
 };
 
 /* Judges a file of any length and content. Answers 0 for accepted, else the number of the first test that fails:
@@ -105,8 +123,13 @@ enum {
  * 9 what was used until then, and k*(t_0 + .. + t_M) for an accepted file. */
 uint32_t tevrolig_verify(const uint8_t *file, size_t length, uint64_t *place, uint64_t *reads);
 
-/* Shows the word of this number in a file's stream. The sheet has the words 0 to 11, and block checks are not counted.
- * Answers 1, or 0 where the file's whole blocks hold no word of that number; `word` is then 0. */
+/* Judges a file of edition 2 likewise. Place 3 is the first in the order in which the sheet's words are tested, and each
+ * shift or final coin over domain i counts k_i reads: t_0*k_0 + .. + t_M*k_M for an accepted file. */
+uint32_t tevrolig_verify_2(const uint8_t *file, size_t length, uint64_t *place, uint64_t *reads);
+
+/* Shows the word of this number in a file's stream, of either edition. The sheet has the words 0 to 11, or 0 to 17, and
+ * block checks are not counted. Answers 1, or 0 where the file's whole blocks hold no word of that number; `word` is then
+ * 0. */
 uint32_t tevrolig_word(const uint8_t *file, size_t length, uint64_t number, uint32_t *word);
 
 /* Shows the sheet that a file holds, judged or not: writes its words 0 to 11 to the front of the output, as tevrolig_word
@@ -132,6 +155,24 @@ uint32_t tevrolig_sheet_of(const uint8_t *file, size_t length, uint32_t *output,
 uint32_t tevrolig_prove(const uint32_t *sheet, size_t sheet_length, const uint32_t *coefficients,
                         size_t coefficients_length, const uint32_t *coins, size_t coins_length, uint8_t *output,
                         size_t output_length, uint64_t *value);
+
+/* Writes the honest prover's file of edition 2 likewise; the sheet has 18 words. */
+uint32_t tevrolig_prove_2(const uint32_t *sheet, size_t sheet_length, const uint32_t *coefficients,
+                          size_t coefficients_length, const uint32_t *coins, size_t coins_length, uint8_t *output,
+                          size_t output_length, uint64_t *value);
+
+/* Writes a file of edition 1 as one of edition 2, whose folding numbers are all k. The words after the sheet stay, so that
+ * a word's number is 6 higher, and the block checks are new. Answers 0 for done: `value` is the number of blocks, which
+ * stand at the front of the output, and the bytes after them are as before. Else it answers the number of the first test
+ * that fails, and no byte of the output is written: 1 to 6 as tevrolig_verify refuses the file, with the place in `value`,
+ * then 11 with the number of blocks needed. What verify would say from 7 on is not asked. */
+uint32_t tevrolig_to_edition_2(const uint8_t *file, size_t length, uint8_t *output, size_t output_length,
+                               uint64_t *value);
+
+/* Writes a file of edition 2 whose folding numbers are all equal as one of edition 1, likewise: 1 to 6 are as
+ * tevrolig_verify_2 refuses the file; then comes 13, with the first i for which k_i is not k_0; then 11. */
+uint32_t tevrolig_to_edition_1(const uint8_t *file, size_t length, uint8_t *output, size_t output_length,
+                               uint64_t *value);
 
 /* Writes table 0 alone, the values of the polynomial at the n0 points of domain 0. Answers 0 for done: `value` is n0, the
  * number of words written, and the words after them are as before. Else it answers the number of the first test that

@@ -1,15 +1,22 @@
 #!/usr/bin/env python3
-"""Writes theorems that hold by computation. Cases: for each line `HEX outcome number place reads` the definition's verdict of these bytes. Orders: for each line
-`v | next | sheet | coefficients | coins` what the definition draws in one run of the load from the state v. Arguments: both files, and the folder to write to."""
+"""Writes theorems that hold by computation, from what the model says. Files of either edition: for each line `HEX outcome number place reads` the definition's verdict
+of these bytes. Conversions: for each line `EDITION HEX LENGTH answer number place HEX` what the definition's converter makes of these bytes and an output of so many
+bytes 165. Orders: for each line `v | next | sheet | coefficients | coins` what the definition draws in one run of the load from the state v. Arguments:
+the folder with the lines, in the files one, two, convert and orders, and the folder to write to."""
 import sys
 
 HEAD = """use Prim.Native.Nat.{ℕ}
 use mathlib.Core.Path.{_≡_, refl}
 use mathlib.Core.List.{List, [], _∷_}
 """
-VERDICTS = """use Rattle.definition.specs.Verdict.{accepted, refused}
-use Rattle.definition.specs.Verify.{verify}
-use Rattle.definition.specs.WorkedTranscript.{definitions}
+WORKED = "use Rattle.definition.specs.WorkedTranscript.{definitions}\n"
+VERDICTS = """use Rattle.definition.specs.Sheet.{edition1, edition2}
+use Rattle.definition.specs.Verdict.{accepted, refused}
+use Rattle.definition.specs.Verify.{verifyIn}
+"""
+CONVERSIONS = """use lib.ListN.{replicate}
+use Rattle.definition.specs.Prove.{done, refusal}
+use Rattle.definition.specs.Convert.{toEdition1, toEdition2}
 """
 DRAWS = """use Rattle.definition.specs.Load.{drawOrder}
 use Rattle.definition.specs.LoadCases.{loadDefinitions}
@@ -20,39 +27,50 @@ def listed(numbers):
     return " ∷ ".join([str(n) for n in numbers] + ["[]"])
 
 
-def verdict(number, line):
-    bytes_, outcome, fault, place, reads = line.split()
-    data = b"" if bytes_ == "-" else bytes.fromhex(bytes_)
-    said = "accepted" if outcome == "accepted" else f"refused {fault} {place}"
-    return (
-        f"\ncase{number} : verify ({listed(data)}) ≡ record {{ outcome = {said}; reads = {reads} }}\n"
-        f"unfolding definitions\ncase{number} = refl\n"
-    )
+def data(text):
+    return listed(b"" if text == "-" else bytes.fromhex(text))
 
 
-def order(number, line):
+def verdict(edition):
+    def theorem(line):
+        file, outcome, fault, place, reads = line.split()
+        said = "accepted" if outcome == "accepted" else f"refused {fault} {place}"
+        return f"verifyIn {edition} ({data(file)})", f"record {{ outcome = {said}; reads = {reads} }}"
+
+    return theorem
+
+
+def conversion(line):
+    edition, file, length, answer, number, place, output = line.split()
+    before = f"replicate {length} 165"
+    after = before if output == int(length) * "a5" else data(output)
+    said = f"done {place}" if answer == "done" else f"refusal {number} {place}"
+    return f"toEdition{edition} ({data(file)}) ({before})", f"record {{ answer = {said}; output = {after} }}"
+
+
+def order(line):
     v, after, *parts = line.split("|")
     sheet, coefficients, coins = (listed(part.split()) for part in parts)
     drawn = f"record {{ sheet = {sheet}; coefficients = {coefficients}; coins = {coins} }}"
-    return (
-        f"\norder{number} : drawOrder {v.strip()} ≡ record {{ value = {drawn}; next = {after.strip()} }}\n"
-        f"unfolding loadDefinitions\norder{number} = refl\n"
-    )
-
-
-def write(path, head, theorem, lines):
-    with open(lines) as f, open(path, "w") as out:
-        out.write(HEAD + head)
-        for number, line in enumerate(f):
-            out.write(theorem(number, line))
+    return f"drawOrder {v.strip()}", f"record {{ value = {drawn}; next = {after.strip()} }}"
 
 
 def main():
-    cases, orders, folder = sys.argv[1:]
-    write(f"{folder}/Cases.antt", VERDICTS, verdict, cases)
-    write(f"{folder}/Orders.antt", DRAWS, order, orders)
+    lines, folder = sys.argv[1:]
+    modules = [
+        ("one", "One", VERDICTS + WORKED, "definitions", verdict("edition1")),
+        ("two", "Two", VERDICTS + WORKED, "definitions", verdict("edition2")),
+        ("convert", "Conversions", CONVERSIONS + WORKED, "definitions", conversion),
+        ("orders", "Orders", DRAWS, "loadDefinitions", order),
+    ]
+    for name, module, head, unfolded, theorem in modules:
+        with open(f"{lines}/{name}") as f, open(f"{folder}/{module}.antt", "w") as out:
+            out.write(HEAD + head)
+            for number, line in enumerate(f):
+                left, right = theorem(line)
+                out.write(f"\ncase{number} : {left} ≡ {right}\nunfolding {unfolded}\ncase{number} = refl\n")
     with open(f"{folder}/Lib.antt", "w") as out:
-        out.write("pub mod Cases\npub mod Orders\n")
+        out.write("".join(f"pub mod {module}\n" for _, module, *_ in modules))
 
 
 main()

@@ -1,6 +1,6 @@
-/* Measures how much stack calls take, of tevrolig_verify, tevrolig_word and tevrolig_sheet_of on each file named, of tevrolig_prove and tevrolig_encode
- * on the largest orders and of the field operations, and fails where one is not below the header's figure. A call runs on a stack of its own, painted
- * before, and the deepest byte that lost its paint is looked for. */
+/* Measures how much stack calls take, of verify and the converter, in both editions, and of tevrolig_word and tevrolig_sheet_of, on each file named and on
+ * what is proved here; of prove, in both editions, and tevrolig_encode on the largest orders; and of the field operations. It fails where one is not below
+ * the header's figure. A call runs on a stack of its own, painted before, and the deepest byte that lost its paint is looked for. */
 #include <stdio.h>
 #include <stdlib.h>
 #include <string.h>
@@ -10,13 +10,15 @@
 
 enum { MAX_BYTES = 65536, MAX_COINS = 1024, STACK = 1 << 22, PAINT = 0xA5 };
 
-/* The longest file of all, and the one with the largest k. */
-static const uint32_t SHEETS[2][TEVROLIG_SHEET_WORDS] = {
-    {2, 4096, 2048, 2, 5, 2, 48, 48, 48, 48, 48, 48},
-    {2, 4096, 2048, 16, 1, 2, 48, 48, 0, 0, 0, 0},
+/* Of edition 2: the longest file of all, the one with the largest k, and one whose folding numbers differ. The words 0 to 11 of the first two are sheets of
+ * edition 1 too. */
+static const uint32_t SHEETS[3][TEVROLIG_SHEET_WORDS_2] = {
+    {2, 4096, 2048, 2, 5, 2, 48, 48, 48, 48, 48, 48, 2, 2, 2, 2, 2, 2},
+    {2, 4096, 2048, 16, 1, 2, 48, 48, 0, 0, 0, 0, 16, 0, 0, 0, 0, 2},
+    {2, 4096, 2048, 16, 2, 2, 48, 29, 48, 0, 0, 0, 4, 2, 0, 0, 0, 2},
 };
 
-static uint8_t file[MAX_BYTES];
+static uint8_t file[MAX_BYTES], output[MAX_BYTES];
 static size_t length;
 static const uint32_t *sheet;
 static uint32_t coefficients[TEVROLIG_MAX_TABLE], coins[MAX_COINS], table[TEVROLIG_MAX_TABLE];
@@ -32,10 +34,36 @@ static void verify(void)
     answer = tevrolig_verify(file, length, &place, &reads);
 }
 
+static void verify_2(void)
+{
+    uint64_t place, reads;
+    answer = tevrolig_verify_2(file, length, &place, &reads);
+}
+
 static void prove(void)
 {
     uint64_t blocks;
     answer = tevrolig_prove(sheet, TEVROLIG_SHEET_WORDS, coefficients, sheet[2], coins, coin_count, file, sizeof file, &blocks);
+    length = blocks * TEVROLIG_BLOCK_BYTES;
+}
+
+static void prove_2(void)
+{
+    uint64_t blocks;
+    answer = tevrolig_prove_2(sheet, TEVROLIG_SHEET_WORDS_2, coefficients, sheet[2], coins, coin_count, file, sizeof file, &blocks);
+    length = blocks * TEVROLIG_BLOCK_BYTES;
+}
+
+static void to_edition_2(void)
+{
+    uint64_t blocks;
+    answer = tevrolig_to_edition_2(file, length, output, sizeof output, &blocks);
+}
+
+static void to_edition_1(void)
+{
+    uint64_t blocks;
+    answer = tevrolig_to_edition_1(file, length, output, sizeof output, &blocks);
 }
 
 static void encode(void)
@@ -118,9 +146,20 @@ static size_t done(const char *name, void (*call)(void))
     return taken;
 }
 
+/* The most of each, over all calls. */
+static size_t verifying, proving, encoding, converting, small;
+
+/* What takes a file, of either edition. */
+static void judge_and_convert(void)
+{
+    verifying = larger(verifying, larger(depth(verify), depth(verify_2)));
+    converting = larger(converting, larger(depth(to_edition_1), depth(to_edition_2)));
+    small = larger(small, larger(depth(word), depth(sheet_of)));
+}
+
 int main(int argc, char **argv)
 {
-    size_t verifying = 0, proving = 0, encoding = 0, small = depth(elements);
+    small = depth(elements);
     for (int i = 1; i < argc; i++) {
         FILE *input = fopen(argv[i], "rb");
         if (input == NULL) {
@@ -129,17 +168,26 @@ int main(int argc, char **argv)
         }
         length = fread(file, 1, sizeof file, input);
         fclose(input);
-        verifying = larger(verifying, depth(verify));
-        small = larger(small, larger(depth(word), depth(sheet_of)));
+        judge_and_convert();
     }
     for (size_t i = 0; i < TEVROLIG_MAX_TABLE; i++)
         coefficients[i] = (uint32_t)(i * i);
-    for (size_t i = 0; i < 2; i++) {
+    for (size_t i = 0; i < 3; i++) {
         sheet = SHEETS[i];
         draw_coins();
-        proving = larger(proving, done("prove", prove));
-        encoding = larger(encoding, done("encode", encode));
+        if (i < 2) {
+            proving = larger(proving, done("prove", prove));
+            encoding = larger(encoding, done("encode", encode));
+            converting = larger(converting, done("to edition 2", to_edition_2));
+            judge_and_convert();
+        }
+        proving = larger(proving, done("prove, edition 2", prove_2));
+        verifying = larger(verifying, done("verify, edition 2", verify_2));
+        if (i < 2)
+            converting = larger(converting, done("to edition 1", to_edition_1));
+        judge_and_convert();
     }
-    printf("stack: verify %zu, prove %zu, encode %zu, others %zu bytes at most\n", verifying, proving, encoding, small);
-    return verifying < TEVROLIG_VERIFY_STACK && proving < TEVROLIG_PROVE_STACK && encoding < TEVROLIG_ENCODE_STACK && small < 1024 ? 0 : 1;
+    printf("stack: verify %zu, prove %zu, encode %zu, convert %zu, others %zu bytes at most\n", verifying, proving, encoding, converting, small);
+    return verifying < TEVROLIG_VERIFY_STACK && proving < TEVROLIG_PROVE_STACK && encoding < TEVROLIG_ENCODE_STACK
+        && converting < TEVROLIG_CONVERT_STACK && small < 1024 ? 0 : 1;
 }

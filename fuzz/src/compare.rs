@@ -3,8 +3,13 @@
 use crate::fence::Fence;
 use crate::input::{Input, Order};
 use std::cell::RefCell;
-use tevrolig::{Field, Outcome};
-use tevrolig_model::{self as model, field, stream};
+use tevrolig::convert::{to_edition_1, to_edition_2};
+use tevrolig::{edition2, Field, Outcome, Verdict};
+use tevrolig_model::convert::convert_to;
+use tevrolig_model::prove::prove_in;
+use tevrolig_model::sheet::Edition;
+use tevrolig_model::verify::verify_in;
+use tevrolig_model::{self as model, field, stream, Answer};
 
 /// The fences, made once.
 struct Fences {
@@ -34,39 +39,77 @@ pub fn agree(input: &Input) {
     FENCES.with_borrow_mut(|fences| match input {
         Input::Raw(file) | Input::Sealed(file) => {
             verdicts(fences, file);
+            conversions(fences, file);
         }
         Input::Order(order) => orders(fences, order),
         Input::Field(words) => elements(*words),
     });
 }
 
-/// The verdict of both, and some words of the stream: the place of the refusal, the words at the end, one that the file itself names, and the
-/// sheet.
-fn verdicts(fences: &mut Fences, file: &[u8]) -> tevrolig::Verdict {
+/// Verify of an edition in the archive.
+fn verify(edition: Edition, file: &[u8]) -> Verdict {
+    match edition {
+        Edition::One => tevrolig::verify(file),
+        Edition::Two => edition2::verify(file),
+    }
+}
+
+/// The verdicts of both in each edition, and some words of the stream: the places of the refusals, the words at the end, one that the file itself
+/// names, and the sheet.
+fn verdicts(fences: &mut Fences, file: &[u8]) {
     let lent: &[u8] = fences.file.lend(file);
-    let verdict = tevrolig::verify(lent);
-    assert_eq!(verdict.line(), model::line(model::verify(file)));
+    let places = Edition::BOTH.map(|edition| {
+        let verdict = verify(edition, lent);
+        assert_eq!(verdict.line(), model::line(verify_in(edition, file)));
+        match verdict.outcome {
+            Outcome::Accepted => 0,
+            Outcome::Refused(refusal) => refusal.place(),
+        }
+    });
 
     let end = (file.len() / stream::BLOCK_BYTES * stream::BLOCK_WORDS) as u64;
-    let place = match verdict.outcome {
-        Outcome::Accepted => 0,
-        Outcome::Refused(refusal) => refusal.place(),
-    };
     let named = file
         .iter()
         .take(8)
         .fold(0, |sum, &byte| sum << 8 | u64::from(byte));
-    for number in [place, end.wrapping_sub(1), end, named] {
+    let [place, place_2] = places;
+    for number in [place, place_2, end.wrapping_sub(1), end, named] {
         let word = (number < end).then(|| stream::read_word(file, number as usize));
         assert_eq!(tevrolig::word(lent, number), word, "word {number}");
     }
     let sheet = (0 < end).then(|| std::array::from_fn(|number| stream::read_word(file, number)));
     assert_eq!(tevrolig::sheet_of(lent), sheet, "the sheet");
     assert_eq!(lent, file, "the file is only read");
-    verdict
 }
 
-/// Prove and encode of both, and the verdict on the file.
+/// The converters of both, with an output that is long enough for every file that has as many blocks, with outputs of as many blocks and of a byte
+/// less, and with none.
+fn conversions(fences: &mut Fences, file: &[u8]) {
+    let lent: &[u8] = fences.file.lend(file);
+    for to in Edition::BOTH {
+        let convert = match to {
+            Edition::One => to_edition_1,
+            Edition::Two => to_edition_2,
+        };
+        let length = file.len();
+        for length in [length + 513, length, length.saturating_sub(1), 0] {
+            let mut expected = vec![0xA5; length];
+            let output = fences.output.lend(&expected);
+            let answer = match convert(lent, output) {
+                Ok(blocks) => Answer::Done(blocks as u64),
+                Err(refusal) => Answer::Refused {
+                    number: refusal.number(),
+                    place: refusal.place(),
+                },
+            };
+            assert_eq!(answer, convert_to(to, file, &mut expected));
+            assert!(output == expected, "the converter's output differs");
+        }
+    }
+    assert_eq!(lent, file, "the file is only read");
+}
+
+/// Prove of both in each edition, the verdicts on the files that come of it and their conversions, and encode of both.
 fn orders(fences: &mut Fences, order: &Order) {
     let Order {
         sheet,
@@ -80,14 +123,23 @@ fn orders(fences: &mut Fences, order: &Order) {
     let lent_coefficients: &[u32] = lent_coefficients.lend(coefficients);
     let lent_coins: &[u32] = lent_coins.lend(coins);
 
-    let mut expected = vec![0xA5; length];
-    let lent = fences.output.lend(&expected);
-    let answer = tevrolig::prove(lent_sheet, lent_coefficients, lent_coins, lent);
-    assert_eq!(
-        told(answer),
-        model::prove(sheet, coefficients, coins, &mut expected)
-    );
-    assert!(lent == expected, "prove's output differs");
+    let mut files = Vec::new();
+    for edition in Edition::BOTH {
+        let prove = match edition {
+            Edition::One => tevrolig::prove,
+            Edition::Two => edition2::prove,
+        };
+        let mut expected = vec![0xA5; length];
+        let lent = fences.output.lend(&expected);
+        let answer = told(prove(lent_sheet, lent_coefficients, lent_coins, lent));
+        let due = prove_in(edition, sheet, coefficients, coins, &mut expected);
+        assert_eq!(answer, due);
+        assert!(lent == expected, "prove's output differs");
+        if let Answer::Done(blocks) = answer {
+            expected.truncate(blocks as usize * tevrolig::BLOCK_BYTES);
+            files.push((edition, expected));
+        }
+    }
 
     let mut table = vec![0xA5A5_A5A5; length];
     let lent = fences.table.lend(&table);
@@ -100,17 +152,19 @@ fn orders(fences: &mut Fences, order: &Order) {
 
     let only_read = lent_sheet == sheet && lent_coefficients == coefficients && lent_coins == coins;
     assert!(only_read, "the lists are only read");
-    if let Ok(blocks) = answer {
-        let verdict = verdicts(fences, &expected[..blocks * tevrolig::BLOCK_BYTES]);
-        assert_eq!(verdict.outcome, Outcome::Accepted, "the prover's file");
+    for (edition, file) in files {
+        let outcome = verify(edition, &file).outcome;
+        assert_eq!(outcome, Outcome::Accepted, "the prover's file");
+        verdicts(fences, &file);
+        conversions(fences, &file);
     }
 }
 
 /// An answer in the model's terms.
-fn told(answer: Result<usize, tevrolig::OrderRefusal>) -> model::Answer {
+fn told(answer: Result<usize, tevrolig::OrderRefusal>) -> Answer {
     match answer {
-        Ok(size) => model::Answer::Done(size as u64),
-        Err(refusal) => model::Answer::Refused {
+        Ok(size) => Answer::Done(size as u64),
+        Err(refusal) => Answer::Refused {
             number: refusal.number(),
             place: refusal.place(),
         },

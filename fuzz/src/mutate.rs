@@ -2,10 +2,11 @@
 //! drawn from nothing, which also makes a corpus to begin with needless.
 
 use crate::input::{Input, Order};
+use tevrolig_model::convert::with_equal_folds;
 use tevrolig_model::domain::Subgroup;
-use tevrolig_model::generate::{self, Rng};
+use tevrolig_model::generate::{self, aim, coefficients, coins, honest_file, known, Rng};
 use tevrolig_model::layout::{Layout, Part};
-use tevrolig_model::sheet::{Sheet, SHEET_WORDS};
+use tevrolig_model::sheet::Edition;
 use tevrolig_model::stream::{read_word, write_word, BLOCK_BYTES, BLOCK_WORDS};
 
 /// An input made from another. `change` alters bytes in libFuzzer's own ways, which know what the model compared.
@@ -34,47 +35,64 @@ pub fn mutate(bytes: &[u8], seed: u32, change: impl Fn(&mut [u8])) -> Vec<u8> {
     input.write()
 }
 
-/// An honest file, whole or damaged, an allowed order, or words for a field.
+/// An honest file of either edition, whole or damaged, an allowed order, or words for a field.
 fn fresh(rng: &mut Rng) -> Input {
-    let most_n0 = rng.pick(&[16, 16, 32, 64, 128]);
-    let sheet = generate::sheet_up_to(rng, most_n0);
-    let hostile = rng.one_in(2);
-    let coefficients = generate::coefficients(rng, &sheet);
-    let coins = generate::coins(rng, &sheet, hostile);
+    let (edition, order) = allowed(rng);
     match rng.below(16) {
-        0 => Input::Raw(generate::honest_file(&sheet, &coefficients, &coins)),
-        1..=7 => {
-            let mut file = generate::honest_file(&sheet, &coefficients, &coins);
-            let number = rng.pick(&[5, 7, 8, 8, 9, 9, 9]);
+        form @ 0..=7 => {
+            let mut file = honest_file(&order.sheet, &order.coefficients, &order.coins);
+            if form == 0 {
+                return Input::Raw(file);
+            }
+            let number = rng.pick(&[3, 5, 6, 7, 8, 8, 9, 9, 9]);
             if rng.one_in(2) {
-                generate::aim(rng, &mut file, number);
+                aim(edition, rng, &mut file, number);
             }
             Input::Sealed(file)
         }
-        8..=14 => {
-            let output = output_due(&sheet) + rng.pick(&[0, 0, 1, 600]);
-            Input::Order(Order {
-                sheet: sheet.to_vec(),
-                coefficients,
-                coins,
-                output,
-            })
-        }
+        8..=14 => Input::Order(order),
         _ => Input::Field([rng.below(3) as u32, rng.word(), rng.word()]),
     }
 }
 
+/// An allowed order of either edition; in edition 2 the folding numbers are equal in one of four, so that the file has an edition 1.
+fn allowed(rng: &mut Rng) -> (Edition, Order) {
+    let most_n0 = rng.pick(&[16, 16, 32, 64, 128]);
+    let (edition, sheet) = match rng.below(8) {
+        0..=3 => (
+            Edition::One,
+            generate::sheet_up_to(Edition::One, rng, most_n0),
+        ),
+        4 => {
+            let equal = generate::sheet_up_to(Edition::One, rng, most_n0);
+            (Edition::Two, with_equal_folds(&equal))
+        }
+        _ => (
+            Edition::Two,
+            generate::sheet_up_to(Edition::Two, rng, 2 * most_n0),
+        ),
+    };
+    let hostile = rng.one_in(2);
+    let order = Order {
+        coefficients: coefficients(rng, &sheet),
+        coins: coins(rng, &sheet, hostile),
+        output: output_due(&sheet) + rng.pick(&[0, 0, 1, 600]),
+        sheet,
+    };
+    (edition, order)
+}
+
 /// The bytes that prove's output needs; none for a sheet with a fault.
 fn output_due(sheet: &[u32]) -> u16 {
-    let sheet = sheet.try_into().ok().map(Sheet::read);
-    sheet.and_then(Result::ok).map_or(0, |sheet| {
+    known(sheet).map_or(0, |sheet| {
         (Layout::new(&sheet).blocks() * BLOCK_BYTES) as u16
     })
 }
 
 fn change_file(rng: &mut Rng, file: &mut Vec<u8>) {
     if file.len() < BLOCK_BYTES || rng.one_in(2) {
-        generate::damage(rng, file);
+        let edition = rng.pick(&Edition::BOTH);
+        generate::damage(edition, rng, file);
         return;
     }
     let words = file.len() / BLOCK_BYTES * BLOCK_WORDS;
@@ -90,9 +108,8 @@ fn change_file(rng: &mut Rng, file: &mut Vec<u8>) {
 }
 
 fn change_order(rng: &mut Rng, order: &mut Order) {
-    let words: Option<[u32; SHEET_WORDS]> = order.sheet[..].try_into().ok();
-    match (rng.below(8), words) {
-        (0, _) => {
+    match rng.below(8) {
+        0 => {
             let due = output_due(&order.sheet);
             let lengths = [
                 due,
@@ -104,9 +121,9 @@ fn change_order(rng: &mut Rng, order: &mut Order) {
             ];
             order.output = rng.pick(&lengths);
         }
-        (1, Some(words)) => order.coins = generate::coins(rng, &words, true),
-        (2, Some(words)) => order.coefficients = generate::coefficients(rng, &words),
-        (3, Some(words)) => move_out_coin(rng, &words, &mut order.coins),
+        1 => order.coins = coins(rng, &order.sheet, true),
+        2 => order.coefficients = coefficients(rng, &order.sheet),
+        3 => move_out_coin(rng, &order.sheet, &mut order.coins),
         _ => {
             let list = match rng.below(4) {
                 0 => &mut order.sheet,
@@ -129,8 +146,8 @@ fn change_order(rng: &mut Rng, order: &mut Order) {
 }
 
 /// Moves an out coin into its round's domain, where the sheet has a round.
-fn move_out_coin(rng: &mut Rng, words: &[u32; SHEET_WORDS], coins: &mut [u32]) {
-    let Ok(sheet) = Sheet::read(words) else {
+fn move_out_coin(rng: &mut Rng, words: &[u32], coins: &mut [u32]) {
+    let Some(sheet) = known(words) else {
         return;
     };
     let layout = Layout::new(&sheet);

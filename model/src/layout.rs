@@ -1,7 +1,7 @@
 //! Where everything stands in the word stream (document 01, "The word stream
-//! and its blocks").
+//! and its blocks"). It begins with a sheet of either edition.
 
-use crate::sheet::{Sheet, SHEET_WORDS};
+use crate::sheet::Sheet;
 use crate::stream::BLOCK_WORDS;
 use std::ops::Range;
 
@@ -45,7 +45,7 @@ pub struct Layout {
 impl Layout {
     pub fn new(sheet: &Sheet) -> Self {
         let p = sheet.field.p;
-        let indices = |i: usize| (sheet.n(i) / sheet.k) as u64;
+        let indices = |i: usize| sheet.indices(i) as u64;
 
         let mut plan = vec![(Part::Table(0), sheet.n0, p), (Part::FoldCoin(0), 1, p)];
         for i in 1..=sheet.rounds {
@@ -60,11 +60,11 @@ impl Layout {
         }
         let last = sheet.rounds;
         plan.extend([
-            (Part::FinalCoefficients, sheet.d(last + 1), p),
+            (Part::FinalCoefficients, sheet.d[last + 1], p),
             (Part::FinalIndices, sheet.t[last], indices(last)),
         ]);
 
-        let mut start = SHEET_WORDS;
+        let mut start = sheet.edition.sheet_words();
         let place = |(part, length, limit)| {
             let words = start..start + length;
             start = words.end;
@@ -77,7 +77,7 @@ impl Layout {
 
     /// Number of words in the stream, the sheet's included.
     pub fn words(&self) -> usize {
-        self.sections.last().map_or(SHEET_WORDS, |s| s.words.end)
+        self.sections.last().map_or(0, |s| s.words.end)
     }
 
     /// Number of blocks the stream needs.

@@ -1,13 +1,14 @@
 //! An independent model of the STIR transcript verifier and prover.
 //!
 //! Everything here is written straight from document 01 ("STIR transcripts:
-//! their words, their prover and their judge"), the load and the counts from the
-//! requests of document 02, and by plain means: whole tables
+//! their words, their prover and their judge"), the load, the counts, the second
+//! edition and the converter from the requests of document 02, and by plain means: whole tables
 //! instead of single points, Lagrange sums, long division, extended Euclid. It
 //! is the thing other code is compared with, so it prefers being obvious to
 //! being fast.
 
 pub mod baseline;
+pub mod convert;
 pub mod domain;
 pub mod field;
 pub mod generate;
@@ -19,8 +20,9 @@ pub mod sheet;
 pub mod stream;
 pub mod verify;
 
-pub use prove::{encode, prove, Answer};
-pub use verify::{line, verify, Outcome, Verdict};
+pub use convert::{to_edition_1, to_edition_2};
+pub use prove::{encode, prove, prove_2, Answer};
+pub use verify::{line, verify, verify_2, Outcome, Verdict};
 
 /// A refusal as document 01 gives it: the number of the test that failed and
 /// the first faulty place.

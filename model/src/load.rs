@@ -186,7 +186,7 @@ impl Generator {
     fn coins(&mut self, sheet: &Sheet) -> Vec<u32> {
         let p = sheet.field.p;
         let subgroup = Subgroup::of(sheet);
-        let indices = |i: usize| (sheet.n(i) / sheet.k) as u64;
+        let indices = |i: usize| (sheet.n(i) / sheet.k[i]) as u64;
 
         // Fold coin 0.
         let mut coins = vec![self.below(p)];

@@ -1,13 +1,13 @@
 //! The honest prover and the encoder (document 01, "Fold, quotient, correction"
-//! and "Verify, prove, encode").
+//! and "Verify, prove, encode"). The prover is of both editions (document 02, CR 5).
 
 use crate::domain::Subgroup;
 use crate::layout::{Layout, Part};
 use crate::polynomial::{
     correction, divide, evaluate, fold, interpolate, multiply, subtract, vanishing, Pairs,
 };
-use crate::sheet::{Sheet, SHEET_WORDS};
-use crate::stream::{to_blocks, BLOCK_BYTES};
+use crate::sheet::{Edition, Sheet};
+use crate::stream::{to_blocks, BLOCK_BYTES, BLOCK_WORDS};
 use crate::verify::first_out_coin_in_domain;
 use crate::Fault;
 
@@ -29,19 +29,49 @@ impl From<Result<usize, Fault>> for Answer {
 
 /// Writes the honest file for the coefficients and the coins.
 pub fn prove(sheet: &[u32], coefficients: &[u32], coins: &[u32], output: &mut [u8]) -> Answer {
-    let judged = request(sheet, coefficients, coins, output.len());
+    prove_in(Edition::One, sheet, coefficients, coins, output)
+}
+
+/// The same for edition 2.
+pub fn prove_2(sheet: &[u32], coefficients: &[u32], coins: &[u32], output: &mut [u8]) -> Answer {
+    prove_in(Edition::Two, sheet, coefficients, coins, output)
+}
+
+pub fn prove_in(
+    edition: Edition,
+    sheet: &[u32],
+    coefficients: &[u32],
+    coins: &[u32],
+    output: &mut [u8],
+) -> Answer {
+    let judged = request(edition, sheet, coefficients, coins, output.len());
     let written = judged.map(|mut request| {
         request.run(coefficients);
-        let file = to_blocks(&request.stream);
-        output[..file.len()].copy_from_slice(&file);
-        file.len() / BLOCK_BYTES
+        write_blocks(&request.stream, output)
     });
     written.into()
 }
 
+/// Writes a stream's blocks to the front of an output with room for them, and
+/// answers how many they are.
+pub(crate) fn write_blocks(stream: &[u32], output: &mut [u8]) -> usize {
+    let file = to_blocks(stream);
+    output[..file.len()].copy_from_slice(&file);
+    file.len() / BLOCK_BYTES
+}
+
+/// Test 11: room for the blocks of a stream of this many words.
+pub(crate) fn test_room(words: usize, output_bytes: usize) -> Result<(), Fault> {
+    let blocks = words.div_ceil(BLOCK_WORDS);
+    if output_bytes < blocks * BLOCK_BYTES {
+        return Err(Fault::new(11, blocks));
+    }
+    Ok(())
+}
+
 /// Writes table 0.
 pub fn encode(sheet: &[u32], coefficients: &[u32], output: &mut [u32]) -> Answer {
-    let judged = sheet_and_polynomial(sheet, coefficients).and_then(|sheet| {
+    let judged = sheet_and_polynomial(Edition::One, sheet, coefficients).and_then(|sheet| {
         first_above(coefficients, sheet.field.p).map_or(Ok(()), |at| Err(Fault::new(5, at)))?;
         if output.len() < sheet.n0 {
             return Err(Fault::new(11, sheet.n0));
@@ -68,9 +98,13 @@ struct Request {
 }
 
 /// The first tests of prove and encode: sheet, then number of coefficients.
-fn sheet_and_polynomial(sheet: &[u32], coefficients: &[u32]) -> Result<Sheet, Fault> {
-    let words: &[u32; SHEET_WORDS] = sheet.try_into().map_err(|_| Fault::new(10, 0))?;
-    let sheet = Sheet::read(words).map_err(|place| Fault::new(3, place))?;
+fn sheet_and_polynomial(
+    edition: Edition,
+    sheet: &[u32],
+    coefficients: &[u32],
+) -> Result<Sheet, Fault> {
+    let sheet = Sheet::read_in(edition, sheet).ok_or(Fault::new(10, 0))?;
+    let sheet = sheet.map_err(|place| Fault::new(3, place))?;
     if coefficients.len() != sheet.d0 {
         return Err(Fault::new(10, 1));
     }
@@ -79,20 +113,21 @@ fn sheet_and_polynomial(sheet: &[u32], coefficients: &[u32]) -> Result<Sheet, Fa
 
 /// All tests of prove in order.
 fn request(
-    sheet: &[u32],
+    edition: Edition,
+    words: &[u32],
     coefficients: &[u32],
     coins: &[u32],
     output_bytes: usize,
 ) -> Result<Request, Fault> {
-    let sheet = sheet_and_polynomial(sheet, coefficients)?;
+    let sheet = sheet_and_polynomial(edition, words, coefficients)?;
     let layout = Layout::new(&sheet);
     if coins.len() != layout.coins() {
         return Err(Fault::new(10, 2));
     }
 
     // The coins at their places in the stream; `due` has their word numbers.
-    let mut stream = vec![0; layout.words()];
-    stream[..SHEET_WORDS].copy_from_slice(&sheet.words);
+    let mut stream = words.to_vec();
+    stream.resize(layout.words(), 0);
     let due: Vec<(usize, u64)> = layout
         .coin_sections()
         .flat_map(|section| section.words.clone().map(|word| (word, section.limit)))
@@ -111,9 +146,7 @@ fn request(
     if let Some(word) = first_out_coin_in_domain(&subgroup, &layout, &stream) {
         return Err(Fault::new(7, layout.coin_position(word)));
     }
-    if output_bytes < layout.blocks() * BLOCK_BYTES {
-        return Err(Fault::new(11, layout.blocks()));
-    }
+    test_room(stream.len(), output_bytes)?;
     Ok(Request {
         sheet,
         subgroup,
@@ -146,7 +179,8 @@ pub struct Round {
 
 /// The rounds of the honest prover, for a request without fault.
 pub fn rounds(sheet: &[u32], coefficients: &[u32], coins: &[u32]) -> Result<Vec<Round>, Fault> {
-    request(sheet, coefficients, coins, usize::MAX).map(|mut request| request.run(coefficients))
+    request(Edition::One, sheet, coefficients, coins, usize::MAX)
+        .map(|mut request| request.run(coefficients))
 }
 
 impl Request {
@@ -166,13 +200,13 @@ impl Request {
 
     /// Sends all messages, each worked out from the coins before it.
     fn run(&mut self, coefficients: &[u32]) -> Vec<Round> {
-        let (field, k) = (self.sheet.field, self.sheet.k);
+        let field = self.sheet.field;
         let mut f = elements(coefficients);
         self.send(Part::Table(0), &self.subgroup.table(0, &f));
 
         let mut rounds = Vec::new();
         for i in 1..=self.sheet.rounds {
-            let g = fold(field, &f, k, self.read(Part::FoldCoin(i - 1))[0]);
+            let g = self.folded(i - 1, &f);
             self.send(Part::Table(i), &self.subgroup.table(i, &g));
             let outs = self.read(Part::OutCoins(i));
             let replies: Vec<u64> = outs.iter().map(|&a| evaluate(field, &g, a)).collect();
@@ -183,14 +217,20 @@ impl Request {
             rounds.push(round);
         }
 
-        let fold_coin = self.read(Part::FoldCoin(self.sheet.rounds))[0];
-        self.send(Part::FinalCoefficients, &fold(field, &f, k, fold_coin));
+        let last = self.folded(self.sheet.rounds, &f);
+        self.send(Part::FinalCoefficients, &last);
         rounds
+    }
+
+    /// The fold of f_i by k_i and fold coin i.
+    fn folded(&self, i: usize, f: &[u64]) -> Vec<u64> {
+        let coin = self.read(Part::FoldCoin(i))[0];
+        fold(self.sheet.field, f, self.sheet.k[i], coin)
     }
 
     /// From g_i to f_i by long division; V_i leaves no remainder.
     fn correct(&self, i: usize, g: Vec<u64>) -> Round {
-        let (field, k) = (self.sheet.field, self.sheet.k);
+        let (field, k) = (self.sheet.field, self.sheet.k[i - 1]);
         let outs = self.read(Part::OutCoins(i)).into_iter();
         let shifts = self
             .read(Part::ShiftIndices(i))

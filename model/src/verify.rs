@@ -1,9 +1,10 @@
-//! The judge (document 01, "Verify, prove, encode").
+//! The judge (document 01, "Verify, prove, encode"), of both editions (document
+//! 02, CR 5).
 
 use crate::domain::Subgroup;
 use crate::layout::{Layout, Part};
 use crate::polynomial::{correction_at, evaluate, interpolate, interpolate_at, Pairs};
-use crate::sheet::{Sheet, SHEET_WORDS};
+use crate::sheet::{Edition, Sheet};
 use crate::stream::{first_wrong_check, read_word, BLOCK_BYTES, BLOCK_WORDS};
 use crate::Fault;
 
@@ -23,8 +24,19 @@ pub struct Verdict {
 
 /// Judges a file of any bytes.
 pub fn verify(file: &[u8]) -> Verdict {
+    verify_in(Edition::One, file)
+}
+
+/// The same for edition 2.
+pub fn verify_2(file: &[u8]) -> Verdict {
+    verify_in(Edition::Two, file)
+}
+
+pub fn verify_in(edition: Edition, file: &[u8]) -> Verdict {
     let mut reads = 0;
-    let judged = read_transcript(file).and_then(|transcript| transcript.decide(&mut reads));
+    let judged = read(edition, file)
+        .and_then(Transcript::new)
+        .and_then(|transcript| transcript.decide(&mut reads));
     let outcome = match judged {
         Ok(()) => Outcome::Accepted,
         Err(Fault { number, place }) => Outcome::Refused { number, place },
@@ -40,16 +52,15 @@ pub fn line(v: Verdict) -> String {
     }
 }
 
-/// A file that passed the tests 1 to 7, which use no table word.
-struct Transcript {
-    sheet: Sheet,
-    subgroup: Subgroup,
-    layout: Layout,
-    stream: Vec<u32>,
+/// A file that passed the tests 1 to 6: its stream is without the fill.
+pub(crate) struct Reading {
+    pub sheet: Sheet,
+    pub layout: Layout,
+    pub stream: Vec<u32>,
 }
 
-/// Tests 1 to 7 in order.
-fn read_transcript(file: &[u8]) -> Result<Transcript, Fault> {
+/// Tests 1 to 6 in order.
+pub(crate) fn read(edition: Edition, file: &[u8]) -> Result<Reading, Fault> {
     if file.is_empty() || !file.len().is_multiple_of(BLOCK_BYTES) {
         return Err(Fault::new(1, 0));
     }
@@ -57,8 +68,11 @@ fn read_transcript(file: &[u8]) -> Result<Transcript, Fault> {
         return Err(Fault::new(2, block));
     }
 
-    let words: [u32; SHEET_WORDS] = std::array::from_fn(|word| read_word(file, word));
-    let sheet = Sheet::read(&words).map_err(|place| Fault::new(3, place))?;
+    let words: Vec<u32> = (0..edition.sheet_words())
+        .map(|word| read_word(file, word))
+        .collect();
+    let sheet = Sheet::read_in(edition, &words).expect("as many words as the edition has");
+    let sheet = sheet.map_err(|place| Fault::new(3, place))?;
     let layout = Layout::new(&sheet);
     if file.len() / BLOCK_BYTES != layout.blocks() {
         return Err(Fault::new(4, layout.blocks()));
@@ -75,14 +89,8 @@ fn read_transcript(file: &[u8]) -> Result<Transcript, Fault> {
         return Err(Fault::new(6, word));
     }
     stream.truncate(due);
-
-    let subgroup = Subgroup::of(&sheet);
-    if let Some(word) = first_out_coin_in_domain(&subgroup, &layout, &stream) {
-        return Err(Fault::new(7, word));
-    }
-    Ok(Transcript {
+    Ok(Reading {
         sheet,
-        subgroup,
         layout,
         stream,
     })
@@ -141,7 +149,34 @@ fn join(pairs: impl Iterator<Item = (u64, u64)>) -> Option<Pairs> {
     Some(joined)
 }
 
+/// A file that passed the tests 1 to 7, which use no table word.
+struct Transcript {
+    sheet: Sheet,
+    subgroup: Subgroup,
+    layout: Layout,
+    stream: Vec<u32>,
+}
+
 impl Transcript {
+    /// Test 7.
+    fn new(reading: Reading) -> Result<Transcript, Fault> {
+        let Reading {
+            sheet,
+            layout,
+            stream,
+        } = reading;
+        let subgroup = Subgroup::of(&sheet);
+        if let Some(word) = first_out_coin_in_domain(&subgroup, &layout, &stream) {
+            return Err(Fault::new(7, word));
+        }
+        Ok(Transcript {
+            sheet,
+            subgroup,
+            layout,
+            stream,
+        })
+    }
+
     /// The elements of a part.
     fn elements(&self, part: Part) -> Vec<u64> {
         let words = &self.stream[self.layout.range(part)];
@@ -161,10 +196,11 @@ impl Transcript {
 
     /// Tests 8 and 9, counting the table words used.
     fn decide(&self, reads: &mut u64) -> Result<(), Fault> {
-        let k = self.sheet.k;
         // f_i over the whole of domain i, beginning with table 0.
         let mut f = self.elements(Part::Table(0));
         for i in 1..=self.sheet.rounds {
+            // The shift coins of round i fold f_(i-1), which has its own k.
+            let k = self.sheet.k[i - 1];
             let folds = self.folds(i - 1, &f);
             let shifts = self.indices(Part::ShiftIndices(i));
             *reads += (k * shifts.len()) as u64;
@@ -178,6 +214,7 @@ impl Transcript {
         }
 
         let last = self.sheet.rounds;
+        let k = self.sheet.k[last];
         let folds = self.folds(last, &f);
         let polynomial = self.elements(Part::FinalCoefficients);
         for (position, j) in self.indices(Part::FinalIndices).into_iter().enumerate() {
@@ -193,7 +230,7 @@ impl Transcript {
     /// The folds of f_i by fold coin i.
     fn folds(&self, i: usize, f: &[u64]) -> Vec<u64> {
         let coin = self.coin(Part::FoldCoin(i));
-        fold_table(&self.subgroup, i, f, self.sheet.k, coin)
+        fold_table(&self.subgroup, i, f, self.sheet.k[i], coin)
     }
 
     /// f_i over domain i: quotient of g_i, times the correction.

@@ -9,70 +9,79 @@ use tevrolig_model::generate::{aim, damage, sheet_up_to, Rng};
 /// Faults that leave sheet and length alone, each with a lower one added.
 #[test]
 fn the_lower_number_wins() {
-    let mut rng = Rng::new(77);
-    let mut pairs = 0;
-    for _ in 0..3000 {
-        let sheet = sheet_up_to(&mut rng, 64);
-        let mut file = honest(&mut rng, &sheet, false);
-        let high = 5 + rng.below(5) as u32;
-        let low = 1 + rng.below(u64::from(high) - 1) as u32;
-        if aim(&mut rng, &mut file, high) && aim(&mut rng, &mut file, low) {
-            pairs += 1;
-            // A small field may let a clash miss.
-            if low <= 7 {
-                assert_eq!(number(&file), low, "{low} before {high}");
+    for edition in Edition::BOTH {
+        let mut rng = Rng::new(77);
+        let mut pairs = 0;
+        for _ in 0..3000 {
+            let sheet = sheet_up_to(edition, &mut rng, 64);
+            let mut file = honest(&mut rng, &sheet, false);
+            let high = 5 + rng.below(5) as u32;
+            let low = 1 + rng.below(u64::from(high) - 1) as u32;
+            let mut aimed = |number| aim(edition, &mut rng, &mut file, number);
+            if aimed(high) && aimed(low) {
+                pairs += 1;
+                // A small field may let a clash miss.
+                if low <= 7 {
+                    assert_eq!(number(edition, &file), low, "{low} before {high}");
+                }
             }
         }
+        assert!(pairs > 1500, "{pairs}");
     }
-    assert!(pairs > 1500);
 }
 
 /// The same among the first four tests, by hand.
 #[test]
 fn the_first_tests_in_order() {
     let mut broken = changed(&hand_file(), &[(3, 7)]);
-    assert_eq!(judged(&broken), "refused 3 3 0");
+    assert_eq!(judged(One, &broken), "refused 3 3 0");
     broken.resize(1024, 0);
-    assert_eq!(judged(&broken), "refused 2 1 0");
-    assert_eq!(judged(&changed(&broken, &[])), "refused 3 3 0");
-    assert_eq!(judged(&changed(&broken, &[(3, 2)])), "refused 4 1 0");
+    assert_eq!(judged(One, &broken), "refused 2 1 0");
+    assert_eq!(judged(One, &changed(&broken, &[])), "refused 3 3 0");
+    assert_eq!(judged(One, &changed(&broken, &[(3, 2)])), "refused 4 1 0");
     broken.push(0);
-    assert_eq!(judged(&broken), "refused 1 0 0");
-    assert_eq!(judged(&changed(&broken, &[])), "refused 1 0 0");
+    assert_eq!(judged(One, &broken), "refused 1 0 0");
+    assert_eq!(judged(One, &changed(&broken, &[])), "refused 1 0 0");
 }
 
 #[test]
 fn damage_hits_what_it_aims_at() {
-    let mut rng = Rng::new(78);
-    let mut seen = [0; 10];
-    let mut missed = 0;
-    for _ in 0..20_000 {
-        let sheet = sheet_up_to(&mut rng, 32);
-        let hostile = rng.one_in(2);
-        let mut file = honest(&mut rng, &sheet, hostile);
-        let aimed = damage(&mut rng, &mut file);
-        let found = number(&file);
-        seen[found as usize] += 1;
-        match aimed {
-            Some(aimed) if aimed <= 7 => assert_eq!(found, aimed),
-            Some(aimed) => missed += u32::from(found != aimed),
-            None => {}
+    for (edition, most_n0) in [(One, 32), (Two, 64)] {
+        let mut rng = Rng::new(78);
+        let mut seen = [0; 10];
+        let mut missed = 0;
+        for _ in 0..20_000 {
+            let sheet = sheet_up_to(edition, &mut rng, most_n0);
+            let hostile = rng.one_in(2);
+            let mut file = honest(&mut rng, &sheet, hostile);
+            let aimed = damage(edition, &mut rng, &mut file);
+            let found = number(edition, &file);
+            seen[found as usize] += 1;
+            match aimed {
+                Some(aimed) if aimed <= 7 => assert_eq!(found, aimed),
+                Some(aimed) => missed += u32::from(found != aimed),
+                None => {}
+            }
         }
+        assert!(seen.iter().all(|&count| count > 100), "{seen:?}");
+        assert!(missed < 1500, "{missed}");
     }
-    assert!(seen.iter().all(|&count| count > 100), "{seen:?}");
-    assert!(missed < 1500, "{missed}");
 }
 
-/// Damage over damage, from any state of the file.
+/// Damage over damage, from any state of the file, also as if it were of the other
+/// edition.
 #[test]
 fn damage_takes_any_file() {
     let mut rng = Rng::new(79);
     for _ in 0..5000 {
-        let sheet = sheet_up_to(&mut rng, 32);
+        let edition = rng.pick(&Edition::BOTH);
+        let sheet = sheet_up_to(edition, &mut rng, 32);
         let mut file = honest(&mut rng, &sheet, true);
         for _ in 0..4 {
-            damage(&mut rng, &mut file);
-            judged(&file);
+            let edition = rng.pick(&[edition, edition, One, Two]);
+            damage(edition, &mut rng, &mut file);
+            judged(One, &file);
+            judged(Two, &file);
         }
     }
 }

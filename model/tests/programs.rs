@@ -6,7 +6,9 @@ use common::*;
 use std::collections::BTreeMap;
 use std::io::Write;
 use std::process::{Command, Stdio};
+use tevrolig_model::convert::convert_to;
 use tevrolig_model::load::{Generator, WORKED_SHEET};
+use tevrolig_model::Answer;
 
 /// What model-check prints for an input.
 fn check(input: &[u8]) -> String {
@@ -54,7 +56,7 @@ fn check_judges_the_first_65536_bytes() {
     let mut long = changed(&long, &[]);
     assert_eq!(check(&long), "refused 4 1 0\n");
     long.extend([1, 2, 3]);
-    assert_eq!(judged(&long), "refused 1 0 0");
+    assert_eq!(judged(One, &long), "refused 1 0 0");
     assert_eq!(check(&long), "refused 4 1 0\n");
 }
 
@@ -68,7 +70,7 @@ fn definition_cases_are_small_and_of_every_kind() {
     for case in text.lines() {
         let (hexadecimal, verdict) = case.split_once(' ').unwrap();
         let file = bytes(hexadecimal);
-        assert_eq!(judged(&file), verdict);
+        assert_eq!(judged(One, &file), verdict);
         assert!(file.len() <= 1024);
         empty += usize::from(file.is_empty());
         let kind = verdict.split(' ').nth(1).unwrap();
@@ -84,6 +86,61 @@ fn definition_cases_are_small_and_of_every_kind() {
     assert!(kinds.values().all(|&count| count >= 15), "{kinds:?}");
     assert!((200..=350).contains(&kinds["0"]), "{kinds:?}");
     assert!(fields.iter().all(|&count| count >= 60), "{fields:?}");
+}
+
+#[test]
+fn definition_cases_of_edition_2() {
+    let text = cases(&["9", "800", "edition2"]);
+    let mut kinds: BTreeMap<String, usize> = BTreeMap::new();
+    let mut differing = 0;
+    for case in text.lines() {
+        let (hexadecimal, verdict) = case.split_once(' ').unwrap();
+        let file = bytes(hexadecimal);
+        assert_eq!(judged(Two, &file), verdict);
+        assert!(file.len() <= 1024);
+        let kind = verdict.split(' ').nth(1).unwrap();
+        *kinds.entry(kind.to_string()).or_default() += 1;
+        if kind == "0" && file[16] > 0 {
+            // k_0 and k_1.
+            differing += usize::from(file[12] != file[48]);
+        }
+    }
+    assert_eq!(text.lines().count(), 800);
+    assert_eq!(kinds.len(), 10);
+    assert!(kinds.values().all(|&count| count >= 15), "{kinds:?}");
+    assert!(differing >= 40, "{differing}");
+}
+
+#[test]
+fn conversions_are_small_and_of_every_kind() {
+    let text = cases(&["9", "1000", "convert"]);
+    assert_eq!(text.lines().count(), 1000);
+    let mut kinds: BTreeMap<(String, String), usize> = BTreeMap::new();
+    for case in text.lines() {
+        let parts: Vec<&str> = case.split(' ').collect();
+        let &[edition, file, length, answer, number, place, after] = &parts[..] else {
+            panic!("{case}");
+        };
+        let (file, after) = (bytes(file), bytes(after));
+        let mut output = vec![165; length.parse().unwrap()];
+        let to = if edition == "2" { Two } else { One };
+        let said = convert_to(to, &file, &mut output);
+        let (number_said, place_said) = match said {
+            Answer::Done(blocks) => (0, blocks),
+            Answer::Refused { number, place } => (number, place),
+        };
+        assert_eq!(
+            (number, place),
+            (&*number_said.to_string(), &*place_said.to_string())
+        );
+        assert_eq!(answer == "done", number == "0");
+        assert_eq!(output, after);
+        assert!(file.len() <= 1024 && after.len() <= 1024);
+        *kinds.entry((edition.into(), number.into())).or_default() += 1;
+    }
+    // 1 to 6, 11 and done both ways, and 13 to edition 1.
+    assert_eq!(kinds.len(), 17, "{kinds:?}");
+    assert!(kinds.values().all(|&count| count >= 10), "{kinds:?}");
 }
 
 #[test]

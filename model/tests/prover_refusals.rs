@@ -1,19 +1,27 @@
-//! Every refusal of prove and encode, their order, and what stays untouched.
+//! Every refusal of prove, in both editions, and of encode, their order, and what
+//! stays untouched.
 
 mod common;
 
 use common::*;
 use tevrolig_model::generate::{self, Rng};
-use tevrolig_model::{encode, prove, Answer};
+use tevrolig_model::prove::prove_in;
+use tevrolig_model::{encode, Answer};
 
-/// Two rounds over field 1: k = 2, s = 2, t = 4 3 5.
-const TWO_ROUNDS: [u32; 12] = [1, 256, 64, 2, 2, 2, 4, 3, 5, 0, 0, 0];
+/// Room for every file.
+const ROOM: usize = 512 * 67;
 
 /// Proves into an output of any length and tests that a refusal left it alone.
-fn proved(sheet: &[u32], coefficients: &[u32], coins: &[u32], length: usize) -> (u32, u64) {
+fn proved(
+    edition: Edition,
+    sheet: &[u32],
+    coefficients: &[u32],
+    coins: &[u32],
+    length: usize,
+) -> (u32, u64) {
     let mut output: Vec<u8> = (0..length).map(|i| (i % 251) as u8).collect();
     let before = output.clone();
-    match prove(sheet, coefficients, coins, &mut output) {
+    match prove_in(edition, sheet, coefficients, coins, &mut output) {
         Answer::Done(blocks) => {
             let end = 512 * blocks as usize;
             assert_eq!(output[end..], before[end..]);
@@ -43,142 +51,191 @@ fn encoded(sheet: &[u32], coefficients: &[u32], length: usize) -> (u32, u64) {
     }
 }
 
-/// A list with one word replaced.
-fn with(list: &[u32], at: usize, word: u32) -> Vec<u32> {
-    let mut list = list.to_vec();
-    list[at] = word;
-    list
+/// What prove says of a sample's order with another list.
+trait Proves {
+    fn with_sheet(&self, sheet: &[u32], length: usize) -> (u32, u64);
+    fn with_lists(&self, coefficients: &[u32], coins: &[u32], length: usize) -> (u32, u64);
 }
 
-fn request() -> (Vec<u32>, Vec<u32>) {
-    let mut rng = Rng::new(21);
-    let coefficients = generate::coefficients(&mut rng, &TWO_ROUNDS);
-    let coins = generate::coins(&mut rng, &TWO_ROUNDS, false);
-    (coefficients, coins)
+impl Proves for Sample {
+    fn with_sheet(&self, sheet: &[u32], length: usize) -> (u32, u64) {
+        proved(self.edition, sheet, &self.coefficients, &self.coins, length)
+    }
+
+    fn with_lists(&self, coefficients: &[u32], coins: &[u32], length: usize) -> (u32, u64) {
+        proved(self.edition, self.words, coefficients, coins, length)
+    }
+}
+
+/// The list without its first word, without any, and with one more.
+fn other_lengths(list: &[u32]) -> [Vec<u32>; 3] {
+    [Vec::new(), list[1..].to_vec(), [list, &[0]].concat()]
 }
 
 #[test]
 fn prove_lengths_10() {
-    let (coefficients, coins) = request();
-    // 1 + (2 + 2 + 4) + (2 + 2 + 3) + 5.
-    assert_eq!(coins.len(), 21);
-    let short = |length: usize| proved(&TWO_ROUNDS[..length], &[], &[], 0);
-    assert_eq!(short(0), (10, 0));
-    assert_eq!(short(11), (10, 0));
-    let long = [&TWO_ROUNDS[..], &[0]].concat();
-    assert_eq!(proved(&long, &coefficients, &coins, 5000), (10, 0));
-
-    let longer = [&coefficients[..], &[0]].concat();
-    for list in [&[], &coefficients[1..], &longer[..]] {
-        assert_eq!(proved(&TWO_ROUNDS, list, &[], 0), (10, 1));
-        assert_eq!(proved(&TWO_ROUNDS, list, &coins, 5000), (10, 1));
+    let counts = [
+        1 + (2 + 2 + 4) + (2 + 2 + 3) + 5,
+        1 + (2 + 2 + 3) + (2 + 2 + 2) + 4,
+    ];
+    for (sample, count) in samples().iter().zip(counts) {
+        let (coefficients, coins) = (&sample.coefficients, &sample.coins);
+        assert_eq!(coins.len(), count);
+        for length in 0..30 {
+            let mut sheet = sample.words.to_vec();
+            sheet.resize(length, 0);
+            if length != sample.words.len() {
+                assert_eq!(sample.with_sheet(&sheet, ROOM), (10, 0));
+                assert_eq!(proved(sample.edition, &sheet, &[], &[], 0), (10, 0));
+            }
+        }
+        for list in other_lengths(coefficients) {
+            assert_eq!(sample.with_lists(&list, &[], 0), (10, 1));
+            assert_eq!(sample.with_lists(&list, coins, ROOM), (10, 1));
+        }
+        let wrong = with(coefficients, &[(0, u32::MAX)]);
+        for list in other_lengths(coins) {
+            assert_eq!(sample.with_lists(coefficients, &list, 0), (10, 2));
+            assert_eq!(sample.with_lists(&wrong, &list, ROOM), (10, 2));
+        }
     }
-    let longer = [&coins[..], &[0]].concat();
-    for list in [&[], &coins[1..], &longer[..]] {
-        assert_eq!(proved(&TWO_ROUNDS, &coefficients, list, 0), (10, 2));
-        let wrong = with(&coefficients, 0, u32::MAX);
-        assert_eq!(proved(&TWO_ROUNDS, &wrong, list, 5000), (10, 2));
-    }
+    // A sheet of one edition is none of the other.
+    let [one, two] = samples();
+    assert_eq!(one.with_sheet(two.words, ROOM), (10, 0));
+    assert_eq!(two.with_sheet(one.words, ROOM), (10, 0));
 }
 
 #[test]
 fn prove_sheet_3() {
-    let (coefficients, coins) = request();
-    for (place, word) in [
-        (0, 3),
-        (1, 5),
-        (3, 64),
-        (6, 30),
-        (8, 49),
-        (8, 64),
-        (8, 65),
-        (11, 1),
-    ] {
-        let sheet = with(&TWO_ROUNDS, place, word);
-        let expected = (3, place as u64);
-        assert_eq!(proved(&sheet, &coefficients, &coins, 5000), expected);
-        assert_eq!(proved(&sheet, &[], &[], 0), expected);
-        assert_eq!(encoded(&sheet, &coefficients, 5000), expected);
-        assert_eq!(encoded(&sheet, &[], 0), expected);
+    let faults: [&[(usize, u32)]; 2] = [
+        &[(0, 3), (1, 5), (3, 64), (6, 30), (8, 49), (8, 65), (11, 1)],
+        &[
+            (0, 3),
+            (3, 0),
+            (4, 6),
+            (12, 32),
+            (13, 16),
+            (14, 2),
+            (17, 1),
+            (6, 30),
+            (9, 1),
+        ],
+    ];
+    for (sample, faults) in samples().iter().zip(faults) {
+        for &fault in faults {
+            let sheet = with(sample.words, &[fault]);
+            let expected = (3, fault.0 as u64);
+            assert_eq!(sample.with_sheet(&sheet, ROOM), expected);
+            assert_eq!(proved(sample.edition, &sheet, &[], &[], 0), expected);
+            let late = with(&sheet, &[(11, 1)]);
+            assert_eq!(proved(sample.edition, &late, &[], &[], 0), expected);
+            if sample.edition == One {
+                assert_eq!(encoded(&sheet, &sample.coefficients, 5000), expected);
+                assert_eq!(encoded(&sheet, &[], 0), expected);
+            }
+        }
     }
 }
 
 #[test]
 fn prove_range_5() {
-    let (coefficients, coins) = request();
     let p = 65537;
-    for at in [0, 31, 63] {
-        let wrong = with(&coefficients, at, p);
-        let expected = (5, at as u64);
-        assert_eq!(proved(&TWO_ROUNDS, &wrong, &coins, 5000), expected);
-        let coins = with(&coins, 0, p);
-        assert_eq!(proved(&TWO_ROUNDS, &wrong, &coins, 0), expected);
-    }
-    // Fold; out, out, combination, fold, 4 shifts; out, out, combination, fold, 3 shifts; 5 final.
-    let mut limits = vec![p, p, p, p, p, 128, 128, 128, 128];
-    limits.extend([p, p, p, p, 64, 64, 64, 32, 32, 32, 32, 32]);
-    for (at, limit) in limits.into_iter().enumerate() {
-        for word in [limit, limit + 1, u32::MAX] {
-            let wrong = with(&coins, at, word);
-            let expected = (5, 64 + at as u64);
-            assert_eq!(proved(&TWO_ROUNDS, &coefficients, &wrong, 5000), expected);
-            assert_eq!(proved(&TWO_ROUNDS, &coefficients, &wrong, 0), expected);
+    // Fold; out, out, combination, fold, shifts; the same again; final.
+    let limits = [
+        [&[p; 5][..], &[128; 4], &[p; 4], &[64; 3], &[32; 5]],
+        [&[p; 5], &[64; 3], &[p; 4], &[128; 2], &[128; 4]],
+    ];
+    for (sample, limits) in samples().iter().zip(limits) {
+        let (coefficients, coins) = (&sample.coefficients, &sample.coins);
+        let count = coefficients.len();
+        for at in [0, count / 2, count - 1] {
+            let wrong = with(coefficients, &[(at, p)]);
+            let expected = (5, at as u64);
+            assert_eq!(sample.with_lists(&wrong, coins, ROOM), expected);
+            let coins = with(coins, &[(0, p)]);
+            assert_eq!(sample.with_lists(&wrong, &coins, 0), expected);
         }
-        if limit < p {
-            let right = with(&coins, at, limit - 1);
-            let blocks = layout(&TWO_ROUNDS).blocks() as u64;
-            assert_eq!(
-                proved(&TWO_ROUNDS, &coefficients, &right, 5000),
-                (0, blocks)
-            );
+        let limits = limits.concat();
+        assert_eq!(limits.len(), coins.len());
+        for (at, limit) in limits.into_iter().enumerate() {
+            for word in [limit, limit + 1, u32::MAX] {
+                let wrong = with(coins, &[(at, word)]);
+                let expected = (5, (count + at) as u64);
+                assert_eq!(sample.with_lists(coefficients, &wrong, ROOM), expected);
+                assert_eq!(sample.with_lists(coefficients, &wrong, 0), expected);
+            }
+            if limit < p {
+                let right = with(coins, &[(at, limit - 1)]);
+                let blocks = sample.layout.blocks() as u64;
+                let done = sample.with_lists(coefficients, &right, ROOM);
+                assert_eq!(done, (0, blocks));
+            }
         }
     }
 }
 
 #[test]
 fn prove_out_coin_7() {
-    let (coefficients, coins) = request();
-    let sheet = tevrolig_model::sheet::Sheet::read(&TWO_ROUNDS).unwrap();
-    let subgroup = tevrolig_model::domain::Subgroup::of(&sheet);
-    for (i, at) in [(1, 1), (1, 2), (2, 9), (2, 10)] {
-        let point = subgroup.point(i, 5) as u32;
-        let wrong = with(&coins, at, point);
-        let expected = (7, at as u64);
-        assert_eq!(proved(&TWO_ROUNDS, &coefficients, &wrong, 5000), expected);
-        // Before 11, and the first counts.
-        assert_eq!(proved(&TWO_ROUNDS, &coefficients, &wrong, 0), expected);
-        let two = with(&wrong, 10, subgroup.point(2, 0) as u32);
-        assert_eq!(proved(&TWO_ROUNDS, &coefficients, &two, 0), expected);
-        // All ranges come before any 7.
-        let late = with(&wrong, 20, 32);
-        assert_eq!(proved(&TWO_ROUNDS, &coefficients, &late, 0), (5, 84));
+    // The positions of the out coins of round 1 and of round 2, and a final index that
+    // is too large.
+    let places = [
+        ([(1, 1), (1, 2), (2, 9), (2, 10)], (20, 32)),
+        ([(1, 1), (1, 2), (2, 8), (2, 9)], (17, 128)),
+    ];
+    for (sample, (places, late)) in samples().iter().zip(places) {
+        let Sample {
+            coefficients,
+            coins,
+            subgroup,
+            ..
+        } = sample;
+        let second = (places[3].1, subgroup.point(2, 0) as u32);
+        for (i, at) in places {
+            let wrong = with(coins, &[(at, subgroup.point(i, 5) as u32)]);
+            let expected = (7, at as u64);
+            assert_eq!(sample.with_lists(coefficients, &wrong, ROOM), expected);
+            // Before 11, and the first counts.
+            assert_eq!(sample.with_lists(coefficients, &wrong, 0), expected);
+            let two = with(&wrong, &[second]);
+            assert_eq!(sample.with_lists(coefficients, &two, 0), expected);
+            // All ranges come before any 7.
+            let above = with(&wrong, &[late]);
+            let expected = (5, (coefficients.len() + late.0) as u64);
+            assert_eq!(sample.with_lists(coefficients, &above, 0), expected);
+        }
     }
 }
 
 #[test]
 fn prove_output_11() {
-    let (coefficients, coins) = request();
-    let blocks = layout(&TWO_ROUNDS).blocks();
-    let due = blocks as u64;
-    for length in [0, 1, 512, 512 * blocks - 1] {
-        let answer = proved(&TWO_ROUNDS, &coefficients, &coins, length);
-        assert_eq!(answer, (11, due));
+    for (sample, blocks) in samples().iter().zip([4, 15]) {
+        let (coefficients, coins) = (&sample.coefficients, &sample.coins);
+        let due = blocks as u64;
+        for length in [0, 1, 512, 512 * blocks - 1] {
+            let answer = sample.with_lists(coefficients, coins, length);
+            assert_eq!(answer, (11, due));
+        }
+        for length in [512 * blocks, 512 * blocks + 1, 512 * blocks + 2000] {
+            let answer = sample.with_lists(coefficients, coins, length);
+            assert_eq!(answer, (0, due));
+        }
     }
-    for length in [512 * blocks, 512 * blocks + 1, 512 * blocks + 2000] {
-        let answer = proved(&TWO_ROUNDS, &coefficients, &coins, length);
-        assert_eq!(answer, (0, due));
+    for (edition, sheet) in [(One, &SHEET[..]), (Two, &SHEET_2)] {
+        let answer = |length| proved(edition, sheet, &COEFFICIENTS, &COINS, length);
+        assert_eq!(answer(511), (11, 1));
+        assert_eq!(answer(512), (0, 1));
     }
-    assert_eq!(proved(&SHEET, &COEFFICIENTS, &COINS, 511), (11, 1));
-    assert_eq!(proved(&SHEET, &COEFFICIENTS, &COINS, 512), (0, 1));
 }
 
 #[test]
 fn encode_refusals() {
-    let (coefficients, _) = request();
+    let [Sample { coefficients, .. }, _] = samples();
     assert_eq!(encoded(&[], &coefficients, 256), (10, 0));
     assert_eq!(encoded(&TWO_ROUNDS[..11], &[], 0), (10, 0));
     let long = [&TWO_ROUNDS[..], &[0]].concat();
     assert_eq!(encoded(&long, &coefficients, 256), (10, 0));
+    // Encode keeps the sheet of edition 1.
+    assert_eq!(encoded(&SHEET_2, &COEFFICIENTS, 256), (10, 0));
 
     let longer = [&coefficients[..], &[u32::MAX]].concat();
     for list in [&[], &coefficients[1..], &longer[..]] {
@@ -186,7 +243,7 @@ fn encode_refusals() {
         assert_eq!(encoded(&TWO_ROUNDS, list, 0), (10, 1));
     }
     for at in [0, 40, 63] {
-        let wrong = with(&with(&coefficients, 63, u32::MAX), at, 65537);
+        let wrong = with(&coefficients, &[(63, u32::MAX), (at, 65537)]);
         assert_eq!(encoded(&TWO_ROUNDS, &wrong, 256), (5, at as u64));
         assert_eq!(encoded(&TWO_ROUNDS, &wrong, 0), (5, at as u64));
     }
@@ -202,26 +259,21 @@ fn encode_refusals() {
 /// written but what is announced.
 #[test]
 fn any_lists_get_an_answer() {
-    let mut rng = Rng::new(22);
-    let mut done = 0;
-    for _ in 0..5000 {
-        let mut sheet = generate::sheet_up_to(&mut rng, 32).to_vec();
-        let known: [u32; 12] = sheet[..].try_into().unwrap();
-        let mut coefficients = generate::coefficients(&mut rng, &known);
-        let mut coins = generate::coins(&mut rng, &known, true);
-        for list in [&mut sheet, &mut coefficients, &mut coins] {
-            let at = rng.place(list.len());
-            match rng.below(12) {
-                0 => list.truncate(at),
-                1 => list.push(0),
-                2 => list[at] = rng.word(),
-                3 => list[at] = list[at].wrapping_add(1),
-                _ => {}
+    for edition in Edition::BOTH {
+        let mut rng = Rng::new(22);
+        let mut done = 0;
+        for _ in 0..5000 {
+            let mut sheet = generate::sheet_up_to(edition, &mut rng, 32);
+            let mut coefficients = generate::coefficients(&mut rng, &sheet);
+            let mut coins = generate::coins(&mut rng, &sheet, true);
+            for list in [&mut sheet, &mut coefficients, &mut coins] {
+                generate::disturb(&mut rng, list);
             }
+            let length = rng.pick(&[0, 511, 512, 1024, 1500]);
+            let answer = proved(edition, &sheet, &coefficients, &coins, length);
+            done += usize::from(answer.0 == 0);
+            encoded(&sheet, &coefficients, length / 30);
         }
-        let length = rng.pick(&[0, 511, 512, 1024, 1500]);
-        done += usize::from(proved(&sheet, &coefficients, &coins, length).0 == 0);
-        encoded(&sheet, &coefficients, length / 30);
+        assert!(done > 500, "{done}");
     }
-    assert!(done > 500, "{done}");
 }

@@ -1,16 +1,19 @@
 //! Verify, prove and encode in the archive beside the same algorithms in Rust, in one run: ratios first.
 //!
 //! Two baselines take turns with the archive: plain Rust, and Rust tuned by hand (one remainder for a product and a sum, two points in one
-//! walk); and of verify a third, by the coefficient lists of the proved code. Each figure is the least time of a call over several rounds. With an argument the rows for the plots
-//! are written to that folder, as `verify.rows`, `prove.rows` and `encode.rows`.
+//! walk); and of verify a third, by the coefficient lists of the proved code. Each figure is the least time of a call over several rounds.
+//! With an argument the rows for the plots are written to that folder, as `verify.rows`, `prove.rows` and `encode.rows`.
 
 use std::fmt::Write as _;
 use std::hint::black_box;
 use std::path::PathBuf;
 use std::time::Instant;
-use tevrolig_model::baseline;
+use tevrolig::edition2;
+use tevrolig_model::baseline::{self, Lists, Newton};
 use tevrolig_model::generate::{self, Rng};
+use tevrolig_model::sheet::Edition;
 use tevrolig_model::stream;
+use tevrolig_model::verify::verify_in;
 
 /// The least time of one call in microseconds, for each of the functions, which take turns.
 fn least<const N: usize>(calls: usize, mut work: [&mut dyn FnMut(); N]) -> [f64; N] {
@@ -29,19 +32,21 @@ fn least<const N: usize>(calls: usize, mut work: [&mut dyn FnMut(); N]) -> [f64;
 
 /// What a sheet's honest run needs.
 struct Order {
-    sheet: [u32; 12],
+    edition: Edition,
+    sheet: Vec<u32>,
     coefficients: Vec<u32>,
     coins: Vec<u32>,
     file: Vec<u8>,
 }
 
 impl Order {
-    fn new(sheet: &[u32; 12]) -> Self {
+    fn new(sheet: &[u32]) -> Self {
         let mut rng = Rng::new(7);
         let coefficients = generate::coefficients(&mut rng, sheet);
         let coins = generate::coins(&mut rng, sheet, false);
         Order {
-            sheet: *sheet,
+            edition: Edition::of(sheet).expect("a sheet"),
+            sheet: sheet.to_vec(),
             file: generate::honest_file(sheet, &coefficients, &coins),
             coefficients,
             coins,
@@ -53,56 +58,63 @@ impl Order {
     }
 
     fn verify(&self) -> [f64; 4] {
-        let file = self.file.as_slice();
-        assert_eq!(tevrolig::verify(file).outcome, tevrolig::Outcome::Accepted);
-        let verdict = tevrolig_model::verify(file);
-        assert_eq!(baseline::verify::verify::<false>(file), verdict);
-        assert_eq!(baseline::lists::verify(file), verdict);
+        let (edition, file) = (self.edition, self.file.as_slice());
+        let proved = match edition {
+            Edition::One => tevrolig::verify,
+            Edition::Two => edition2::verify,
+        };
+        let [plain, tuned, lists] = [
+            baseline::verify::<Newton, false>,
+            baseline::verify::<Newton, true>,
+            baseline::verify::<Lists, true>,
+        ];
+        assert_eq!(proved(file).outcome, tevrolig::Outcome::Accepted);
+        let verdict = verify_in(edition, file);
+        for baseline in [plain, tuned, lists] {
+            assert_eq!(baseline(edition, file), verdict);
+        }
         least(
             self.calls(),
             [
                 &mut || {
-                    black_box(tevrolig::verify(black_box(file)));
+                    black_box(proved(black_box(file)));
                 },
                 &mut || {
-                    black_box(baseline::verify::verify::<false>(black_box(file)));
+                    black_box(plain(edition, black_box(file)));
                 },
                 &mut || {
-                    black_box(baseline::verify::verify::<true>(black_box(file)));
+                    black_box(tuned(edition, black_box(file)));
                 },
                 &mut || {
-                    black_box(baseline::lists::verify(black_box(file)));
+                    black_box(lists(edition, black_box(file)));
                 },
             ],
         )
     }
 
     fn prove(&self) -> [f64; 3] {
-        let (sheet, f, coins) = (&self.sheet, &self.coefficients, &self.coins);
+        let (edition, sheet) = (self.edition, self.sheet.as_slice());
+        let (f, coins) = (self.coefficients.as_slice(), self.coins.as_slice());
+        let prove = match edition {
+            Edition::One => tevrolig::prove,
+            Edition::Two => edition2::prove,
+        };
         let mut outputs = [vec![0; 34304], vec![0; 34304], vec![0; 34304]];
         let [proved, plain, tuned] = &mut outputs;
         let best = least(
             self.calls() / 2 + 1,
             [
                 &mut || {
-                    let answer = tevrolig::prove(black_box(sheet), f, coins, proved);
+                    let answer = prove(black_box(sheet), f, coins, proved);
                     black_box(answer.expect("an honest order"));
                 },
                 &mut || {
-                    black_box(baseline::prove::prove::<false>(
-                        black_box(sheet),
-                        f,
-                        coins,
-                        plain,
-                    ));
+                    let sheet = black_box(sheet);
+                    black_box(baseline::prove::<false>(edition, sheet, f, coins, plain));
                 },
                 &mut || {
-                    black_box(baseline::prove::prove::<true>(
-                        black_box(sheet),
-                        f,
-                        coins,
-                        tuned,
-                    ));
+                    let sheet = black_box(sheet);
+                    black_box(baseline::prove::<true>(edition, sheet, f, coins, tuned));
                 },
             ],
         );
@@ -113,7 +125,7 @@ impl Order {
     }
 
     fn encode(&self) -> [f64; 3] {
-        let (sheet, f) = (&self.sheet, &self.coefficients);
+        let (sheet, f) = (self.sheet.as_slice(), self.coefficients.as_slice());
         let mut outputs = [vec![0; 4096], vec![0; 4096], vec![0; 4096]];
         let [proved, plain, tuned] = &mut outputs;
         let best = least(
@@ -124,10 +136,10 @@ impl Order {
                     black_box(answer.expect("an honest order"));
                 },
                 &mut || {
-                    black_box(baseline::prove::encode::<false>(black_box(sheet), f, plain));
+                    black_box(baseline::encode::<false>(black_box(sheet), f, plain));
                 },
                 &mut || {
-                    black_box(baseline::prove::encode::<true>(black_box(sheet), f, tuned));
+                    black_box(baseline::encode::<true>(black_box(sheet), f, tuned));
                 },
             ],
         );
@@ -168,23 +180,27 @@ fn main() {
     let folder = std::env::args().nth(1).map(PathBuf::from);
     println!("ratio to Rust            microseconds a call");
     println!("plain tuned lists     proved     plain     tuned     lists   bytes  sheet");
-    let named = [
-        [2, 4096, 2048, 2, 5, 2, 48, 48, 48, 48, 48, 48],
-        [2, 4096, 2048, 16, 1, 2, 48, 48, 0, 0, 0, 0],
-        [2, 4096, 512, 4, 2, 2, 36, 27, 22, 0, 0, 0],
-        [2, 1024, 256, 4, 2, 2, 20, 9, 12, 0, 0, 0],
-        [1, 256, 128, 4, 2, 2, 9, 5, 7, 0, 0, 0],
-        [0, 16, 8, 2, 1, 1, 1, 1, 0, 0, 0, 0],
+    #[rustfmt::skip]
+    let named: [&[u32]; 7] = [
+        &[2, 4096, 2048, 2, 5, 2, 48, 48, 48, 48, 48, 48],
+        &[2, 4096, 2048, 16, 1, 2, 48, 48, 0, 0, 0, 0],
+        &[2, 4096, 2048, 16, 2, 2, 48, 29, 48, 0, 0, 0, 4, 2, 0, 0, 0, 2],
+        &[2, 4096, 512, 4, 2, 2, 36, 27, 22, 0, 0, 0],
+        &[2, 1024, 256, 4, 2, 2, 20, 9, 12, 0, 0, 0],
+        &[1, 256, 128, 4, 2, 2, 9, 5, 7, 0, 0, 0],
+        &[0, 16, 8, 2, 1, 1, 1, 1, 0, 0, 0, 0],
     ];
-    for sheet in &named {
+    for sheet in named {
         let order = Order::new(sheet);
         show("verify ", &order, &order.verify());
         show("prove  ", &order, &order.prove());
-        show("encode ", &order, &order.encode());
+        if order.edition == Edition::One {
+            show("encode ", &order, &order.encode());
+        }
     }
 
     // What the pass over the file and its ranges takes: a file whose first out coin lies in its domain is refused right after it.
-    let mut order = Order::new(&named[0]);
+    let mut order = Order::new(named[0]);
     let whole = order.verify()[0];
     stream::write_word(&mut order.file, 12 + 4096 + 1 + 2048, 1282623253);
     stream::write_checks(&mut order.file);

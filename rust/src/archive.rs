@@ -3,9 +3,34 @@
 //! Every pointer that the crate hands over comes from a slice or a reference, so it is aligned, not null and lent for the call, and what
 //! is written overlaps nothing else; a slice without elements has such a pointer too.
 
+/// Judges a file in one of the editions: number, place and reads.
+pub type Verify = unsafe extern "C" fn(*const u8, usize, &mut u64, &mut u64) -> u32;
+
+/// Proves an order in one of the editions: sheet, coefficients, coins and output, each with its length, and the value.
+pub type Prove = unsafe extern "C" fn(
+    *const u32,
+    usize,
+    *const u32,
+    usize,
+    *const u32,
+    usize,
+    *mut u8,
+    usize,
+    &mut u64,
+) -> u32;
+
+/// Converts a file: file and output, each with its length, and the value.
+pub type Convert = unsafe extern "C" fn(*const u8, usize, *mut u8, usize, &mut u64) -> u32;
+
 extern "C" {
     pub fn tevrolig_verify(file: *const u8, length: usize, place: &mut u64, reads: &mut u64)
         -> u32;
+    pub fn tevrolig_verify_2(
+        file: *const u8,
+        length: usize,
+        place: &mut u64,
+        reads: &mut u64,
+    ) -> u32;
 
     pub fn tevrolig_word(file: *const u8, length: usize, number: u64, word: &mut u32) -> u32;
 
@@ -36,6 +61,33 @@ extern "C" {
         coefficients_length: usize,
         coins: *const u32,
         coins_length: usize,
+        output: *mut u8,
+        output_length: usize,
+        value: &mut u64,
+    ) -> u32;
+
+    pub fn tevrolig_prove_2(
+        sheet: *const u32,
+        sheet_length: usize,
+        coefficients: *const u32,
+        coefficients_length: usize,
+        coins: *const u32,
+        coins_length: usize,
+        output: *mut u8,
+        output_length: usize,
+        value: &mut u64,
+    ) -> u32;
+
+    pub fn tevrolig_to_edition_2(
+        file: *const u8,
+        length: usize,
+        output: *mut u8,
+        output_length: usize,
+        value: &mut u64,
+    ) -> u32;
+    pub fn tevrolig_to_edition_1(
+        file: *const u8,
+        length: usize,
         output: *mut u8,
         output_length: usize,
         value: &mut u64,

@@ -23,8 +23,13 @@
 //! assert_eq!(verify(&file).outcome.result(), Err(Refusal::Final { position: 0 }));
 //! assert_eq!(word(&file, 42), Some(15));
 //! ```
+//!
+//! What stands here is for files of edition 1. [`edition2`] has verify and prove for edition 2, with a folding number for each round, and
+//! [`convert`] the way from one to the other.
 
 mod archive;
+pub mod convert;
+pub mod edition2;
 mod field;
 mod order;
 mod verdict;
@@ -45,11 +50,11 @@ pub const BLOCK_WORDS: usize = 127;
 /// Words of the sheet.
 pub const SHEET_WORDS: usize = 12;
 
-/// No file with more blocks is accepted, and no order needs more.
+/// No file with more blocks is accepted, and no order and no file that is converted needs more.
 pub const MAX_BLOCKS: usize = 67;
 
-/// What document 01 calls the words of the sheet.
-const SHEET_NAMES: [&str; SHEET_WORDS] = [
+/// What the documents call the words of the sheet; the last six are of edition 2 alone.
+const SHEET_NAMES: [&str; edition2::SHEET_WORDS] = [
     "the field",
     "n0",
     "d0",
@@ -62,6 +67,12 @@ const SHEET_NAMES: [&str; SHEET_WORDS] = [
     "t_3",
     "t_4",
     "t_5",
+    "k_1",
+    "k_2",
+    "k_3",
+    "k_4",
+    "k_5",
+    "the edition",
 ];
 
 /// A sheet word's refusal in words, which verify, prove and encode have in common.

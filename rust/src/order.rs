@@ -16,6 +16,8 @@ use std::fmt::{self, Display, Formatter};
 pub enum OrderRefusal {
     /// 10 at 0: the sheet has not 12 words.
     SheetLength,
+    /// 10 at 0 of edition 2: the sheet has not 18 words.
+    SheetLength2,
     /// 3: this word of the sheet breaks its rule, given those before.
     Sheet { word: u64 },
     /// 10 at 1: there are not d0 coefficients.
@@ -37,6 +39,7 @@ impl OrderRefusal {
     pub fn number(self) -> u32 {
         match self {
             OrderRefusal::SheetLength
+            | OrderRefusal::SheetLength2
             | OrderRefusal::CoefficientCount
             | OrderRefusal::CoinCount => 10,
             OrderRefusal::Sheet { .. } => 3,
@@ -49,7 +52,7 @@ impl OrderRefusal {
     /// The place that goes with the number.
     pub fn place(self) -> u64 {
         match self {
-            OrderRefusal::SheetLength => 0,
+            OrderRefusal::SheetLength | OrderRefusal::SheetLength2 => 0,
             OrderRefusal::CoefficientCount => 1,
             OrderRefusal::CoinCount => 2,
             OrderRefusal::Sheet { word } => word,
@@ -58,10 +61,15 @@ impl OrderRefusal {
         }
     }
 
-    /// The answer of the archive, which is proved to be one of these. What an 11 counts is for the operation to say.
-    fn told(number: u32, place: u64, output: fn(u64) -> OrderRefusal) -> OrderRefusal {
+    /// The answer of the archive, which is proved to be one of these. How long a sheet is and what an 11 counts are for the operation to say.
+    fn told(
+        number: u32,
+        place: u64,
+        sheet_length: OrderRefusal,
+        output: fn(u64) -> OrderRefusal,
+    ) -> OrderRefusal {
         match (number, place) {
-            (10, 0) => OrderRefusal::SheetLength,
+            (10, 0) => sheet_length,
             (10, 1) => OrderRefusal::CoefficientCount,
             (10, 2) => OrderRefusal::CoinCount,
             (3, word) => OrderRefusal::Sheet { word },
@@ -77,6 +85,7 @@ impl Display for OrderRefusal {
     fn fmt(&self, f: &mut Formatter) -> fmt::Result {
         match *self {
             OrderRefusal::SheetLength => write!(f, "the sheet has not 12 words"),
+            OrderRefusal::SheetLength2 => write!(f, "the sheet has not 18 words"),
             OrderRefusal::Sheet { word } => broken_sheet(f, word),
             OrderRefusal::CoefficientCount => {
                 write!(f, "the coefficients are not as many as the sheet's d0")
@@ -139,10 +148,23 @@ pub fn prove(
     coins: &[u32],
     output: &mut [u8],
 ) -> Result<usize, OrderRefusal> {
+    let (prove, sheet_length) = (archive::tevrolig_prove, OrderRefusal::SheetLength);
+    proved(prove, sheet_length, sheet, coefficients, coins, output)
+}
+
+/// Proves an order in the edition whose function this is, with its refusal of a sheet of another length.
+pub(crate) fn proved(
+    prove: archive::Prove,
+    sheet_length: OrderRefusal,
+    sheet: &[u32],
+    coefficients: &[u32],
+    coins: &[u32],
+    output: &mut [u8],
+) -> Result<usize, OrderRefusal> {
     let mut value = 0;
     // SAFETY: as the archive's module says.
     let number = unsafe {
-        archive::tevrolig_prove(
+        prove(
             sheet.as_ptr(),
             sheet.len(),
             coefficients.as_ptr(),
@@ -155,7 +177,7 @@ pub fn prove(
         )
     };
     let blocks = |needed| OrderRefusal::OutputBlocks { needed };
-    answered(number, value, blocks)
+    answered(number, value, sheet_length, blocks)
 }
 
 /// Writes table 0 to the front of the output, the polynomial's values at the points of domain 0, and answers n0, their number; the words after
@@ -186,17 +208,18 @@ pub fn encode(
         )
     };
     let words = |needed| OrderRefusal::OutputWords { needed };
-    answered(number, value, words)
+    answered(number, value, OrderRefusal::SheetLength, words)
 }
 
 /// Done with a number of blocks or words, or refused.
 fn answered(
     number: u32,
     value: u64,
+    sheet_length: OrderRefusal,
     output: fn(u64) -> OrderRefusal,
 ) -> Result<usize, OrderRefusal> {
     match number {
         0 => Ok(value as usize),
-        _ => Err(OrderRefusal::told(number, value, output)),
+        _ => Err(OrderRefusal::told(number, value, sheet_length, output)),
     }
 }

@@ -66,6 +66,22 @@ impl Refusal {
             Refusal::Final { position } => position,
         }
     }
+
+    /// The answer of the archive, which is proved to be one of these.
+    pub(crate) fn told(number: u32, place: u64) -> Refusal {
+        match number {
+            1 => Refusal::Length,
+            2 => Refusal::Check { block: place },
+            3 => Refusal::Sheet { word: place },
+            4 => Refusal::Blocks { needed: place },
+            5 => Refusal::Range { word: place },
+            6 => Refusal::Fill { word: place },
+            7 => Refusal::OutCoin { word: place },
+            8 => Refusal::Clash { round: place },
+            9 => Refusal::Final { position: place },
+            _ => unreachable!("a file was answered {number} {place}"),
+        }
+    }
 }
 
 impl Display for Refusal {
@@ -114,21 +130,11 @@ pub enum Outcome {
 }
 
 impl Outcome {
-    /// The answer of the archive, which is proved to be one of these.
     fn told(number: u32, place: u64) -> Outcome {
-        Outcome::Refused(match number {
-            0 => return Outcome::Accepted,
-            1 => Refusal::Length,
-            2 => Refusal::Check { block: place },
-            3 => Refusal::Sheet { word: place },
-            4 => Refusal::Blocks { needed: place },
-            5 => Refusal::Range { word: place },
-            6 => Refusal::Fill { word: place },
-            7 => Refusal::OutCoin { word: place },
-            8 => Refusal::Clash { round: place },
-            9 => Refusal::Final { position: place },
-            _ => unreachable!("verify answered {number}"),
-        })
+        match number {
+            0 => Outcome::Accepted,
+            _ => Outcome::Refused(Refusal::told(number, place)),
+        }
     }
 
     /// The refusal as an error, for `?`.
@@ -206,10 +212,14 @@ impl Display for Verdict {
 /// ```
 #[must_use]
 pub fn verify(file: &[u8]) -> Verdict {
+    judged(archive::tevrolig_verify, file)
+}
+
+/// Judges a file in the edition whose function this is.
+pub(crate) fn judged(verify: archive::Verify, file: &[u8]) -> Verdict {
     let (mut place, mut reads) = (0, 0);
     // SAFETY: as the archive's module says.
-    let number =
-        unsafe { archive::tevrolig_verify(file.as_ptr(), file.len(), &mut place, &mut reads) };
+    let number = unsafe { verify(file.as_ptr(), file.len(), &mut place, &mut reads) };
     Verdict {
         outcome: Outcome::told(number, place),
         reads,
@@ -217,7 +227,7 @@ pub fn verify(file: &[u8]) -> Verdict {
 }
 
 /// The word of this number in a file's stream, as refusals 5, 6 and 7 of verify count; nothing where the file's whole blocks hold no such word.
-/// The sheet has the words 0 to 11, and block checks are not counted.
+/// The sheet has the words 0 to 11, or 0 to 17 in edition 2, and block checks are not counted.
 ///
 /// ```
 /// let file = include_bytes!("../../examples/worked-transcript");

@@ -1,9 +1,10 @@
-//! Prove and encode in the archive against the model: the answer and every byte of the output are equal, for orders that are allowed and for
-//! lists of any kind. A difference is shown with its seed.
+//! Prove of both editions and encode in the archive against the model: the answer and every byte of the output are equal, for orders that
+//! are allowed and for lists of any kind. A difference is shown with its seed.
 
 mod common;
 
-use common::{limits, refused, Order};
+use common::{limits, refused, Edition, One, Order, Two, LARGEST};
+use std::collections::BTreeSet;
 use tevrolig_model::domain::Subgroup;
 use tevrolig_model::generate::{self, Rng};
 use tevrolig_model::layout::Part;
@@ -12,6 +13,7 @@ use tevrolig_model::Answer;
 #[test]
 fn the_transcript_by_hand() {
     let order = Order {
+        edition: One,
         sheet: vec![0, 16, 8, 2, 1, 1, 1, 1, 0, 0, 0, 0],
         coefficients: vec![1, 2, 3, 4, 5, 0, 0, 0],
         coins: vec![2, 0, 3, 4, 0, 1],
@@ -19,63 +21,93 @@ fn the_transcript_by_hand() {
     order.is_done(0, "by hand");
     order.is_done(300, "by hand");
     let mut file = [0; 512];
-    let blocks = tevrolig::prove(&order.sheet, &order.coefficients, &order.coins, &mut file);
-    assert_eq!(blocks, Ok(1));
+    assert_eq!(order.proved(&mut file), Ok(1));
     assert_eq!(&file, include_bytes!("../../examples/worked-transcript"));
+}
+
+/// k = 2 and then 4; the words after the sheet were worked out by other formulas than the model's.
+#[test]
+fn a_transcript_of_edition_2() {
+    let order = Order {
+        edition: Two,
+        sheet: vec![0, 16, 8, 2, 1, 1, 2, 2, 0, 0, 0, 0, 4, 0, 0, 0, 0, 2],
+        coefficients: (1..9).collect(),
+        coins: vec![2, 0, 3, 4, 0, 5, 1, 0],
+    };
+    order.is_done(0, "by hand");
+    order.is_done(300, "by hand");
+    let mut file = [0; 512];
+    assert_eq!(order.proved(&mut file), Ok(1));
+    #[rustfmt::skip]
+    let after = [
+        5, 1, 9, 12, 13, 3, 5, 13, 0, 6, 11, 14, 8, 8, 8, 2,
+        2,
+        13, 12, 11, 3, 14, 15, 16, 7,
+        0, 5, 3, 4, 0, 5,
+        5,
+        1, 0,
+    ];
+    let mut words = [&order.sheet[..], &after].concat();
+    words.resize(127, 0);
+    words.push(8101);
+    let bytes: Vec<u8> = words.iter().flat_map(|word| word.to_le_bytes()).collect();
+    assert_eq!(file[..], bytes);
 }
 
 #[test]
 fn allowed_orders_are_done() {
-    for seed in 0..100_000 {
-        let mut rng = Rng::new(seed);
-        let most_n0 = if seed % 100 == 0 { 256 } else { 64 };
-        let sheet = generate::sheet_up_to(&mut rng, most_n0);
-        let order = Order::allowed(&mut rng, &sheet, seed % 3 != 0);
-        let more = rng.place(700) * rng.place(2);
-        order.is_done(more, &format!("allowed, seed {seed}"));
+    for (edition, orders, most_n0) in [(One, 100_000, 64), (Two, 60_000, 128)] {
+        for seed in 0..orders {
+            let mut rng = Rng::new(seed);
+            let most_n0 = if seed % 100 == 0 {
+                4 * most_n0
+            } else {
+                most_n0
+            };
+            let sheet = generate::sheet_up_to(edition, &mut rng, most_n0);
+            let order = Order::allowed(&mut rng, &sheet, seed % 3 != 0);
+            let more = rng.place(700) * rng.place(2);
+            order.is_done(more, &format!("allowed, {edition:?}, seed {seed}"));
+        }
     }
 }
 
 #[test]
 fn the_largest_orders_are_done() {
-    let sheets: [[u32; 12]; 4] = [
-        [2, 4096, 2048, 2, 5, 2, 48, 48, 48, 48, 48, 48],
-        [2, 4096, 2048, 16, 1, 2, 48, 48, 0, 0, 0, 0],
-        [2, 4096, 512, 4, 2, 2, 36, 27, 22, 0, 0, 0],
-        [1, 4096, 2048, 2, 5, 1, 48, 48, 48, 48, 48, 48],
-    ];
-    for (seed, sheet) in sheets.iter().enumerate() {
-        let mut rng = Rng::new(seed as u64);
+    for (seed, sheet) in (0..).zip(LARGEST) {
+        let mut rng = Rng::new(seed);
         for hostile in [false, true] {
-            Order::allowed(&mut rng, sheet, hostile).is_done(seed, &format!("largest {seed}"));
+            let order = Order::allowed(&mut rng, sheet, hostile);
+            order.is_done(seed as usize, &format!("largest {seed}"));
         }
     }
 }
 
-/// Every position of the coefficients and of the coins in turn, and every round's out coins.
+/// Every position of the coefficients and of the coins in turn, and every round's out coins: an index's limit goes by its round's k.
 #[test]
 fn every_position_of_an_order() {
-    for (seed, sheet) in [
-        [0, 16, 8, 2, 1, 1, 1, 1, 0, 0, 0, 0],
-        [1, 256, 64, 2, 2, 2, 4, 3, 5, 0, 0, 0],
-        [2, 64, 32, 2, 3, 1, 3, 2, 2, 7, 0, 0],
-    ]
-    .iter()
-    .enumerate()
-    {
-        let mut rng = Rng::new(seed as u64);
+    let sheets: [&[u32]; 6] = [
+        &[0, 16, 8, 2, 1, 1, 1, 1, 0, 0, 0, 0],
+        &[1, 256, 64, 2, 2, 2, 4, 3, 5, 0, 0, 0],
+        &[2, 64, 32, 2, 3, 1, 3, 2, 2, 7, 0, 0],
+        &[0, 16, 8, 2, 1, 1, 2, 2, 0, 0, 0, 0, 4, 0, 0, 0, 0, 2],
+        &[1, 256, 64, 8, 1, 2, 4, 5, 0, 0, 0, 0, 2, 0, 0, 0, 0, 2],
+        &[2, 128, 64, 4, 2, 1, 3, 2, 7, 0, 0, 0, 2, 8, 0, 0, 0, 2],
+    ];
+    for (seed, sheet) in (0..).zip(sheets) {
+        let mut rng = Rng::new(seed);
         let mut order = Order::allowed(&mut rng, sheet, false);
         let (known, layout) = order.known();
-        let (what, length) = (
-            format!("every position, seed {seed}"),
-            512 * layout.blocks(),
-        );
+        let what = format!("every position, seed {seed}");
+        let length = 512 * layout.blocks();
         for at in 0..known.d0 {
             let kept = order.coefficients[at];
             for word in [known.field.p as u32, u32::MAX] {
                 order.coefficients[at] = word;
                 assert_eq!(order.prove(length, &what), refused((5, at)));
-                assert_eq!(order.encode(known.n0, &what), refused((5, at)));
+                if order.edition == One {
+                    assert_eq!(order.encode(known.n0, &what), refused((5, at)));
+                }
             }
             order.coefficients[at] = kept;
         }
@@ -95,6 +127,9 @@ fn every_position_of_an_order() {
                     order.coins[at] = point as u32;
                     assert_eq!(order.prove(length, &what), refused((7, at)));
                 }
+            } else {
+                order.coins[at] = limit as u32 - 1;
+                order.is_done(0, &what);
             }
             order.coins[at] = kept;
         }
@@ -105,32 +140,30 @@ fn every_position_of_an_order() {
 /// Lists and outputs of any length, empty ones too, and words of any size.
 #[test]
 fn any_lists() {
-    let empty = Order {
-        sheet: Vec::new(),
-        coefficients: Vec::new(),
-        coins: Vec::new(),
-    };
-    assert_eq!(empty.prove(0, "empty"), refused((10, 0)));
-    assert_eq!(empty.encode(0, "empty"), refused((10, 0)));
-    let mut done = 0;
-    for seed in 300_000..330_000 {
-        let mut rng = Rng::new(seed);
-        let sheet = generate::sheet_up_to(&mut rng, 32);
-        let mut order = Order::allowed(&mut rng, &sheet, true);
-        for list in [&mut order.sheet, &mut order.coefficients, &mut order.coins] {
-            let at = rng.place(list.len());
-            match rng.below(12) {
-                0 => list.truncate(at),
-                1 => list.push(0),
-                2 => list[at] = rng.word(),
-                3 => list[at] = list[at].wrapping_add(1),
-                _ => {}
+    for edition in Edition::BOTH {
+        let empty = Order::empty(edition);
+        assert_eq!(empty.prove(0, "empty"), refused((10, 0)));
+        assert_eq!(empty.encode(0, "empty"), refused((10, 0)));
+        let (mut done, mut numbers) = (0, BTreeSet::new());
+        for seed in 300_000..330_000 {
+            let mut rng = Rng::new(seed);
+            let sheet = generate::sheet_up_to(edition, &mut rng, 32);
+            let mut order = Order::allowed(&mut rng, &sheet, true);
+            for list in [&mut order.sheet, &mut order.coefficients, &mut order.coins] {
+                generate::disturb(&mut rng, list);
             }
+            let length = rng.pick(&[0, 511, 512, 1024, 1500]);
+            let what = format!("any, {edition:?}, seed {seed}");
+            match order.prove(length, &what) {
+                Answer::Done(_) => done += 1,
+                Answer::Refused { number, place } => {
+                    numbers.insert((number, if number == 10 { place } else { 0 }));
+                }
+            }
+            order.encode(length / 30, &what);
         }
-        let length = rng.pick(&[0, 511, 512, 1024, 1500]);
-        let what = format!("any, seed {seed}");
-        done += u32::from(matches!(order.prove(length, &what), Answer::Done(_)));
-        order.encode(length / 30, &what);
+        assert!(done > 3_000, "{done} of these orders are done");
+        let all = [(3, 0), (5, 0), (7, 0), (10, 0), (10, 1), (10, 2), (11, 0)];
+        assert_eq!(numbers, BTreeSet::from(all));
     }
-    assert!(done > 5_000, "{done} of these orders are done");
 }

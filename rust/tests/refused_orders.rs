@@ -2,7 +2,7 @@
 
 mod common;
 
-use common::{limits, refused, Order};
+use common::{limits, refused, Edition, One, Order, Two};
 use std::collections::BTreeSet;
 use std::ops::Range;
 use tevrolig_model::domain::Subgroup;
@@ -42,11 +42,12 @@ const ENCODE: [Test; 5] = [
     Test::Output,
 ];
 
-/// A list that is one too short, one too long, or empty.
+/// A list that is one too short, one too long, empty, or of any lesser length.
 fn break_length(rng: &mut Rng, list: &mut Vec<u32>) {
     match rng.below(4) {
         0 => list.clear(),
         1 => list.push(0),
+        2 => list.truncate(rng.place(list.len())),
         _ => {
             list.pop();
         }
@@ -85,7 +86,13 @@ impl Faulty {
                 break_length(rng, &mut self.order.sheet);
                 Some((10, 0))
             }
-            Test::Sheet => Some((3, self.break_sheet(rng))),
+            Test::Sheet => {
+                let faults = generate::two_faults(rng, &self.order.sheet);
+                for (at, word) in faults.into_iter().rev() {
+                    self.order.sheet[at] = word;
+                }
+                Some((3, faults[0].0))
+            }
             Test::CoefficientCount => {
                 break_length(rng, &mut self.order.coefficients);
                 Some((10, 1))
@@ -118,23 +125,6 @@ impl Faulty {
         }
     }
 
-    /// Any place of the sheet, with a word that breaks its rule there.
-    fn break_sheet(&mut self, rng: &mut Rng) -> usize {
-        let at = rng.place(12);
-        let mut words = self.sheet.words;
-        let old = words[at];
-        let near = [old + 1, old / 2, old * 2];
-        words[at] = match rng.below(3) {
-            0 => rng.pick(&near),
-            _ => rng.pick(&[0, 1, 3, 5, 49, 65, 8192, u32::MAX]),
-        };
-        if Sheet::read(&words) != Err(at) {
-            words[at] = u32::MAX;
-        }
-        self.order.sheet = words.to_vec();
-        at
-    }
-
     /// One out coin or two that lie in their domain; the position of the first.
     fn break_out_coins(&mut self, rng: &mut Rng) -> Option<usize> {
         let subgroup = Subgroup::of(&self.sheet);
@@ -163,12 +153,12 @@ fn too_large(rng: &mut Rng, limit: u64) -> u32 {
 
 /// Orders that fail one test, two or more: the first that is made counts, and nothing is written. Later tests are made to fail first, so that
 /// what an earlier one needs stands.
-fn faulty_orders(seeds: Range<u64>, tests: &[Test]) {
+fn faulty_orders(edition: Edition, seeds: Range<u64>, tests: &[Test]) {
     let proving = tests.len() == PROVE.len();
     let mut met = BTreeSet::new();
     for seed in seeds {
         let mut rng = Rng::new(seed);
-        let sheet = generate::sheet_up_to(&mut rng, 64);
+        let sheet = generate::sheet_up_to(edition, &mut rng, 64);
         let mut faulty = Faulty::new(Order::allowed(&mut rng, &sheet, seed % 2 == 0));
         let due = if proving {
             faulty.layout.blocks()
@@ -199,8 +189,9 @@ fn faulty_orders(seeds: Range<u64>, tests: &[Test]) {
         met.insert((test, if test == Test::Sheet { refusal.1 } else { 0 }));
     }
     // Each test, and each word of the sheet, was the first to fail.
+    let words = edition.sheet_words();
     for &test in tests {
-        for place in 0..if test == Test::Sheet { 12 } else { 1 } {
+        for place in 0..if test == Test::Sheet { words } else { 1 } {
             assert!(met.contains(&(test, place)), "{test:?} {place} is met");
         }
     }
@@ -208,10 +199,15 @@ fn faulty_orders(seeds: Range<u64>, tests: &[Test]) {
 
 #[test]
 fn faulty_orders_to_prove() {
-    faulty_orders(100_000..200_000, &PROVE);
+    faulty_orders(One, 100_000..200_000, &PROVE);
+}
+
+#[test]
+fn faulty_orders_to_prove_in_edition_2() {
+    faulty_orders(Two, 100_000..200_000, &PROVE);
 }
 
 #[test]
 fn faulty_orders_to_encode() {
-    faulty_orders(200_000..250_000, &ENCODE);
+    faulty_orders(One, 200_000..250_000, &ENCODE);
 }

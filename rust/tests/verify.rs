@@ -1,85 +1,133 @@
-//! Verify in the archive against the model: verdict, place and reads are equal on every file.
+//! Verify of both editions in the archive against the model: verdict, place and reads are equal on every file.
 
+mod common;
+
+use common::{edition, honest, reads, verify, Edition, One, Two, LARGEST};
 use tevrolig_model as model;
 use tevrolig_model::generate::{self, Rng};
+use tevrolig_model::stream::write_word;
+use tevrolig_model::verify::verify_in;
 
-/// The verdict in the model's terms.
-fn judged(file: &[u8]) -> model::Verdict {
-    let verdict = tevrolig::verify(file);
-    let outcome = match verdict.outcome {
-        tevrolig::Outcome::Accepted => model::Outcome::Accepted,
-        tevrolig::Outcome::Refused(refusal) => model::Outcome::Refused {
-            number: refusal.number(),
-            place: refusal.place(),
-        },
-    };
-    model::Verdict {
-        outcome,
-        reads: verdict.reads,
-    }
-}
-
-/// Both verdicts of a file, which must be equal and leave the file as it was.
-fn agree(file: &[u8], what: &str, seed: u64) -> model::Verdict {
+/// Both verdicts of a file as a line, which must be equal and leave the file as it was.
+fn agree(edition: Edition, file: &[u8], what: &str, seed: u64) -> String {
     let before = file.to_vec();
-    let verdict = judged(file);
+    let line = verify(edition, file).line();
     assert_eq!(file, before, "{what}: the file changed, seed {seed}");
-    assert_eq!(verdict, model::verify(file), "{what}: seed {seed}");
-    verdict
+    let expected = model::line(verify_in(edition, file));
+    assert_eq!(line, expected, "{what}: seed {seed}");
+    line
 }
 
-fn honest(rng: &mut Rng, most_n0: u32, hostile: bool) -> ([u32; 12], Vec<u8>) {
-    let sheet = generate::sheet_up_to(rng, most_n0);
-    let coefficients = generate::coefficients(rng, &sheet);
-    let coins = generate::coins(rng, &sheet, hostile);
-    (sheet, generate::honest_file(&sheet, &coefficients, &coins))
+/// A drawn sheet and an honest file of it.
+fn drawn(edition: Edition, rng: &mut Rng, most_n0: u32, hostile: bool) -> (Vec<u32>, Vec<u8>) {
+    let sheet = generate::sheet_up_to(edition, rng, most_n0);
+    let file = honest(rng, &sheet, hostile);
+    (sheet, file)
+}
+
+/// The file with some words of the stream changed and the checks made right.
+fn changed(file: &[u8], changes: &[(usize, u32)]) -> Vec<u8> {
+    let mut file = file.to_vec();
+    for &(word, value) in changes {
+        write_word(&mut file, word, value);
+    }
+    generate::rewrite_checks(&mut file);
+    file
 }
 
 #[test]
 fn honest_files_of_every_kind_are_accepted() {
-    for seed in 0..30_000 {
-        let mut rng = Rng::new(seed);
-        let (sheet, file) = honest(&mut rng, 64, seed % 2 == 0);
-        let verdict = agree(&file, "honest", seed);
-        assert_eq!(verdict.outcome, model::Outcome::Accepted, "seed {seed}");
-        let coins: u64 = sheet[6..].iter().map(|&t| u64::from(t)).sum();
-        assert_eq!(verdict.reads, u64::from(sheet[3]) * coins, "seed {seed}");
+    for (edition, most_n0) in [(One, 64), (Two, 128)] {
+        for seed in 0..30_000 {
+            let mut rng = Rng::new(seed);
+            let (sheet, file) = drawn(edition, &mut rng, most_n0, seed % 2 == 0);
+            let expected = format!("accepted 0 0 {}", reads(&sheet));
+            assert_eq!(agree(edition, &file, "honest", seed), expected);
+        }
     }
 }
 
 #[test]
 fn damaged_files_have_the_same_verdict() {
-    let mut seen = [0_u32; 10];
-    for seed in 100_000..250_000 {
-        let mut rng = Rng::new(seed);
-        let (_, mut file) = honest(&mut rng, 32, seed % 3 == 0);
-        generate::damage(&mut rng, &mut file);
-        if seed % 4 == 0 {
-            generate::damage(&mut rng, &mut file);
+    for (edition, most_n0) in [(One, 32), (Two, 64)] {
+        let mut seen = [0_u32; 10];
+        for seed in 100_000..220_000 {
+            let mut rng = Rng::new(seed);
+            let (_, mut file) = drawn(edition, &mut rng, most_n0, seed % 3 == 0);
+            generate::damage(edition, &mut rng, &mut file);
+            if seed % 4 == 0 {
+                generate::damage(edition, &mut rng, &mut file);
+            }
+            let line = agree(edition, &file, "damaged", seed);
+            let number: usize = line.split(' ').nth(1).unwrap().parse().unwrap();
+            seen[number] += 1;
         }
-        match agree(&file, "damaged", seed).outcome {
-            model::Outcome::Accepted => seen[0] += 1,
-            model::Outcome::Refused { number, .. } => seen[number as usize] += 1,
+        assert!(
+            seen.iter().all(|&count| count > 100),
+            "every outcome is met: {seen:?}"
+        );
+    }
+}
+
+/// A fault at each word of the sheet, and a second one that is tested later: in edition 2 one of the words 12 to 17 counts before one of
+/// the words 6 to 11.
+#[test]
+fn faults_of_the_sheet() {
+    for edition in Edition::BOTH {
+        let order = generate::test_order(edition);
+        for seed in 200_000..204_000 {
+            let mut rng = Rng::new(seed);
+            let (sheet, file) = drawn(edition, &mut rng, 256, false);
+            let faults: Vec<(usize, u32)> = order
+                .iter()
+                .map(|&place| (place, generate::fault(&mut rng, &sheet, place)))
+                .collect();
+            for (turn, &first) in faults.iter().enumerate() {
+                let refused = format!("refused 3 {} 0", first.0);
+                let later = rng.pick(&faults[turn..]);
+                for changes in [&[first][..], &[first, later]] {
+                    let file = changed(&file, changes);
+                    let line = agree(edition, &file, "a fault of the sheet", seed);
+                    assert_eq!(line, refused, "seed {seed}");
+                }
+            }
         }
     }
-    assert!(
-        seen.iter().all(|&count| count > 100),
-        "every outcome is met: {seen:?}"
-    );
+}
+
+/// Sheets that are near to one without fault, with several other words.
+#[test]
+fn sheets_of_any_words() {
+    for edition in Edition::BOTH {
+        for seed in 300_000..330_000 {
+            let mut rng = Rng::new(seed);
+            let (sheet, file) = drawn(edition, &mut rng, 32, false);
+            let mut changes = Vec::new();
+            for _ in 0..=rng.place(3) {
+                let any = rng.word();
+                let values = [0, 1, 2, 3, 4, 8, 16, 32, 48, 49, any];
+                changes.push((rng.place(sheet.len()), rng.pick(&values)));
+            }
+            agree(edition, &changed(&file, &changes), "any sheet", seed);
+        }
+    }
 }
 
 #[test]
 fn every_single_word_change_of_small_files() {
-    for seed in 0..40 {
-        let mut rng = Rng::new(seed);
-        let (_, file) = honest(&mut rng, 16, true);
-        for word in 0..file.len() / 4 {
-            for value in [0, 1, rng.below(17) as u32, 17, 65537, rng.word(), u32::MAX] {
-                let mut changed = file.clone();
-                changed[4 * word..4 * word + 4].copy_from_slice(&value.to_le_bytes());
-                agree(&changed, "one word changed", seed);
-                generate::rewrite_checks(&mut changed);
-                agree(&changed, "one word changed, checks right", seed);
+    for (edition, most_n0) in [(One, 16), (Two, 32)] {
+        for seed in 0..40 {
+            let mut rng = Rng::new(seed);
+            let (_, file) = drawn(edition, &mut rng, most_n0, true);
+            for word in 0..file.len() / 4 {
+                let any = rng.word();
+                for value in [0, 1, 2, 4, any % 17, 17, 65537, any, u32::MAX] {
+                    let mut other = file.clone();
+                    other[4 * word..4 * word + 4].copy_from_slice(&value.to_le_bytes());
+                    agree(edition, &other, "one word changed", seed);
+                    generate::rewrite_checks(&mut other);
+                    agree(edition, &other, "one word changed, checks right", seed);
+                }
             }
         }
     }
@@ -87,63 +135,54 @@ fn every_single_word_change_of_small_files() {
 
 #[test]
 fn every_length_of_a_file() {
-    let mut rng = Rng::new(1);
-    let (_, file) = honest(&mut rng, 64, false);
-    let mut longer = file.clone();
-    longer.extend_from_slice(&file);
-    longer.extend_from_slice(&[7; 1024]);
-    for length in 0..=longer.len() {
-        agree(&longer[..length], "cut", length as u64);
+    for edition in Edition::BOTH {
+        let (_, file) = drawn(edition, &mut Rng::new(1), 64, false);
+        let longer = [&file[..], &file, &[7; 1024]].concat();
+        for length in 0..=longer.len() {
+            agree(edition, &longer[..length], "cut", length as u64);
+        }
     }
 }
 
+/// Random bytes, also after a sheet without fault and with right checks, so that the tests after 3 are met too; and files of the other
+/// edition.
 #[test]
-fn random_bytes() {
-    for seed in 0..20_000 {
-        let mut rng = Rng::new(seed);
-        let length = match rng.below(3) {
-            0 => rng.place(2048),
-            1 => 512 * rng.place(8),
-            _ => 512,
-        };
-        let mut file: Vec<u8> = (0..length).map(|_| rng.bits() as u8).collect();
-        agree(&file, "random", seed);
-        if length % 512 == 0 {
-            // A sheet without fault before the random words, and then right checks: the tests after 3 are met too.
-            if length > 0 {
-                let sheet = generate::sheet_up_to(&mut rng, 64);
-                for (word, value) in sheet.iter().enumerate() {
-                    file[4 * word..4 * word + 4].copy_from_slice(&value.to_le_bytes());
-                }
+fn other_files() {
+    for edition in Edition::BOTH {
+        for seed in 0..20_000 {
+            let mut rng = Rng::new(seed);
+            let length = match rng.below(3) {
+                0 => rng.place(2048),
+                1 => 512 * rng.place(8),
+                _ => 512,
+            };
+            let file: Vec<u8> = (0..length).map(|_| rng.bits() as u8).collect();
+            agree(edition, &file, "random", seed);
+            agree(edition, &changed(&file, &[]), "random, checks right", seed);
+            if length >= 512 {
+                let sheet = generate::sheet_up_to(edition, &mut rng, 64);
+                let changes: Vec<(usize, u32)> = sheet.into_iter().enumerate().collect();
+                agree(edition, &changed(&file, &changes), "after a sheet", seed);
             }
-            generate::rewrite_checks(&mut file);
-            agree(&file, "random, checks right", seed);
+            let (_, file) = drawn(edition.other(), &mut rng, 32, true);
+            agree(edition, &file, "the other edition", seed);
         }
     }
 }
 
 #[test]
 fn the_largest_sheets() {
-    let sheets: [[u32; 12]; 4] = [
-        [2, 4096, 2048, 2, 5, 2, 48, 48, 48, 48, 48, 48],
-        [2, 4096, 2048, 16, 1, 2, 48, 48, 0, 0, 0, 0],
-        [2, 4096, 512, 4, 2, 2, 36, 27, 22, 0, 0, 0],
-        [1, 4096, 2048, 2, 5, 2, 48, 48, 48, 48, 48, 48],
-    ];
-    for (seed, sheet) in sheets.iter().enumerate() {
-        let mut rng = Rng::new(seed as u64);
+    for (seed, sheet) in (0..).zip(LARGEST) {
+        let mut rng = Rng::new(seed);
+        let edition = edition(sheet);
         for hostile in [false, true] {
-            let coefficients = generate::coefficients(&mut rng, sheet);
-            let coins = generate::coins(&mut rng, sheet, hostile);
-            let file = generate::honest_file(sheet, &coefficients, &coins);
-            assert_eq!(
-                agree(&file, "largest", seed as u64).outcome,
-                model::Outcome::Accepted
-            );
+            let file = honest(&mut rng, sheet, hostile);
+            let expected = format!("accepted 0 0 {}", reads(sheet));
+            assert_eq!(agree(edition, &file, "largest", seed), expected);
             for number in 1..=9 {
                 let mut damaged = file.clone();
-                if generate::aim(&mut rng, &mut damaged, number) {
-                    agree(&damaged, "largest, damaged", seed as u64);
+                if generate::aim(edition, &mut rng, &mut damaged, number) {
+                    agree(edition, &damaged, "largest, damaged", seed);
                 }
             }
         }

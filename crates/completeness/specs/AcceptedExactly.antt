@@ -9,11 +9,12 @@ use lib.Dec.{eqb}
 use lib.ListN.{length, getD}
 use borrow.Author.Tests.{eq-eqb, eqb-true}
 use Rattle.definition.specs.Block.{streamOf}
+use Rattle.definition.specs.Sheet.{Edition}
 use Rattle.definition.specs.Verdict.{accepted, refused}
-use Rattle.definition.specs.Verify.{verify}
-use Rattle.completeness.specs.Faults.{Fault, FirstFault, Kept}
+use Rattle.definition.specs.Verify.{verifyIn}
+use Rattle.completeness.specs.Faults.{Fault, FirstFault, Kept, turnOf}
 use Rattle.completeness.specs.FirstFaults.{accepted-then, first-then, none-then, refused-then}
-use Rattle.completeness.specs.VerifyExactly.{exact, is-true, numbered}
+use Rattle.completeness.specs.VerifyExactly.{apart, exact, is-true, numbered}
 
 stable : (a b : ℕ) → ((a ≡ b → ⊥) → ⊥) → a ≡ b
 stable a b h = eqb-true a b (is-true (eqb a b) (λ k. h (λ e. k (eq-eqb a b e))))
@@ -25,8 +26,8 @@ stable-less a b h = go (decLt a b)
     go (yes l) = l
     go (no l) = absurd (h (omega arith))
 
-module _ (file : List ℕ) where
-  no-fault-kept : ((n q : ℕ) → Fault file n q → ⊥) → Kept file
+module _ (ed : Edition) (file : List ℕ) where
+  no-fault-kept : ((n q : ℕ) → Fault ed file n q → ⊥) → Kept ed file
   no-fault-kept clear = record {
     length·positive = stable-less 0 (length file) (λ l. clear 1 0 (refl, λ g. omega (arith, g .0)));
     length·whole = stable (length file % 512) 0 (λ k. clear 1 0 (refl, λ g. k (g .1)));
@@ -40,7 +41,7 @@ module _ (file : List ℕ) where
     match = λ j l. stable _ _ (λ k. clear 9 j (l, k));
   }
 
-  kept-no-fault : Kept file → (n q : ℕ) → Fault file n q → ⊥
+  kept-no-fault : Kept ed file → (n q : ℕ) → Fault ed file n q → ⊥
   kept-no-fault k zero q p = p
   kept-no-fault k (suc zero) q p = p .1 (k .length·positive, k .length·whole)
   kept-no-fault k (suc (suc zero)) q p = p .1 (k .checks q (p .0))
@@ -57,15 +58,15 @@ module _ (file : List ℕ) where
   kept-no-fault k (suc (suc (suc (suc (suc (suc (suc (suc (suc zero))))))))) q p = p .1 (k .match q (p .0))
   kept-no-fault k (suc (suc (suc (suc (suc (suc (suc (suc (suc (suc n)))))))))) q p = p
 
-  pub accepted-exactly : (verify file .outcome ≡ accepted) ↔ Kept file
+  pub accepted-exactly : (verifyIn ed file .outcome ≡ accepted) ↔ Kept ed file
   accepted-exactly = (
-    λ e. no-fault-kept (accepted-then (Fault file) (verify file .outcome) (exact file) (numbered file) e),
-    λ k. none-then (Fault file) (verify file .outcome) (exact file) (numbered file) (kept-no-fault k),
+    λ e. no-fault-kept (accepted-then (Fault ed file) (turnOf ed) (verifyIn ed file .outcome) (exact ed file) (numbered ed file) (apart ed file) e),
+    λ k. none-then (Fault ed file) (turnOf ed) (verifyIn ed file .outcome) (exact ed file) (numbered ed file) (apart ed file) (kept-no-fault k),
   )
 
-  pub refused-exactly : (n q : ℕ) → (verify file .outcome ≡ refused n q) ↔ FirstFault file n q
+  pub refused-exactly : (n q : ℕ) → (verifyIn ed file .outcome ≡ refused n q) ↔ FirstFault ed file n q
   refused-exactly n q = (
-    λ e. let r = refused-then (Fault file) (verify file .outcome) (exact file) (numbered file) n q e in
+    λ e. let r = refused-then (Fault ed file) (turnOf ed) (verifyIn ed file .outcome) (exact ed file) (numbered ed file) (apart ed file) n q e in
         record { there = r .0; place·first = r .1; number·first = r .2 },
-    λ f. first-then (Fault file) (verify file .outcome) (exact file) (numbered file) n q (f .there) (f .place·first) (f .number·first),
+    λ f. first-then (Fault ed file) (turnOf ed) (verifyIn ed file .outcome) (exact ed file) (numbered ed file) (apart ed file) n q (f .there) (f .place·first) (f .number·first),
   )

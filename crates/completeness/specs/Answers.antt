@@ -1,27 +1,26 @@
 -- The answers of verify, prove and encode that exist, with the range of each place.
 use Prim.Native.Nat.{ℕ, zero, suc, _+_, _≤_, _<_}
-use native.Mathlib.Nat.{zero-add}
 use native.Mathlib.Omega.{arith}
 use mathlib.Core.Bool.{Bool, true, false, not}
 use mathlib.Core.List.{List, [], _∷_, _++_, map, zipWith}
 use mathlib.Core.Option.{Option, none, some}
 use mathlib.Core.Path.{_≡_, sym, subst}
-use lib.ListN.{length, replicate, length-append, length-map}
-use Rattle.definition.specs.Block.{streamOf}
+use lib.ListN.{getD, length, replicate, length-append}
 use Rattle.definition.specs.Layout.{coinKinds, layout, message}
-use Rattle.definition.specs.Lists.{firstTrue, range}
-use Rattle.definition.specs.Prove.{coefficientsTest, coinDomainTest, coinsTest, encode, encodeTests, finish, inputRangeTest, outputTest, prove, proveTests, refusal, sheetLengthTest}
+use Rattle.definition.specs.Lists.{firstOf, firstTrue}
+use Rattle.definition.specs.Prove.{coefficientsTest, coinDomainTest, coinsTest, encode, encodeTests, finish, inputRangeTest, outputTest, proveIn, proveTests, refusal, sheetLengthTest}
 use Rattle.definition.specs.Deciding.{outInDomain}
 use Rattle.definition.specs.Reading.{outOfRange, sheetTest}
-use Rattle.definition.specs.Sheet.{sheetOf, sheetRules}
+use Rattle.definition.specs.Sheet.{Edition, Sheet, edition1, sheetLength, sheetOf, sheetRules, testOrder}
 use Rattle.definition.specs.Verdict.{Outcome, _then_, accepted, refuseAt, refuseIf, refused}
-use Rattle.definition.specs.Verify.{verify}
+use Rattle.definition.specs.Verify.{verifyIn}
 use Rattle.completeness.specs.AcceptedExactly.{refused-exactly}
 use Rattle.completeness.specs.Faults
-use Rattle.completeness.specs.Faults.{EncodeRefusal, Fault, ProveRefusal, VerifyRefusal, outs, partLength}
+use Rattle.completeness.specs.Faults.{EncodeRefusal, Fault, ProveRefusal, VerifyRefusal, outs, partLength, sheetIn}
 use Rattle.completeness.specs.Numbered.{outsOf}
-use Rattle.completeness.specs.FirstFaults.{FirstTrue, first-true}
+use Rattle.completeness.specs.FirstFaults.{FirstAt, FirstTrue, first-of, first-true}
 use Rattle.completeness.specs.PartsByNumber.{part-below}
+use Rattle.completeness.specs.RulesByWord.{order-count, rules-length, turn-of-word}
 
 -- what holds of every refusal of an outcome
 module _ (Q : ℕ → ℕ → Type 0) where
@@ -47,10 +46,13 @@ module _ (Q : ℕ → ℕ → Type 0) where
       go none k = tt
       go (some q) k = subst (Q n) (sym (k .1)) (h (k .0) (k .2))
 
-  pub refuses-sheet : (w : List ℕ) → ((i : ℕ) → i < 12 → Q 3 i) → Refuses (sheetTest w)
-  unfolding sheetTest sheetRules range
-  refuses-sheet w h =
-      at-refuses 3 0 (map not (sheetRules w)) (λ j l. subst (Q 3) (sym (zero-add j)) (h j (omega (arith, length-map (sheetRules w) not))))
+  pub refuses-sheet : (ed : Edition) (w : List ℕ) → ((i : ℕ) → i < sheetLength ed → Q 3 i) → Refuses (sheetTest ed w)
+  unfolding sheetTest refuseAt
+  refuses-sheet ed w h = go (firstOf (testOrder ed) (map not (sheetRules ed w))) (first-of (testOrder ed) (map not (sheetRules ed w)) (omega (arith, rules-length ed w, order-count ed)))
+    where
+      go : (o : Option ℕ) → FirstAt (λ j. getD (testOrder ed) j 0) (map not (sheetRules ed w)) o → Refuses (refuseAt 3 o)
+      go none k = tt
+      go (some q) k = subst (Q 3) (sym (k .1)) (h _ (turn-of-word ed (k .0) (omega (arith, k .2, rules-length ed w)) .1))
 
 -- a test of the words of one list is no longer than it
 zip-most : {A : Type 0} (t : A → ℕ → Bool) (ks : List A) (v : List ℕ) → length (zipWith t ks v) ≤ length v
@@ -68,20 +70,20 @@ finish-refusal Q (refused m r) count n q written output h e =
     let b : r ≡ q = cc in
     subst (λ (x : ℕ). Q x q) a (subst (Q m) b h)
 
-module _ (w f coins output : List ℕ) where
-  pub prove-refusals : (n q : ℕ) → prove w f coins output .answer ≡ refusal n q → ProveRefusal w f coins n q
-  unfolding prove proveTests sheetLengthTest coefficientsTest coinsTest inputRangeTest coinDomainTest outputTest
+module _ (ed : Edition) (w f coins output : List ℕ) where
+  pub prove-refusals : (n q : ℕ) → proveIn ed w f coins output .answer ≡ refusal n q → ProveRefusal ed w f coins n q
+  unfolding proveIn proveTests sheetLengthTest coefficientsTest coinsTest inputRangeTest coinDomainTest outputTest
   prove-refusals n q e =
-      let Q = ProveRefusal w f coins in
+      let Q = ProveRefusal ed w f coins in
       finish-refusal Q _ _ n q _ output
-      (then-refuses Q (sheetLengthTest w) _ (if-refuses Q 10 0 _ Faults.ProveRefusal.sheet·length)
-      (then-refuses Q (sheetTest w) _ (refuses-sheet Q w Faults.ProveRefusal.rule·broken)
-      (then-refuses Q (coefficientsTest (sheetOf w) f) _ (if-refuses Q 10 1 _ Faults.ProveRefusal.coefficient·count)
-      (then-refuses Q (coinsTest (sheetOf w) coins) _ (if-refuses Q 10 2 _ Faults.ProveRefusal.coin·count)
-      (then-refuses Q (inputRangeTest (sheetOf w) (coinKinds (layout (sheetOf w))) (f ++ coins)) _
-      (at-refuses Q 5 0 _ (λ j l. Faults.ProveRefusal.word·over (0 + j) (omega (arith, zip-most (outOfRange (sheetOf w)) (replicate (sheetOf w .degree) message ++ coinKinds (layout (sheetOf w))) (f ++ coins), length-append f coins))))
-      (then-refuses Q (coinDomainTest (sheetOf w) coins) _
-      (at-refuses Q 7 0 _ (λ j l. Faults.ProveRefusal.coin·inside (0 + j) (omega (arith, zip-most (outInDomain (sheetOf w)) (coinKinds (layout (sheetOf w))) coins))))
+      (then-refuses Q (sheetLengthTest ed w) _ (if-refuses Q 10 0 _ Faults.ProveRefusal.sheet·length)
+      (then-refuses Q (sheetTest ed w) _ (refuses-sheet Q ed w Faults.ProveRefusal.rule·broken)
+      (then-refuses Q (coefficientsTest (sheetOf ed w) f) _ (if-refuses Q 10 1 _ Faults.ProveRefusal.coefficient·count)
+      (then-refuses Q (coinsTest (sheetOf ed w) coins) _ (if-refuses Q 10 2 _ Faults.ProveRefusal.coin·count)
+      (then-refuses Q (inputRangeTest (sheetOf ed w) (coinKinds (layout (sheetOf ed w))) (f ++ coins)) _
+      (at-refuses Q 5 0 _ (λ j l. Faults.ProveRefusal.word·over (0 + j) (omega (arith, zip-most (outOfRange (sheetOf ed w)) (replicate (sheetOf ed w .degree) message ++ coinKinds (layout (sheetOf ed w))) (f ++ coins), length-append f coins))))
+      (then-refuses Q (coinDomainTest (sheetOf ed w) coins) _
+      (at-refuses Q 7 0 _ (λ j l. Faults.ProveRefusal.coin·inside (0 + j) (omega (arith, zip-most (outInDomain (sheetOf ed w)) (coinKinds (layout (sheetOf ed w))) coins))))
       (if-refuses Q 11 _ _ Faults.ProveRefusal.output·short))))))) e
 
 module _ (w f output : List ℕ) where
@@ -90,34 +92,34 @@ module _ (w f output : List ℕ) where
   encode-refusals n q e =
       let Q = EncodeRefusal w f in
       finish-refusal Q _ _ n q _ output
-      (then-refuses Q (sheetLengthTest w) _ (if-refuses Q 10 0 _ Faults.EncodeRefusal.sheet·length)
-      (then-refuses Q (sheetTest w) _ (refuses-sheet Q w Faults.EncodeRefusal.rule·broken)
-      (then-refuses Q (coefficientsTest (sheetOf w) f) _ (if-refuses Q 10 1 _ Faults.EncodeRefusal.coefficient·count)
-      (then-refuses Q (inputRangeTest (sheetOf w) [] f) _
-      (at-refuses Q 5 0 _ (λ j l. Faults.EncodeRefusal.word·over (0 + j) (omega (arith, zip-most (outOfRange (sheetOf w)) (replicate (sheetOf w .degree) message ++ []) f))))
+      (then-refuses Q (sheetLengthTest edition1 w) _ (if-refuses Q 10 0 _ Faults.EncodeRefusal.sheet·length)
+      (then-refuses Q (sheetTest edition1 w) _ (refuses-sheet Q edition1 w Faults.EncodeRefusal.rule·broken)
+      (then-refuses Q (coefficientsTest (sheetOf edition1 w) f) _ (if-refuses Q 10 1 _ Faults.EncodeRefusal.coefficient·count)
+      (then-refuses Q (inputRangeTest (sheetOf edition1 w) [] f) _
+      (at-refuses Q 5 0 _ (λ j l. Faults.EncodeRefusal.word·over (0 + j) (omega (arith, zip-most (outOfRange (sheetOf edition1 w)) (replicate (sheetOf edition1 w .degree) message ++ []) f))))
       (if-refuses Q 11 _ _ Faults.EncodeRefusal.output·short))))) e
 
 -- A refusal of verify is a fault, and each fault has its range.
-module _ (file : List ℕ) where
-  fault-placed : (n q : ℕ) → Fault file n q → VerifyRefusal file n q
+module _ (ed : Edition) (file : List ℕ) where
+  fault-placed : (n q : ℕ) → Fault ed file n q → VerifyRefusal ed file n q
   unfolding partLength
   fault-placed zero q p = absurd p
-  fault-placed (suc zero) q p = subst (VerifyRefusal file 1) (sym (p .0)) Faults.VerifyRefusal.length·wrong
+  fault-placed (suc zero) q p = subst (VerifyRefusal ed file 1) (sym (p .0)) Faults.VerifyRefusal.length·wrong
   fault-placed (suc (suc zero)) q p = Faults.VerifyRefusal.check·wrong q (p .0)
   fault-placed (suc (suc (suc zero))) q p = Faults.VerifyRefusal.rule·broken q (p .0)
-  fault-placed (suc (suc (suc (suc zero)))) q p = subst (VerifyRefusal file 4) (sym (p .0)) Faults.VerifyRefusal.blocks·differ
+  fault-placed (suc (suc (suc (suc zero)))) q p = subst (VerifyRefusal ed file 4) (sym (p .0)) Faults.VerifyRefusal.blocks·differ
   fault-placed (suc (suc (suc (suc (suc zero))))) q p =
-      let r = part-below (streamOf file) (p .0) (p .1) (p .2 .0) (p .2 .1) in Faults.VerifyRefusal.word·over q (omega (arith, p .2 .2, r .0)) (omega (arith, p .2 .2, r .1))
+      let r = part-below ed (sheetIn ed file) (p .0) (p .1) (p .2 .0) (p .2 .1) in Faults.VerifyRefusal.word·over q (omega (arith, p .2 .2, r .0)) (omega (arith, p .2 .2, r .1))
   fault-placed (suc (suc (suc (suc (suc (suc zero)))))) q p = Faults.VerifyRefusal.fill·set q (p .0) (p .1)
   fault-placed (suc (suc (suc (suc (suc (suc (suc zero))))))) q p =
-      let r = part-below (streamOf file) (outs (p .0)) (p .1) (p .2 .0) (outs-many (streamOf file) (p .0) (p .2 .0) (p .2 .1)) in
+      let r = part-below ed (sheetIn ed file) (outs (p .0)) (p .1) (p .2 .0) (outs-many (sheetIn ed file) (p .0) (p .2 .0) (p .2 .1)) in
       Faults.VerifyRefusal.coin·inside q (omega (arith, p .2 .2, r .0)) (omega (arith, p .2 .2, r .1))
     where
-      outs-many : (w : List ℕ) (i j : ℕ) → j < outsOf w → j < partLength w (outs i)
-      outs-many w i j l = l
+      outs-many : (h : Sheet) (i j : ℕ) → j < outsOf h → j < partLength h (outs i)
+      outs-many h i j l = l
   fault-placed (suc (suc (suc (suc (suc (suc (suc (suc zero)))))))) q p = Faults.VerifyRefusal.pairs·clash q (omega (arith, p .2)) (omega (arith, p .1, p .2))
   fault-placed (suc (suc (suc (suc (suc (suc (suc (suc (suc zero))))))))) q p = Faults.VerifyRefusal.final·differs q (p .0)
   fault-placed (suc (suc (suc (suc (suc (suc (suc (suc (suc (suc n)))))))))) q p = absurd p
 
-  pub verify-refusals : (n q : ℕ) → verify file .outcome ≡ refused n q → VerifyRefusal file n q
-  verify-refusals n q e = fault-placed n q (refused-exactly file n q .0 e .there)
+  pub verify-refusals : (n q : ℕ) → verifyIn ed file .outcome ≡ refused n q → VerifyRefusal ed file n q
+  verify-refusals n q e = fault-placed n q (refused-exactly ed file n q .0 e .there)

@@ -1,75 +1,75 @@
 -- The coins of round i by their places in the coin list are those that the walk over the rounds reads there.
-use Prim.Native.Nat.{ℕ, zero, suc, _+_, _≤_}
+use Prim.Native.Nat.{ℕ, zero, suc, _+_}
 use native.Mathlib.Nat
 use native.Mathlib.Nat.{suc-add, zero-add}
 use native.Mathlib.Omega.{arith}
 use mathlib.Core.List.{List, _∷_, map}
 use mathlib.Core.Path.{_≡_, refl, sym, ap, _∙_}
-use lib.ListN.{length, getD, take, drop}
+use lib.ListN.{getD, take, drop}
 use lib.Seq.{drop-drop, getD-take, getD-drop}
 use Rattle.definition.specs.Layout.{laterCount, readCoins, readFinals, readRounds, roundCoins}
 use Rattle.definition.specs.Lists.{range}
-use Rattle.definition.specs.Sheet.{Level, firstLevel, laterLevels, sheetOf}
-use Rattle.completeness.specs.LevelsByNumber.{level-first, levels-later}
+use Rattle.definition.specs.Sheet.{Level, Sheet, firstLevel, laterLevels}
+use Rattle.completeness.specs.LevelsByNumber.{Paired, level-first, levels-later}
 use Rattle.completeness.specs.ListLaws.{drop-take}
 use Rattle.completeness.specs.Numbered.{coinCount, coinsBefore, coinsOf, combinationCoin, finalIndices, foldCoin, levelOf, outCoinsOf, outsOf, roundsOf, shiftIndices}
 
-module _ (w coins : List ℕ) where
+module _ (h : Sheet) (coins : List ℕ) where
   -- one round, of the coins from its first on
-  round-read : (i : ℕ) → roundCoins (levelOf w (suc i)) (take (outsOf w) (drop (coinsBefore w (suc i)) coins))
-      (take (laterCount (levelOf w i)) (drop (outsOf w) (drop (coinsBefore w (suc i)) coins))) ≡ coinsOf w coins (suc i)
+  round-read : (i : ℕ) → roundCoins (levelOf h (suc i)) (take (outsOf h) (drop (coinsBefore h (suc i)) coins))
+      (take (laterCount (levelOf h i)) (drop (outsOf h) (drop (coinsBefore h (suc i)) coins))) ≡ coinsOf h coins (suc i)
   unfolding roundCoins laterCount outCoinsOf combinationCoin foldCoin shiftIndices
   round-read i =
-      let b = coinsBefore w (suc i) in
-      let s = outsOf w in
-      let t = levelOf w i .repetitions in
+      let b = coinsBefore h (suc i) in
+      let s = outsOf h in
+      let t = levelOf h i .repetitions in
       let v = drop s (drop b coins) in
       let e : v ≡ drop (b + s) coins = drop-drop s b coins in
       let at : (j : ℕ) → getD (drop (b + s) coins) j 0 ≡ getD coins (b + (s + j)) 0 = λ j. getD-drop (b + s) coins j 0 ∙ ap (λ (n : ℕ). getD coins n 0) (Nat.add-assoc b s j) in
       λ x. record {
-        level = levelOf w (suc i);
+        level = levelOf h (suc i);
         outs = take s (drop b coins);
         combination = (getD-take (2 + t) v 0 0 (omega arith) ∙ ap (λ (l : List ℕ). getD l 0 0) e ∙ at 0 ∙ ap (λ (n : ℕ). getD coins (b + n) 0) (Nat.add-zero s)) x;
         fold = (getD-take (2 + t) v 1 0 (omega arith) ∙ ap (λ (l : List ℕ). getD l 1 0) e ∙ at 1) x;
         shifts = (drop-take 2 t v ∙ ap (take t) (ap (drop 2) e ∙ drop-drop 2 (b + s) coins ∙ ap (λ (n : ℕ). drop n coins) (Nat.add-assoc b s 2))) x;
       }
 
-  next-coins : (i : ℕ) → drop (laterCount (levelOf w i)) (drop (outsOf w) (drop (coinsBefore w (suc i)) coins)) ≡ drop (coinsBefore w (suc (suc i))) coins
+  next-coins : (i : ℕ) → drop (laterCount (levelOf h i)) (drop (outsOf h) (drop (coinsBefore h (suc i)) coins)) ≡ drop (coinsBefore h (suc (suc i))) coins
   unfolding coinsBefore coinCount
   next-coins i =
-      let b = coinsBefore w (suc i) in
-      let s = outsOf w in
-      ap (drop (laterCount (levelOf w i))) (drop-drop s b coins) ∙ drop-drop (laterCount (levelOf w i)) (b + s) coins
-      ∙ ap (λ (n : ℕ). drop n coins) (Nat.add-assoc b s (laterCount (levelOf w i)))
+      let b = coinsBefore h (suc i) in
+      let s = outsOf h in
+      ap (drop (laterCount (levelOf h i))) (drop-drop s b coins) ∙ drop-drop (laterCount (levelOf h i)) (b + s) coins
+      ∙ ap (λ (n : ℕ). drop n coins) (Nat.add-assoc b s (laterCount (levelOf h i)))
 
-  first-coins : drop 1 coins ≡ drop (coinsBefore w 1) coins
+  first-coins : drop 1 coins ≡ drop (coinsBefore h 1) coins
   unfolding coinsBefore coinCount
   first-coins = refl
 
   -- m rounds from round i + 1 on
-  rounds-read : (m i : ℕ) → readRounds (outsOf w) (levelOf w i) (map (levelOf w) (range (suc i) m)) (drop (coinsBefore w (suc i)) coins) ≡ map (coinsOf w coins) (range (suc i) m)
+  rounds-read : (m i : ℕ) → readRounds (outsOf h) (levelOf h i) (map (levelOf h) (range (suc i) m)) (drop (coinsBefore h (suc i)) coins) ≡ map (coinsOf h coins) (range (suc i) m)
   unfolding readRounds range
   rounds-read zero i = refl
   rounds-read (suc m) i = λ x. round-read i x
-      ∷ (ap (readRounds (outsOf w) (levelOf w (suc i)) (map (levelOf w) (range (suc (suc i)) m))) (next-coins i) ∙ rounds-read m (suc i)) x
+      ∷ (ap (readRounds (outsOf h) (levelOf h (suc i)) (map (levelOf h) (range (suc (suc i)) m))) (next-coins i) ∙ rounds-read m (suc i)) x
 
-  finals-read : (m i : ℕ) → readFinals (outsOf w) (levelOf w i) (map (levelOf w) (range (suc i) m)) (drop (coinsBefore w (suc i)) coins) ≡ drop (coinsBefore w (suc (i + m))) coins
+  finals-read : (m i : ℕ) → readFinals (outsOf h) (levelOf h i) (map (levelOf h) (range (suc i) m)) (drop (coinsBefore h (suc i)) coins) ≡ drop (coinsBefore h (suc (i + m))) coins
   unfolding readFinals range
-  finals-read zero i = ap (λ (n : ℕ). drop (coinsBefore w (suc n)) coins) (sym (Nat.add-zero i))
+  finals-read zero i = ap (λ (n : ℕ). drop (coinsBefore h (suc n)) coins) (sym (Nat.add-zero i))
   finals-read (suc m) i =
-      ap (readFinals (outsOf w) (levelOf w (suc i)) (map (levelOf w) (range (suc (suc i)) m))) (next-coins i) ∙ finals-read m (suc i)
-      ∙ ap (λ (n : ℕ). drop (coinsBefore w (suc n)) coins) (suc-add i m ∙ sym (Nat.add-suc i m))
+      ap (readFinals (outsOf h) (levelOf h (suc i)) (map (levelOf h) (range (suc (suc i)) m))) (next-coins i) ∙ finals-read m (suc i)
+      ∙ ap (λ (n : ℕ). drop (coinsBefore h (suc n)) coins) (suc-add i m ∙ sym (Nat.add-suc i m))
 
   -- the coins that the sheet makes of the list
-  pub coins-read : 7 + roundsOf w ≤ length w →
-      readCoins (sheetOf w) coins ≡ record { fold = foldCoin w coins 0; rounds = map (coinsOf w coins) (range 1 (roundsOf w)); finals = finalIndices w coins }
-  unfolding readCoins sheetOf foldCoin finalIndices
+  pub coins-read : Paired h →
+      readCoins h coins ≡ record { fold = foldCoin h coins 0; rounds = map (coinsOf h coins) (range 1 (roundsOf h)); finals = finalIndices h coins }
+  unfolding readCoins foldCoin finalIndices
   coins-read l = λ x. record {
     fold = getD coins 0 0;
-    rounds = (readAt (λ b ls u. readRounds (outsOf w) b ls u) ∙ rounds-read (roundsOf w) 0) x;
-    finals = (readAt (λ b ls u. readFinals (outsOf w) b ls u) ∙ finals-read (roundsOf w) 0 ∙ ap (λ (n : ℕ). drop (coinsBefore w (suc n)) coins) (zero-add (roundsOf w))) x;
+    rounds = (readAt (λ b ls u. readRounds (outsOf h) b ls u) ∙ rounds-read (roundsOf h) 0) x;
+    finals = (readAt (λ b ls u. readFinals (outsOf h) b ls u) ∙ finals-read (roundsOf h) 0 ∙ ap (λ (n : ℕ). drop (coinsBefore h (suc n)) coins) (zero-add (roundsOf h))) x;
   }
     where
       readAt : {B : Type 0} (read : Level → List Level → List ℕ → B) →
-          read (firstLevel (sheetOf w)) (laterLevels (sheetOf w)) (drop 1 coins) ≡ read (levelOf w 0) (map (levelOf w) (range 1 (roundsOf w))) (drop (coinsBefore w 1) coins)
-      readAt read = λ x. read (level-first w x) (levels-later w l x) (first-coins x)
+          read (firstLevel h) (laterLevels h) (drop 1 coins) ≡ read (levelOf h 0) (map (levelOf h) (range 1 (roundsOf h))) (drop (coinsBefore h 1) coins)
+      readAt read = λ x. read (level-first h x) (levels-later h l x) (first-coins x)

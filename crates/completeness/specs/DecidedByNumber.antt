@@ -1,50 +1,50 @@
 -- Deciding by number: the rounds as they stand in a stream, and the outcome as the first round that clashes and then the first final index that differs.
-use Prim.Native.Nat.{ℕ, zero, suc, _+_, _≤_}
+use Prim.Native.Nat.{ℕ, zero, suc, _+_}
 use native.Mathlib.Nat.{add-assoc}
 use native.Mathlib.Omega.{arith}
 use mathlib.Core.Bool.{Bool, true, false, cond}
 use mathlib.Core.List.{List, [], _∷_, _++_, map}
 use mathlib.Core.Path.{_≡_, refl, ap, _∙_}
-use lib.ListN.{length, getD, take, drop}
+use lib.ListN.{getD, take, drop}
 use lib.Seq.{drop-drop, getD-drop, getD-take}
 use Rattle.definition.specs.Deciding.{Place, decide, decideFinal, decideRest, differences, placesOf, readsOf, tableFunction}
 use Rattle.definition.specs.Field.{Field}
 use Rattle.definition.specs.Layout.{laterCount, readRest, readTranscript, roundCoins}
 use Rattle.definition.specs.Lists.{firstTrue, range}
 use Rattle.definition.specs.Polynomial.{clash}
-use Rattle.definition.specs.Sheet.{firstLevel, sheetOf}
+use Rattle.definition.specs.Sheet.{Edition, Sheet, firstLevel, sheetLength}
 use Rattle.definition.specs.Transcript.{Rest}
 use Rattle.definition.specs.Transcript
 use Rattle.definition.specs.Verdict.{Outcome, Verdict, _then_, refuseAt, refused}
 use Rattle.completeness.specs.Faults.{combination, finals, fold, functionIn, outs, pairsIn, partLength, partStart, partWord, partWords, roundIn, shifts, words}
-use Rattle.completeness.specs.LevelsByNumber.{level-first, levels-later}
+use Rattle.completeness.specs.LevelsByNumber.{Paired, level-first, levels-later}
 use Rattle.completeness.specs.ListLaws.{drop-take}
 use Rattle.completeness.specs.Numbered.{final, lengthOf, levelOf, outsOf, replies, roundStart, roundsOf, sheetField, sheetRoot, startOf, table, wordCount}
 
-module _ (w : List ℕ) where
+module _ (ed : Edition) (h : Sheet) (w : List ℕ) where
   abbrev F : Field ℕ
-  F = sheetField w
+  F = sheetField h
 
   abbrev ω : ℕ
-  ω = sheetRoot w
+  ω = sheetRoot h
 
   abbrev M : ℕ
-  M = roundsOf w
+  M = roundsOf h
 
   -- the words from round i on, as readRest reads them
   round-read : (i : ℕ) →
       record {
-        table = take (levelOf w (suc i) .size) (drop (roundStart w (suc i)) w);
-        coins = roundCoins (levelOf w (suc i)) (take (outsOf w) (drop (levelOf w (suc i) .size) (drop (roundStart w (suc i)) w)))
-            (take (laterCount (levelOf w i)) (drop (outsOf w) (drop (outsOf w) (drop (levelOf w (suc i) .size) (drop (roundStart w (suc i)) w)))));
-        replies = take (outsOf w) (drop (outsOf w) (drop (levelOf w (suc i) .size) (drop (roundStart w (suc i)) w)));
-      } ≡ roundIn w i
+        table = take (levelOf h (suc i) .size) (drop (roundStart ed h (suc i)) w);
+        coins = roundCoins (levelOf h (suc i)) (take (outsOf h) (drop (levelOf h (suc i) .size) (drop (roundStart ed h (suc i)) w)))
+            (take (laterCount (levelOf h i)) (drop (outsOf h) (drop (outsOf h) (drop (levelOf h (suc i) .size) (drop (roundStart ed h (suc i)) w)))));
+        replies = take (outsOf h) (drop (outsOf h) (drop (levelOf h (suc i) .size) (drop (roundStart ed h (suc i)) w)));
+      } ≡ roundIn ed h w i
   unfolding roundCoins laterCount partWords partStart partLength startOf lengthOf
   round-read i =
-      let a = roundStart w (suc i) in
-      let n = levelOf w (suc i) .size in
-      let s = outsOf w in
-      let t = levelOf w i .repetitions in
+      let a = roundStart ed h (suc i) in
+      let n = levelOf h (suc i) .size in
+      let s = outsOf h in
+      let t = levelOf h i .repetitions in
       let e₁ : drop n (drop a w) ≡ drop (a + n) w = drop-drop n a w in
       let e₂ : drop s (drop n (drop a w)) ≡ drop (a + (n + s)) w = ap (drop s) e₁ ∙ drop-drop s (a + n) w ∙ ap (λ (m : ℕ). drop m w) (add-assoc a n s) in
       let e₃ : drop s (drop s (drop n (drop a w))) ≡ drop (a + (n + (s + s))) w =
@@ -53,7 +53,7 @@ module _ (w : List ℕ) where
       λ x. record {
         table = take n (drop a w);
         coins = record {
-          level = levelOf w (suc i);
+          level = levelOf h (suc i);
           outs = take s (e₁ x);
           combination = (getD-take (2 + t) v 0 0 (omega arith) ∙ ap (λ (l : List ℕ). getD l 0 0) e₃ ∙ getD-drop (a + (n + (s + s))) w 0 0) x;
           fold = (getD-take (2 + t) v 1 0 (omega arith) ∙ ap (λ (l : List ℕ). getD l 1 0) e₃ ∙ getD-drop (a + (n + (s + s))) w 1 0
@@ -65,66 +65,66 @@ module _ (w : List ℕ) where
       }
 
   next-words : (i : ℕ) →
-      drop (laterCount (levelOf w i)) (drop (outsOf w) (drop (outsOf w) (drop (levelOf w (suc i) .size) (drop (roundStart w (suc i)) w)))) ≡ drop (roundStart w (suc (suc i))) w
+      drop (laterCount (levelOf h i)) (drop (outsOf h) (drop (outsOf h) (drop (levelOf h (suc i) .size) (drop (roundStart ed h (suc i)) w)))) ≡ drop (roundStart ed h (suc (suc i))) w
   unfolding roundStart wordCount
   next-words i =
-      let a = roundStart w (suc i) in
-      let n = levelOf w (suc i) .size in
-      let s = outsOf w in
-      let c = laterCount (levelOf w i) in
+      let a = roundStart ed h (suc i) in
+      let n = levelOf h (suc i) .size in
+      let s = outsOf h in
+      let c = laterCount (levelOf h i) in
       ap (drop c) (ap (drop s) (ap (drop s) (drop-drop n a w) ∙ drop-drop s (a + n) w) ∙ drop-drop s (a + n + s) w) ∙ drop-drop c (a + n + s + s) w
       ∙ ap (λ (m : ℕ). drop m w) (let q : a + n + s + s + c ≡ a + (n + (s + (s + c))) = omega arith in q)
 
   -- what is read from the words after round i
   abbrev pub restAfter : ℕ → ℕ → Rest ℕ
-  restAfter i m = readRest (outsOf w) (levelOf w i) (map (levelOf w) (range (suc i) m)) (drop (roundStart w (suc i)) w)
+  restAfter i m = readRest (outsOf h) (levelOf h i) (map (levelOf h) (range (suc i) m)) (drop (roundStart ed h (suc i)) w)
 
-  pub rest-round : (i m : ℕ) → restAfter i (suc m) ≡ Transcript.round (roundIn w i) (restAfter (suc i) m)
+  pub rest-round : (i m : ℕ) → restAfter i (suc m) ≡ Transcript.round (roundIn ed h w i) (restAfter (suc i) m)
   unfolding readRest range
-  rest-round i m = λ x. Transcript.round (round-read i x) (readRest (outsOf w) (levelOf w (suc i)) (map (levelOf w) (range (suc (suc i)) m)) (next-words i x))
+  rest-round i m = λ x. Transcript.round (round-read i x) (readRest (outsOf h) (levelOf h (suc i)) (map (levelOf h) (range (suc (suc i)) m)) (next-words i x))
 
-  pub rest-final : restAfter M 0 ≡ Transcript.final (partWords w (words final)) (partWords w finals)
+  pub rest-final : restAfter M 0 ≡ Transcript.final (partWords ed h w (words final)) (partWords ed h w finals)
   unfolding readRest range partWords partStart partLength startOf lengthOf
-  rest-final = λ x. Transcript.final (take (lengthOf w final) (drop (roundStart w (suc M)) w))
-      (take (levelOf w M .repetitions) (drop-drop (lengthOf w final) (roundStart w (suc M)) w x))
+  rest-final = λ x. Transcript.final (take (lengthOf h final) (drop (roundStart ed h (suc M)) w))
+      (take (levelOf h M .repetitions) (drop-drop (lengthOf h final) (roundStart ed h (suc M)) w x))
 
   -- the rounds that clash from round i + 1 on, and the final comparisons
   abbrev pub clashes : ℕ → ℕ → List Bool
-  clashes i m = map (λ j. clash F (pairsIn w j)) (range i m)
+  clashes i m = map (λ j. clash F (pairsIn ed h w j)) (range i m)
 
   abbrev pub finalTests : List Bool
-  finalTests = differences F ω (levelOf w M) (functionIn w M .value) (partWord w (fold M) 0) (partWords w (words final)) (partWords w finals)
+  finalTests = differences F ω (levelOf h M) (functionIn ed h w M .value) (partWord ed h w (fold M) 0) (partWords ed h w (words final)) (partWords ed h w finals)
 
   rest-decided : (m i : ℕ) (used : List Place) → i + m ≡ M →
-      decideRest F ω (levelOf w i) (functionIn w i) (partWord w (fold i) 0) used (restAfter i m) .outcome
+      decideRest F ω (levelOf h i) (functionIn ed h w i) (partWord ed h w (fold i) 0) used (restAfter i m) .outcome
       ≡ (refuseAt 8 (firstTrue (suc i) (clashes i m)) then refuseAt 9 (firstTrue 0 finalTests))
   unfolding decideRest decideFinal range firstTrue refuseAt _then_ functionIn pairsIn
   rest-decided zero i used e =
       let q : i ≡ M = omega arith in
-      ap (λ (j : ℕ). decideRest F ω (levelOf w j) (functionIn w j) (partWord w (fold j) 0) used (restAfter j 0) .outcome) q
-      ∙ ap (λ (r : Rest ℕ). decideRest F ω (levelOf w M) (functionIn w M) (partWord w (fold M) 0) used r .outcome) rest-final
+      ap (λ (j : ℕ). decideRest F ω (levelOf h j) (functionIn ed h w j) (partWord ed h w (fold j) 0) used (restAfter j 0) .outcome) q
+      ∙ ap (λ (r : Rest ℕ). decideRest F ω (levelOf h M) (functionIn ed h w M) (partWord ed h w (fold M) 0) used r .outcome) rest-final
   rest-decided (suc m) i used e =
-      let now = used ++ placesOf (levelOf w i) (functionIn w i .places) (partWords w (shifts i)) in
-      ap (λ (r : Rest ℕ). decideRest F ω (levelOf w i) (functionIn w i) (partWord w (fold i) 0) used r .outcome) (rest-round i m)
-      ∙ go (decideRest F ω (levelOf w (suc i)) (functionIn w (suc i)) (partWord w (fold (suc i)) 0) now (restAfter (suc i) m)) (readsOf now) (clashes (suc i) m)
-      (refuseAt 9 (firstTrue 0 finalTests)) (clash F (pairsIn w i)) (rest-decided m (suc i) now (omega arith))
+      let now = used ++ placesOf (levelOf h i) (functionIn ed h w i .places) (partWords ed h w (shifts i)) in
+      ap (λ (r : Rest ℕ). decideRest F ω (levelOf h i) (functionIn ed h w i) (partWord ed h w (fold i) 0) used r .outcome) (rest-round i m)
+      ∙ go (decideRest F ω (levelOf h (suc i)) (functionIn ed h w (suc i)) (partWord ed h w (fold (suc i)) 0) now (restAfter (suc i) m)) (readsOf now) (clashes (suc i) m)
+      (refuseAt 9 (firstTrue 0 finalTests)) (clash F (pairsIn ed h w i)) (rest-decided m (suc i) now (omega arith))
     where
       go : (v : Verdict) (n : ℕ) (bs : List Bool) (z : Outcome) (c : Bool) → v .outcome ≡ (refuseAt 8 (firstTrue (suc (suc i)) bs) then z) →
           cond c (record { outcome = refused 8 (suc i); reads = n }) v .outcome ≡ (refuseAt 8 (firstTrue (suc i) (c ∷ bs)) then z)
-      go v n bs z true h = refl
-      go v n bs z false h = h
+      go v n bs z true g = refl
+      go v n bs z false g = g
 
   -- deciding the words after the sheet
-  pub decide-rounds : 7 + M ≤ length w → decide F ω (firstLevel (sheetOf w)) (readTranscript (sheetOf w) (drop 12 w))
-      ≡ decideRest F ω (levelOf w 0) (functionIn w 0) (partWord w (fold 0) 0) [] (restAfter 0 M)
-  unfolding decide readTranscript sheetOf firstLevel functionIn partWords partStart partLength startOf lengthOf roundStart wordCount
+  pub decide-rounds : Paired h → decide F ω (firstLevel h) (readTranscript h (drop (sheetLength ed) w))
+      ≡ decideRest F ω (levelOf h 0) (functionIn ed h w 0) (partWord ed h w (fold 0) 0) [] (restAfter 0 M)
+  unfolding decide readTranscript firstLevel functionIn partWords partStart partLength startOf lengthOf roundStart wordCount
   decide-rounds long =
-      let n = levelOf w 0 .size in
-      (λ x. decideRest F ω (level-first w x) (tableFunction F ω (level-first w x) (take (level-first w x .size) (drop 12 w))) (getD (drop (level-first w x .size) (drop 12 w)) 0 0) []
-      (readRest (outsOf w) (level-first w x) (levels-later w long x) (drop 1 (drop (level-first w x .size) (drop 12 w)))))
-      ∙ (λ x. decideRest F ω (levelOf w 0) (functionIn w 0) ((ap (λ (l : List ℕ). getD l 0 0) (drop-drop n 12 w) ∙ getD-drop (12 + n) w 0 0) x) []
-      (readRest (outsOf w) (levelOf w 0) (map (levelOf w) (range 1 M)) ((ap (drop 1) (drop-drop n 12 w) ∙ drop-drop 1 (12 + n) w ∙ ap (λ (m : ℕ). drop m w) (add-assoc 12 n 1)) x)))
+      let n = levelOf h 0 .size in
+      (λ x. decideRest F ω (level-first h x) (tableFunction F ω (level-first h x) (take (level-first h x .size) (drop (sheetLength ed) w))) (getD (drop (level-first h x .size) (drop (sheetLength ed) w)) 0 0) []
+      (readRest (outsOf h) (level-first h x) (levels-later h long x) (drop 1 (drop (level-first h x .size) (drop (sheetLength ed) w)))))
+      ∙ (λ x. decideRest F ω (levelOf h 0) (functionIn ed h w 0) ((ap (λ (l : List ℕ). getD l 0 0) (drop-drop n (sheetLength ed) w) ∙ getD-drop (sheetLength ed + n) w 0 0) x) []
+      (readRest (outsOf h) (levelOf h 0) (map (levelOf h) (range 1 M)) ((ap (drop 1) (drop-drop n (sheetLength ed) w) ∙ drop-drop 1 (sheetLength ed + n) w ∙ ap (λ (m : ℕ). drop m w) (add-assoc (sheetLength ed) n 1)) x)))
 
-  pub decided : 7 + M ≤ length w → decide F ω (firstLevel (sheetOf w)) (readTranscript (sheetOf w) (drop 12 w)) .outcome
+  pub decided : Paired h → decide F ω (firstLevel h) (readTranscript h (drop (sheetLength ed) w)) .outcome
       ≡ (refuseAt 8 (firstTrue 1 (clashes 0 M)) then refuseAt 9 (firstTrue 0 finalTests))
   decided long = ap (λ (v : Verdict). v .outcome) (decide-rounds long) ∙ rest-decided M 0 [] (omega arith)

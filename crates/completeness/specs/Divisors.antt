@@ -17,10 +17,10 @@ use Rattle.definition.specs.Lists.{range}
 use Rattle.definition.specs.Polynomial.{Sample, distinct, evaluate, pair, points, vanishing}
 use Rattle.definition.specs.Prover.{honestStream}
 use Rattle.definition.specs.Reading.{outOfRange, rangeTest, reading, sheetTest}
-use Rattle.definition.specs.Sheet.{Level, Sheet, finalCount, firstLevel, laterLevels, rootOfUnity, sheetOf, shiftCount}
+use Rattle.definition.specs.Sheet.{Edition, Level, Sheet, finalCount, firstLevel, laterLevels, rootOfUnity, sheetLength, sheetOf, shiftCount}
 use Rattle.definition.specs.Transcript.{Rest, Round, round}
 use Rattle.definition.specs.Verdict.{Verdict, accepted}
-use Rattle.definition.specs.Verify.{verify}
+use Rattle.definition.specs.Verify.{verifyIn}
 use Rattle.algebra.specs.Different.{Apart, Differ}
 use Rattle.algebra.specs.Divisors.{some≢none, vanishing-differs}
 use Rattle.algebra.specs.Interpolation.{all-of-points}
@@ -39,7 +39,7 @@ use Rattle.completeness.specs.LevelSizes.{Chain}
 use Rattle.completeness.specs.ListLaws.{regroup}
 use Rattle.completeness.specs.Numbered.{Allowed, Nonzero, decidingDivisors, divisors, foldDivisors, restDivisors, roundsOf, samplesAt, sheetField, sheetRoot}
 use Rattle.completeness.specs.Passed.{passed}
-use Rattle.completeness.specs.Ready.{Ready, ready-stream}
+use Rattle.completeness.specs.Ready.{Ready, ready}
 use Rattle.completeness.specs.RunByNumber as run
 use Rattle.completeness.specs.SheetLevels.{Steps}
 use Rattle.completeness.specs.Tests.{at-passes, verdict-passes}
@@ -162,17 +162,19 @@ module _ (h : Sheet) (q : Ready h) where
       (rest-found s l ls (drop (laterCount b) w₃) (ch .2) (st .1) (rest .1) next (ρ .coins .fold))
 
 -- a stream that passes refusals 3, 5 and 7, with all words due
-stream-found : (w : List ℕ) → sheetTest w ≡ accepted → wordsDue (sheetOf w) ≤ length w → rangeTest (sheetOf w) w ≡ accepted → outTest (sheetOf w) w ≡ accepted →
-    All (Found (sheetField w)) (decidingDivisors w)
+stream-found : (ed : Edition) (w : List ℕ) → sheetTest ed w ≡ accepted → wordsDue ed (sheetOf ed w) ≤ length w →
+    rangeTest (sheetOf ed w) (sheetLength ed) (layout (sheetOf ed w)) w ≡ accepted → outTest (sheetOf ed w) (sheetLength ed) (layout (sheetOf ed w)) w ≡ accepted →
+    All (Found (sheetField (sheetOf ed w))) (decidingDivisors ed w)
 unfolding wordsDue rangeTest outTest layout readTranscript decidingDivisors
-stream-found w sheet due range outside =
-    let h = sheetOf w in
-    let q = ready-stream w (omega (arith, due)) sheet in
+stream-found ed w sheet due range outside =
+    let h = sheetOf ed w in
+    let n = sheetLength ed in
+    let q = ready ed w (omega (arith, due)) sheet in
     let rest = restLayout (h .outCoins) (firstLevel h) (laterLevels h) in
-    let words = front-false (outOfRange h) (outInDomain h) 12 (layout h) (drop 12 w) (omega (arith, due, length-drop 12 w)) (at-passes 5 _ range) (at-passes 7 _ outside) in
-    let after = front-at (Passes h) (h .size) (replicate (h .size) message) (coin ∷ rest) (drop 12 w) (length-replicate (h .size) message) words .1 in
-    rest-found h q (h .outCoins) (firstLevel h) (laterLevels h) (drop 1 (drop (h .size) (drop 12 w))) (q .chain) (q .steps)
-    (front-tail (Passes h) coin rest (drop (h .size) (drop 12 w)) after) _ _
+    let words = front-false (outOfRange h) (outInDomain h) n (layout h) (drop n w) (omega (arith, due, length-drop n w)) (at-passes 5 _ range) (at-passes 7 _ outside) in
+    let after = front-at (Passes h) (h .size) (replicate (h .size) message) (coin ∷ rest) (drop n w) (length-replicate (h .size) message) words .1 in
+    rest-found h q (h .outCoins) (firstLevel h) (laterLevels h) (drop 1 (drop (h .size) (drop n w))) (q .chain) (q .steps)
+    (front-tail (Passes h) coin rest (drop (h .size) (drop n w)) after) _ _
 
 -- what has an inverse in a prime field differs from 0
 found-nonzero : (p x : ℕ) → Found (primeField p) x → x % p ≡ 0 → ⊥
@@ -180,23 +182,26 @@ unfolding primeField
 found-nonzero p x found z = some≢none (found .0) (sym (found .1) ∙ simp (eq-eqb (x % p) 0 z))
 
 -- every file that passes reading and refusal 7
-pub file-divisors : (bytes : List ℕ) → reading bytes ≡ accepted → outTest (sheetOf (streamOf bytes)) (streamOf bytes) ≡ accepted → All (Nonzero (streamOf bytes)) (decidingDivisors (streamOf bytes))
-file-divisors bytes read outside =
-    let p = passed bytes read in
-    all-map (decidingDivisors (streamOf bytes)) (stream-found (streamOf bytes) (p .sheet) (p .due) (p .range) outside) (λ x u. found-nonzero (sheetOf (streamOf bytes) .prime) x u)
+pub file-divisors : (ed : Edition) (bytes : List ℕ) → reading ed bytes ≡ accepted →
+    outTest (sheetOf ed (streamOf bytes)) (sheetLength ed) (layout (sheetOf ed (streamOf bytes))) (streamOf bytes) ≡ accepted →
+    All (Nonzero (sheetOf ed (streamOf bytes))) (decidingDivisors ed (streamOf bytes))
+file-divisors ed bytes read outside =
+    let p = passed ed bytes read in
+    all-map (decidingDivisors ed (streamOf bytes)) (stream-found ed (streamOf bytes) (p .sheet) (p .due) (p .range) outside) (λ x u. found-nonzero (sheetOf ed (streamOf bytes) .prime) x u)
 
 -- every honest run: its file, and the prover's own interpolation
-module _ {w f coins : List ℕ} (ok : Allowed w f coins) where
+module _ {ed : Edition} {w f coins : List ℕ} (ok : Allowed ed w f coins) where
   abbrev file : List ℕ
-  file = fileOf (honestStream w f coins)
+  file = fileOf (honestStream ed w f coins)
 
-  pub honest-divisors : All (Nonzero (streamOf file)) (decidingDivisors (streamOf file))
-  unfolding verify deciding
+  pub honest-divisors : All (Nonzero (sheetOf ed (streamOf file))) (decidingDivisors ed (streamOf file))
+  unfolding verifyIn deciding
   honest-divisors =
-      let read = verdict-passes (reading file) (deciding (streamOf file)) (ap (λ (v : Verdict). v .outcome) (completeness w f coins ok)) in
-      file-divisors file (read .0) (verdict-passes (outTest (sheetOf (streamOf file)) (streamOf file)) _ (read .1) .0)
+      let read = verdict-passes (reading ed file) (deciding ed (streamOf file)) (ap (λ (v : Verdict). v .outcome) (completeness ed w f coins ok)) in
+      file-divisors ed file (read .0) (verdict-passes (outTest (sheetOf ed (streamOf file)) (sheetLength ed) (layout (sheetOf ed (streamOf file))) (streamOf file)) _ (read .1) .0)
 
-  pub prover-divisors : (i : ℕ) → i < roundsOf w → All (Nonzero w) (divisors (sheetField w) (samplesAt w f coins (suc i)))
+  pub prover-divisors : (i : ℕ) → i < roundsOf (sheetOf ed w) → All (Nonzero (sheetOf ed w)) (divisors (sheetField (sheetOf ed w)) (samplesAt (sheetOf ed w) f coins (suc i)))
   prover-divisors i l =
-      let F = sheetField w in
-      all-map (divisors F (samplesAt w f coins (suc i))) (divisors-found F (sheetReady ok .laws) (sheetRoot w) (samplesAt w f coins (suc i)) (run.samples-apart ok i l)) (λ x u. found-nonzero (sheetOf w .prime) x u)
+      let h = sheetOf ed w in
+      let F = sheetField h in
+      all-map (divisors F (samplesAt h f coins (suc i))) (divisors-found F (sheetReady ok .laws) (sheetRoot h) (samplesAt h f coins (suc i)) (run.samples-apart ok i l)) (λ x u. found-nonzero (h .prime) x u)

@@ -1,5 +1,5 @@
 -- Domains by level number, of every sheet without a fault.
-use Prim.Native.Nat.{ℕ, suc, _+_, _≤_, _<_}
+use Prim.Native.Nat.{ℕ, suc, _≤_, _<_}
 use mathlib.Core.List.{List}
 use mathlib.Core.Path.{_≡_, ap, _∙_}
 use lib.ListN.{length}
@@ -7,43 +7,48 @@ use Rattle.definition.specs.Domain.{point, shiftPoint}
 use Rattle.definition.specs.Field.{Field}
 use Rattle.definition.specs.Prove.{sheetLengthTest}
 use Rattle.definition.specs.Reading.{sheetTest}
-use Rattle.definition.specs.Sheet.{sheetOf, shiftCount}
+use Rattle.definition.specs.Sheet.{Edition, sheetLength, sheetOf, shiftCount}
 use Rattle.definition.specs.Verdict.{accepted}
 use Rattle.algebra.specs.PrimeField.{signs-differ}
 use Rattle.algebra.specs.RingLaws.{sub-self}
 use Rattle.algebra.specs.RootsOfUnity.{minusOne}
-use Rattle.completeness.specs.Allowed.{sheet-long}
+use Rattle.completeness.specs.Allowed.{sheet-enough, sheet-long}
 use Rattle.completeness.specs.Domains
 use Rattle.completeness.specs.Domains.{Roots}
 use Rattle.completeness.specs.Numbered.{levelOf, outsOf, roundsOf, sheetField, sheetRoot}
 use Rattle.completeness.specs.Ready.{Ready, ready, ready-sized}
-use Rattle.completeness.specs.SheetLevels.{enough-words, step}
+use Rattle.completeness.specs.SheetLevels.{step}
+use Rattle.completeness.specs.Lawful.{lawful}
+use Rattle.completeness.specs.LevelsByNumber.{Paired}
 
-module _ (w : List ℕ) (words : sheetLengthTest w ≡ accepted) (passed : sheetTest w ≡ accepted) where
-  pub enough : 7 + roundsOf w ≤ length w
-  enough = enough-words w (sheet-long w words) passed
+module _ (ed : Edition) (w : List ℕ) (words : sheetLengthTest ed w ≡ accepted) (passed : sheetTest ed w ≡ accepted) where
+  long : sheetLength ed ≤ length w
+  long = sheet-enough ed w (sheet-long ed w words)
 
-  abbrev q : Ready (sheetOf w)
-  q = ready w (sheet-long w words) passed
+  pub paired : Paired (sheetOf ed w)
+  paired = lawful ed w long passed .paired
+
+  abbrev q : Ready (sheetOf ed w)
+  q = ready ed w long passed
 
   abbrev F : Field ℕ
-  F = sheetField w
+  F = sheetField (sheetOf ed w)
 
-  abbrev signs : minusOne (sheetField w) ≡ sheetField w .𝟙 → ⊥
-  signs = signs-differ (sheetOf w .prime) (q .large)
+  abbrev signs : minusOne (sheetField (sheetOf ed w)) ≡ sheetField (sheetOf ed w) .𝟙 → ⊥
+  signs = signs-differ (sheetOf ed w .prime) (q .large)
 
-  pub points-different : (i a b : ℕ) → i ≤ roundsOf w → a < levelOf w i .size → b < levelOf w i .size →
-      point F (sheetRoot w) (levelOf w i) a ≡ point F (sheetRoot w) (levelOf w i) b → a ≡ b
-  points-different i a b l = Domains.same-point F (q .laws) (sheetRoot w) signs (q .e) (q .root) (levelOf w i) (ready-sized w (sheet-long w words) passed i l) a b
+  pub points-different : (i a b : ℕ) → i ≤ roundsOf (sheetOf ed w) → a < levelOf (sheetOf ed w) i .size → b < levelOf (sheetOf ed w) i .size →
+      point F (sheetRoot (sheetOf ed w)) (levelOf (sheetOf ed w) i) a ≡ point F (sheetRoot (sheetOf ed w)) (levelOf (sheetOf ed w) i) b → a ≡ b
+  points-different i a b l = Domains.same-point F (q .laws) (sheetRoot (sheetOf ed w)) signs (q .e) (q .root) (levelOf (sheetOf ed w) i) (ready-sized ed w long passed i l) a b
 
-  pub roots-of-shift : (i j : ℕ) → i ≤ roundsOf w → j < shiftCount (levelOf w i) → Roots F (sheetRoot w) (levelOf w i) j
-  roots-of-shift i j l = Domains.roots F (q .laws) (sheetRoot w) signs (q .e) (q .root) (levelOf w i) j (ready-sized w (sheet-long w words) passed i l)
+  pub roots-of-shift : (i j : ℕ) → i ≤ roundsOf (sheetOf ed w) → j < shiftCount (levelOf (sheetOf ed w) i) → Roots F (sheetRoot (sheetOf ed w)) (levelOf (sheetOf ed w) i) j
+  roots-of-shift i j l = Domains.roots F (q .laws) (sheetRoot (sheetOf ed w)) signs (q .e) (q .root) (levelOf (sheetOf ed w) i) j (ready-sized ed w long passed i l)
 
-  pub shifts-different : (i a b : ℕ) → i ≤ roundsOf w → a < shiftCount (levelOf w i) → b < shiftCount (levelOf w i) →
-      shiftPoint F (sheetRoot w) (levelOf w i) a ≡ shiftPoint F (sheetRoot w) (levelOf w i) b → a ≡ b
-  shifts-different i a b l = Domains.same-shift F (q .laws) (sheetRoot w) signs (q .e) (q .root) (levelOf w i) (ready-sized w (sheet-long w words) passed i l) a b
+  pub shifts-different : (i a b : ℕ) → i ≤ roundsOf (sheetOf ed w) → a < shiftCount (levelOf (sheetOf ed w) i) → b < shiftCount (levelOf (sheetOf ed w) i) →
+      shiftPoint F (sheetRoot (sheetOf ed w)) (levelOf (sheetOf ed w) i) a ≡ shiftPoint F (sheetRoot (sheetOf ed w)) (levelOf (sheetOf ed w) i) b → a ≡ b
+  shifts-different i a b l = Domains.same-shift F (q .laws) (sheetRoot (sheetOf ed w)) signs (q .e) (q .root) (levelOf (sheetOf ed w) i) (ready-sized ed w long passed i l) a b
 
-  pub shifts-off-domain : (i m j : ℕ) → i < roundsOf w → point F (sheetRoot w) (levelOf w (suc i)) m ≡ shiftPoint F (sheetRoot w) (levelOf w i) j → ⊥
+  pub shifts-off-domain : (i m j : ℕ) → i < roundsOf (sheetOf ed w) → point F (sheetRoot (sheetOf ed w)) (levelOf (sheetOf ed w) (suc i)) m ≡ shiftPoint F (sheetRoot (sheetOf ed w)) (levelOf (sheetOf ed w) i) j → ⊥
   shifts-off-domain i m j l e =
-      Domains.never-meet F (q .laws) (sheetRoot w) signs (q .e) (q .root) (outsOf w) (levelOf w i) (levelOf w (suc i)) m j (step w (sheet-long w words) passed i l)
-      (ap (λ (x : ℕ). F ._⊖_ x (shiftPoint F (sheetRoot w) (levelOf w i) j)) e ∙ sub-self F (q .laws) (shiftPoint F (sheetRoot w) (levelOf w i) j))
+      Domains.never-meet F (q .laws) (sheetRoot (sheetOf ed w)) signs (q .e) (q .root) (outsOf (sheetOf ed w)) (levelOf (sheetOf ed w) i) (levelOf (sheetOf ed w) (suc i)) m j (step (sheetOf ed w) (lawful ed w long passed) i l)
+      (ap (λ (x : ℕ). F ._⊖_ x (shiftPoint F (sheetRoot (sheetOf ed w)) (levelOf (sheetOf ed w) i) j)) e ∙ sub-self F (q .laws) (shiftPoint F (sheetRoot (sheetOf ed w)) (levelOf (sheetOf ed w) i) j))

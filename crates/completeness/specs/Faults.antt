@@ -1,19 +1,20 @@
 -- THE VOCABULARY OF THE PAGE ON VERIFY: what stands in a file, by number, and what a fault of each number is. It holds no lemma and no proof.
--- A file is the list of its bytes; w is the word stream that it holds, with the sheet in front, so that Numbered's M, s, levels, rounds and messages are read off it.
+-- A file, of an edition ed, is the list of its bytes; w is the word stream that it holds, and h the sheet in front of it, whose M, s, levels, rounds and messages are
+-- Numbered's.
 use Prim.Native.Nat.{ℕ, zero, suc, _+_, _-_, _*_, _/_, _%_, _^_, _≤_, _<_}
 use mathlib.Core.Bool.{true, false, cond}
 use mathlib.Core.List.{List, [], _∷_, map}
 use mathlib.Core.Path.{_≡_}
-use lib.Dec.{eqb}
+use lib.Dec.{eqb, ltb}
 use lib.ListN.{length, getD, take, drop}
 use Rattle.definition.specs.Block.{blockCount, checkWord, streamOf, wordOf}
 use Rattle.definition.specs.Deciding.{Function, answers, nextFunction, tableFunction}
 use Rattle.definition.specs.Domain.{foldAt, point, shiftPoint}
 use Rattle.definition.specs.Field.{primeOf}
 use Rattle.definition.specs.Layout.{wordsDue}
-use Rattle.definition.specs.Lists.{range}
+use Rattle.definition.specs.Lists.{productOf, range}
 use Rattle.definition.specs.Polynomial.{Sample, distinct, evaluate}
-use Rattle.definition.specs.Sheet.{finalCount, sheetOf, sheetRules, shiftCount}
+use Rattle.definition.specs.Sheet.{Edition, Sheet, edition1, edition2, finalCount, foldWords, sheetLength, sheetOf, sheetRules, shiftCount}
 use Rattle.definition.specs.Transcript.{Round}
 use Rattle.definition.specs.Verdict.{Outcome, accepted, refused}
 use Rattle.completeness.specs.Numbered.{Due, Message, final, lengthOf, levelOf, outsOf, replies, roundStart, roundsOf, sheetField, sheetRoot, startOf, table, total}
@@ -28,25 +29,53 @@ blockWord file b x = wordOf (take 4 (drop (512 * b + 4 * x) file))
 abbrev pub RightCheck : List ℕ → ℕ → Type 0
 RightCheck file b = blockWord file b 127 ≡ checkWord b (map (blockWord file b) (range 0 127))
 
--- THE SHEET. Rule i of the definition, which is that of word i, holds.
-abbrev pub KeepsRule : List ℕ → ℕ → Type 0
-KeepsRule w i = getD (sheetRules w) i false ≡ true
+-- the sheet in front of the stream
+abbrev pub sheetIn : Edition → List ℕ → Sheet
+sheetIn ed file = sheetOf ed (streamOf file)
 
--- the rules in plain numbers: the field; n0, d0 and k, powers of two; M; s; and t_0 to t_M, with zeros after them
-pub record PlainSheet (w : List ℕ) : Type 0 where
+-- THE SHEET. The turn at which word i is tested: edition 1 goes from word to word, edition 2 through words 0 to 5, 12 to 17 and 6 to 11.
+unfoldable pub wordTurn : Edition → ℕ → ℕ
+wordTurn edition1 i = i
+wordTurn edition2 i = cond (ltb i 6) i (cond (ltb i 12) (i + 6) (i - 6))
+
+-- The rule of word i, which stands at its turn among the definition's rules, holds.
+abbrev pub KeepsRule : Edition → List ℕ → ℕ → Type 0
+KeepsRule ed w i = getD (sheetRules ed w) (wordTurn ed i) false ≡ true
+
+-- what edition 2 asks of words 12 to 17 besides: zeros past k_M, and 2 at last
+abbrev pub LaterWords : Edition → List ℕ → Type 0
+LaterWords edition1 w = Unit {0}
+LaterWords edition2 w = ((i : ℕ) → getD w 4 0 < i → i < 6 → getD w (11 + i) 0 ≡ 0) × (getD w 17 0 ≡ 2)
+
+-- The rules in plain numbers. Of all words but the folding numbers: the field; n0 and d0, powers of two; M; s; and t_0 to t_M, with zeros after them.
+pub record PlainWords (w : List ℕ) : Type 0 where
   pub field : getD w 0 0 < 3
   pub size·power : (a : ℕ) × (getD w 1 0 ≡ 2 ^ a)
   pub size·range : (4 ≤ getD w 1 0) × (getD w 1 0 ≤ 4096)
   pub size·divides : (primeOf (getD w 0 0) - 1) % getD w 1 0 ≡ 0
   pub degree·power : (b : ℕ) × (getD w 2 0 ≡ 2 ^ b)
   pub degree·range : (2 ≤ getD w 2 0) × (getD w 2 0 ≤ getD w 1 0 / 2)
-  pub fold·power : (c : ℕ) × (getD w 3 0 ≡ 2 ^ c)
-  pub fold·range : (2 ≤ getD w 3 0) × (getD w 3 0 ≤ 16) × (getD w 3 0 ≤ getD w 2 0)
-  pub rounds·range : (getD w 4 0 ≤ 5) × (getD w 3 0 ^ suc (getD w 4 0) ≤ getD w 2 0)
+  pub rounds·range : getD w 4 0 ≤ 5
   pub outs·range : (1 ≤ getD w 5 0) × (getD w 5 0 ≤ 2)
   pub times·range : (i : ℕ) → i ≤ getD w 4 0 → (1 ≤ getD w (6 + i) 0) × (getD w (6 + i) 0 ≤ 48)
-  pub times·few : (i : ℕ) → i < getD w 4 0 → getD w (6 + i) 0 + getD w 5 0 < getD w 2 0 / getD w 3 0 ^ suc i
   pub times·zero : (i : ℕ) → getD w 4 0 < i → i < 6 → getD w (6 + i) 0 ≡ 0
+
+-- and with them k_0 to k_M, powers of two whose product is at most d0, and t_i + s < d_(i+1);
+pub record PlainSheet (ed : Edition) (w : List ℕ) : Type 0 where
+  pub plain : PlainWords w
+  pub fold·power : (i : ℕ) → i ≤ getD w 4 0 → (c : ℕ) × (getD (foldWords ed w) i 0 ≡ 2 ^ c)
+  pub fold·range : (i : ℕ) → i ≤ getD w 4 0 → (2 ≤ getD (foldWords ed w) i 0) × (getD (foldWords ed w) i 0 ≤ 16) × (getD (foldWords ed w) i 0 ≤ getD w 2 0)
+  pub fold·product : productOf (take (suc (getD w 4 0)) (foldWords ed w)) ≤ getD w 2 0
+  pub times·few : (i : ℕ) → i < getD w 4 0 → getD w (6 + i) 0 + getD w 5 0 < getD w 2 0 / productOf (take (suc i) (foldWords ed w))
+  pub later·words : LaterWords ed w
+
+-- in edition 1 these are of its one folding number, word 3.
+pub record PlainSheet1 (w : List ℕ) : Type 0 where
+  pub plain : PlainWords w
+  pub fold·power : (c : ℕ) × (getD w 3 0 ≡ 2 ^ c)
+  pub fold·range : (2 ≤ getD w 3 0) × (getD w 3 0 ≤ 16) × (getD w 3 0 ≤ getD w 2 0)
+  pub fold·product : getD w 3 0 ^ suc (getD w 4 0) ≤ getD w 2 0
+  pub times·few : (i : ℕ) → i < getD w 4 0 → getD w (6 + i) 0 + getD w 5 0 < getD w 2 0 / getD w 3 0 ^ suc i
 
 -- THE PARTS OF THE STREAM: the messages; the out coins, the combination coin and the shift indices of round i + 1; fold coin i; and the final indices.
 pub data Part : Type 0 where
@@ -58,110 +87,110 @@ pub data Part : Type 0 where
   finals : Part
 
 -- a part of the sheet
-abbrev pub PartDue : List ℕ → Part → Type 0
-PartDue w (words m) = Due w m
-PartDue w (outs i) = i < roundsOf w
-PartDue w (combination i) = i < roundsOf w
-PartDue w (fold i) = i ≤ roundsOf w
-PartDue w (shifts i) = i < roundsOf w
-PartDue w finals = Unit {0}
+abbrev pub PartDue : Sheet → Part → Type 0
+PartDue h (words m) = Due h m
+PartDue h (outs i) = i < roundsOf h
+PartDue h (combination i) = i < roundsOf h
+PartDue h (fold i) = i ≤ roundsOf h
+PartDue h (shifts i) = i < roundsOf h
+PartDue h finals = Unit {0}
 
 -- the word number of its first word; the number of its words; and the limit below which they are in range
-unfoldable pub partStart : List ℕ → Part → ℕ
-partStart w (words m) = startOf w m
-partStart w (outs i) = roundStart w (suc i) + levelOf w (suc i) .size
-partStart w (combination i) = roundStart w (suc i) + (levelOf w (suc i) .size + (outsOf w + outsOf w))
-partStart w (fold zero) = roundStart w 0 + levelOf w 0 .size
-partStart w (fold (suc i)) = roundStart w (suc i) + (levelOf w (suc i) .size + (outsOf w + (outsOf w + 1)))
-partStart w (shifts i) = roundStart w (suc i) + (levelOf w (suc i) .size + (outsOf w + (outsOf w + 2)))
-partStart w finals = roundStart w (suc (roundsOf w)) + finalCount (levelOf w (roundsOf w))
+unfoldable pub partStart : Edition → Sheet → Part → ℕ
+partStart ed h (words m) = startOf ed h m
+partStart ed h (outs i) = roundStart ed h (suc i) + levelOf h (suc i) .size
+partStart ed h (combination i) = roundStart ed h (suc i) + (levelOf h (suc i) .size + (outsOf h + outsOf h))
+partStart ed h (fold zero) = roundStart ed h 0 + levelOf h 0 .size
+partStart ed h (fold (suc i)) = roundStart ed h (suc i) + (levelOf h (suc i) .size + (outsOf h + (outsOf h + 1)))
+partStart ed h (shifts i) = roundStart ed h (suc i) + (levelOf h (suc i) .size + (outsOf h + (outsOf h + 2)))
+partStart ed h finals = roundStart ed h (suc (roundsOf h)) + finalCount (levelOf h (roundsOf h))
 
-unfoldable pub partLength : List ℕ → Part → ℕ
-partLength w (words m) = lengthOf w m
-partLength w (outs i) = outsOf w
-partLength w (combination i) = 1
-partLength w (fold i) = 1
-partLength w (shifts i) = levelOf w i .repetitions
-partLength w finals = levelOf w (roundsOf w) .repetitions
+unfoldable pub partLength : Sheet → Part → ℕ
+partLength h (words m) = lengthOf h m
+partLength h (outs i) = outsOf h
+partLength h (combination i) = 1
+partLength h (fold i) = 1
+partLength h (shifts i) = levelOf h i .repetitions
+partLength h finals = levelOf h (roundsOf h) .repetitions
 
-unfoldable pub partLimit : List ℕ → Part → ℕ
-partLimit w (words m) = sheetOf w .prime
-partLimit w (outs i) = sheetOf w .prime
-partLimit w (combination i) = sheetOf w .prime
-partLimit w (fold i) = sheetOf w .prime
-partLimit w (shifts i) = shiftCount (levelOf w i)
-partLimit w finals = shiftCount (levelOf w (roundsOf w))
+unfoldable pub partLimit : Sheet → Part → ℕ
+partLimit h (words m) = h .prime
+partLimit h (outs i) = h .prime
+partLimit h (combination i) = h .prime
+partLimit h (fold i) = h .prime
+partLimit h (shifts i) = shiftCount (levelOf h i)
+partLimit h finals = shiftCount (levelOf h (roundsOf h))
 
 -- word j of a part, all its words, and the number of words due: those up to the last final index
-abbrev pub partWord : List ℕ → Part → ℕ → ℕ
-partWord w x j = getD w (partStart w x + j) 0
+abbrev pub partWord : Edition → Sheet → List ℕ → Part → ℕ → ℕ
+partWord ed h w x j = getD w (partStart ed h x + j) 0
 
-unfoldable pub partWords : List ℕ → Part → List ℕ
-partWords w x = take (partLength w x) (drop (partStart w x) w)
+unfoldable pub partWords : Edition → Sheet → List ℕ → Part → List ℕ
+partWords ed h w x = take (partLength h x) (drop (partStart ed h x) w)
 
-abbrev pub dueOf : List ℕ → ℕ
-dueOf w = partStart w finals + partLength w finals
+abbrev pub dueOf : Edition → Sheet → ℕ
+dueOf ed h = partStart ed h finals + partLength h finals
 
 -- THE VERIFIER'S FUNCTIONS. Round i + 1 as it stands in the stream; f_i, with its value at each point number of domain i; and G_(i+1)'s list, a pair for each out coin and each shift
 -- index of round i + 1.
-abbrev pub roundIn : List ℕ → ℕ → Round ℕ
-roundIn w i = record {
+abbrev pub roundIn : Edition → Sheet → List ℕ → ℕ → Round ℕ
+roundIn ed h w i = record {
   coins = record {
-    level = levelOf w (suc i);
-    outs = partWords w (outs i);
-    combination = partWord w (combination i) 0;
-    fold = partWord w (fold (suc i)) 0;
-    shifts = partWords w (shifts i);
+    level = levelOf h (suc i);
+    outs = partWords ed h w (outs i);
+    combination = partWord ed h w (combination i) 0;
+    fold = partWord ed h w (fold (suc i)) 0;
+    shifts = partWords ed h w (shifts i);
   };
-  table = partWords w (words (table (suc i)));
-  replies = partWords w (words (replies (suc i)));
+  table = partWords ed h w (words (table (suc i)));
+  replies = partWords ed h w (words (replies (suc i)));
 }
 
-unfoldable pub functionIn : List ℕ → ℕ → Function ℕ
-functionIn w zero = tableFunction (sheetField w) (sheetRoot w) (levelOf w 0) (partWords w (words (table 0)))
-functionIn w (suc i) =
-    nextFunction (sheetField w) (sheetRoot w)
-    (distinct (sheetField w) (answers (sheetField w) (sheetRoot w) (levelOf w i) (functionIn w i .value) (partWord w (fold i) 0) (roundIn w i)))
-    (roundIn w i)
+unfoldable pub functionIn : Edition → Sheet → List ℕ → ℕ → Function ℕ
+functionIn ed h w zero = tableFunction (sheetField h) (sheetRoot h) (levelOf h 0) (partWords ed h w (words (table 0)))
+functionIn ed h w (suc i) =
+    nextFunction (sheetField h) (sheetRoot h)
+    (distinct (sheetField h) (answers (sheetField h) (sheetRoot h) (levelOf h i) (functionIn ed h w i .value) (partWord ed h w (fold i) 0) (roundIn ed h w i)))
+    (roundIn ed h w i)
 
-unfoldable pub pairsIn : List ℕ → ℕ → List (Sample ℕ)
-pairsIn w i = answers (sheetField w) (sheetRoot w) (levelOf w i) (functionIn w i .value) (partWord w (fold i) 0) (roundIn w i)
+unfoldable pub pairsIn : Edition → Sheet → List ℕ → ℕ → List (Sample ℕ)
+pairsIn ed h w i = answers (sheetField h) (sheetRoot h) (levelOf h i) (functionIn ed h w i .value) (partWord ed h w (fold i) 0) (roundIn ed h w i)
 
-abbrev pub pairIn : List ℕ → ℕ → ℕ → Sample ℕ
-pairIn w i a = getD (pairsIn w i) a (record { point = 0; value = 0 })
+abbrev pub pairIn : Edition → Sheet → List ℕ → ℕ → ℕ → Sample ℕ
+pairIn ed h w i a = getD (pairsIn ed h w i) a (record { point = 0; value = 0 })
 
 -- two pairs of round i + 1 agree: with equal points they have equal values
-abbrev pub Agree : List ℕ → ℕ → ℕ → ℕ → Type 0
-Agree w i a b = pairIn w i a .point ≡ pairIn w i b .point → pairIn w i a .value ≡ pairIn w i b .value
+abbrev pub Agree : Edition → Sheet → List ℕ → ℕ → ℕ → ℕ → Type 0
+Agree ed h w i a b = pairIn ed h w i a .point ≡ pairIn ed h w i b .point → pairIn ed h w i a .value ≡ pairIn ed h w i b .value
 
 -- at final index j, the final polynomial has the value of the fold of f_M
-abbrev pub Matches : List ℕ → ℕ → Type 0
-Matches w j =
-    evaluate (sheetField w) (partWords w (words final)) (shiftPoint (sheetField w) (sheetRoot w) (levelOf w (roundsOf w)) (partWord w finals j))
-    ≡ foldAt (sheetField w) (sheetRoot w) (levelOf w (roundsOf w)) (functionIn w (roundsOf w) .value) (partWord w (fold (roundsOf w)) 0) (partWord w finals j)
+abbrev pub Matches : Edition → Sheet → List ℕ → ℕ → Type 0
+Matches ed h w j =
+    evaluate (sheetField h) (partWords ed h w (words final)) (shiftPoint (sheetField h) (sheetRoot h) (levelOf h (roundsOf h)) (partWord ed h w finals j))
+    ≡ foldAt (sheetField h) (sheetRoot h) (levelOf h (roundsOf h)) (functionIn ed h w (roundsOf h) .value) (partWord ed h w (fold (roundsOf h)) 0) (partWord ed h w finals j)
 
 -- WHAT AN ACCEPTED FILE KEEPS, one field for each refusal.
-pub record Kept (file : List ℕ) : Type 0 where
+pub record Kept (ed : Edition) (file : List ℕ) : Type 0 where
   -- 1: the length is a positive multiple of 512
   pub length·positive : 1 ≤ length file
   pub length·whole : length file % 512 ≡ 0
   -- 2: every block's check is right
   pub checks : (b : ℕ) → b < blocksIn file → RightCheck file b
   -- 3: every sheet word keeps its rule
-  pub rules : (i : ℕ) → i < 12 → KeepsRule (streamOf file) i
+  pub rules : (i : ℕ) → i < sheetLength ed → KeepsRule ed (streamOf file) i
   -- 4: the number of blocks is the one due
-  pub blocks : blocksIn file ≡ blockCount (dueOf (streamOf file))
+  pub blocks : blocksIn file ≡ blockCount (dueOf ed (sheetIn ed file))
   -- 5: every word of every part is below its limit
-  pub range : (x : Part) → PartDue (streamOf file) x → (j : ℕ) → j < partLength (streamOf file) x → partWord (streamOf file) x j < partLimit (streamOf file) x
+  pub range : (x : Part) → PartDue (sheetIn ed file) x → (j : ℕ) → j < partLength (sheetIn ed file) x → partWord ed (sheetIn ed file) (streamOf file) x j < partLimit (sheetIn ed file) x
   -- 6: every fill word is 0
-  pub fill : (n : ℕ) → dueOf (streamOf file) ≤ n → n < 127 * blocksIn file → getD (streamOf file) n 0 ≡ 0
+  pub fill : (n : ℕ) → dueOf ed (sheetIn ed file) ≤ n → n < 127 * blocksIn file → getD (streamOf file) n 0 ≡ 0
   -- 7: every out coin of every round i + 1 is different from every point of domain i + 1
-  pub outside : (i : ℕ) → i < roundsOf (streamOf file) → (j : ℕ) → j < outsOf (streamOf file) → (m : ℕ) → m < levelOf (streamOf file) (suc i) .size →
-      partWord (streamOf file) (outs i) j ≡ point (sheetField (streamOf file)) (sheetRoot (streamOf file)) (levelOf (streamOf file) (suc i)) m → ⊥
+  pub outside : (i : ℕ) → i < roundsOf (sheetIn ed file) → (j : ℕ) → j < outsOf (sheetIn ed file) → (m : ℕ) → m < levelOf (sheetIn ed file) (suc i) .size →
+      partWord ed (sheetIn ed file) (streamOf file) (outs i) j ≡ point (sheetField (sheetIn ed file)) (sheetRoot (sheetIn ed file)) (levelOf (sheetIn ed file) (suc i)) m → ⊥
   -- 8: in every round any two pairs agree
-  pub agree : (i : ℕ) → i < roundsOf (streamOf file) → (a b : ℕ) → a < length (pairsIn (streamOf file) i) → b < length (pairsIn (streamOf file) i) → Agree (streamOf file) i a b
+  pub agree : (i : ℕ) → i < roundsOf (sheetIn ed file) → (a b : ℕ) → a < length (pairsIn ed (sheetIn ed file) (streamOf file) i) → b < length (pairsIn ed (sheetIn ed file) (streamOf file) i) → Agree ed (sheetIn ed file) (streamOf file) i a b
   -- 9: at every final index the final polynomial is the fold of f_M
-  pub match : (j : ℕ) → j < partLength (streamOf file) finals → Matches (streamOf file) j
+  pub match : (j : ℕ) → j < partLength (sheetIn ed file) finals → Matches ed (sheetIn ed file) (streamOf file) j
 
 -- THE FAULTS, each as what it is to be one at place q.
 abbrev pub LengthFault : List ℕ → ℕ → Type 0
@@ -170,100 +199,111 @@ LengthFault file q = (q ≡ 0) × (((1 ≤ length file) × (length file % 512 �
 abbrev pub CheckFault : List ℕ → ℕ → Type 0
 CheckFault file b = (b < blocksIn file) × (RightCheck file b → ⊥)
 
-abbrev pub RuleFault : List ℕ → ℕ → Type 0
-RuleFault w i = (i < 12) × (KeepsRule w i → ⊥)
+abbrev pub RuleFault : Edition → List ℕ → ℕ → Type 0
+RuleFault ed w i = (i < sheetLength ed) × (KeepsRule ed w i → ⊥)
 
-abbrev pub BlocksFault : List ℕ → ℕ → Type 0
-BlocksFault file q = (q ≡ blockCount (dueOf (streamOf file))) × (blocksIn file ≡ q → ⊥)
+abbrev pub BlocksFault : Edition → List ℕ → ℕ → Type 0
+BlocksFault ed file q = (q ≡ blockCount (dueOf ed (sheetIn ed file))) × (blocksIn file ≡ q → ⊥)
 
 -- a word number q, of word j of a part
-abbrev pub RangeFault : List ℕ → ℕ → Type 0
-RangeFault w q = (x : Part) × PartDue w x × ((j : ℕ) × (j < partLength w x) × (q ≡ partStart w x + j) × (partLimit w x ≤ getD w q 0))
+abbrev pub RangeFault : Edition → Sheet → List ℕ → ℕ → Type 0
+RangeFault ed h w q = (x : Part) × PartDue h x × ((j : ℕ) × (j < partLength h x) × (q ≡ partStart ed h x + j) × (partLimit h x ≤ getD w q 0))
 
-abbrev pub FillFault : List ℕ → ℕ → Type 0
-FillFault file q = (dueOf (streamOf file) ≤ q) × (q < 127 * blocksIn file) × (getD (streamOf file) q 0 ≡ 0 → ⊥)
+abbrev pub FillFault : Edition → List ℕ → ℕ → Type 0
+FillFault ed file q = (dueOf ed (sheetIn ed file) ≤ q) × (q < 127 * blocksIn file) × (getD (streamOf file) q 0 ≡ 0 → ⊥)
 
 -- a word number q, of out coin j of round i + 1, which is point m of domain i + 1
-abbrev pub DomainFault : List ℕ → ℕ → Type 0
-DomainFault w q =
-    (i : ℕ) × (i < roundsOf w) × ((j : ℕ) × (j < outsOf w) × (q ≡ partStart w (outs i) + j)
-    × ((m : ℕ) × (m < levelOf w (suc i) .size) × (getD w q 0 ≡ point (sheetField w) (sheetRoot w) (levelOf w (suc i)) m)))
+abbrev pub DomainFault : Edition → Sheet → List ℕ → ℕ → Type 0
+DomainFault ed h w q =
+    (i : ℕ) × (i < roundsOf h) × ((j : ℕ) × (j < outsOf h) × (q ≡ partStart ed h (outs i) + j)
+    × ((m : ℕ) × (m < levelOf h (suc i) .size) × (getD w q 0 ≡ point (sheetField h) (sheetRoot h) (levelOf h (suc i)) m)))
 
 -- a round i + 1, in which pairs a and b do not agree
-abbrev pub ClashFault : List ℕ → ℕ → Type 0
-ClashFault w q = (i : ℕ) × (i < roundsOf w) × (q ≡ suc i) × ((a : ℕ) × (b : ℕ) × (a < length (pairsIn w i)) × (b < length (pairsIn w i)) × (Agree w i a b → ⊥))
+abbrev pub ClashFault : Edition → Sheet → List ℕ → ℕ → Type 0
+ClashFault ed h w q = (i : ℕ) × (i < roundsOf h) × (q ≡ suc i) × ((a : ℕ) × (b : ℕ) × (a < length (pairsIn ed h w i)) × (b < length (pairsIn ed h w i)) × (Agree ed h w i a b → ⊥))
 
-abbrev pub FinalFault : List ℕ → ℕ → Type 0
-FinalFault w j = (j < partLength w finals) × (Matches w j → ⊥)
+abbrev pub FinalFault : Edition → Sheet → List ℕ → ℕ → Type 0
+FinalFault ed h w j = (j < partLength h finals) × (Matches ed h w j → ⊥)
 
 -- a fault of number n at place q
 abbrev pub NoFault : ℕ → Type 0
 NoFault q = ⊥
 
-abbrev pub Fault : List ℕ → ℕ → (ℕ → Type 0)
-Fault file n =
-    getD (NoFault ∷ LengthFault file ∷ CheckFault file ∷ RuleFault (streamOf file) ∷ BlocksFault file ∷ RangeFault (streamOf file) ∷ FillFault file
-    ∷ DomainFault (streamOf file) ∷ ClashFault (streamOf file) ∷ FinalFault (streamOf file) ∷ []) n NoFault
+abbrev pub Fault : Edition → List ℕ → ℕ → (ℕ → Type 0)
+Fault ed file n =
+    getD (NoFault ∷ LengthFault file ∷ CheckFault file ∷ RuleFault ed (streamOf file) ∷ BlocksFault ed file ∷ RangeFault ed (sheetIn ed file) (streamOf file) ∷ FillFault ed file
+    ∷ DomainFault ed (sheetIn ed file) (streamOf file) ∷ ClashFault ed (sheetIn ed file) (streamOf file) ∷ FinalFault ed (sheetIn ed file) (streamOf file) ∷ []) n NoFault
 
--- it is the first: none has a smaller number, and none of its number a smaller place
-pub record FirstFault (file : List ℕ) (n q : ℕ) : Type 0 where
-  pub there : Fault file n q
-  pub place·first : (r : ℕ) → r < q → Fault file n r → ⊥
-  pub number·first : (m r : ℕ) → m < n → Fault file m r → ⊥
+-- the turn of place q among those of number n: the sheet's words have theirs, all other places go up
+unfoldable pub turnOf : Edition → ℕ → ℕ → ℕ
+turnOf ed n q = cond (eqb n 3) (wordTurn ed q) q
+
+-- it is the first: none has a smaller number, and none of its number an earlier turn
+pub record FirstFault (ed : Edition) (file : List ℕ) (n q : ℕ) : Type 0 where
+  pub there : Fault ed file n q
+  pub place·first : (r : ℕ) → turnOf ed n r < turnOf ed n q → Fault ed file n r → ⊥
+  pub number·first : (m r : ℕ) → m < n → Fault ed file m r → ⊥
 
 -- WHAT DECIDING USES. It comes to the shift coins of round i + 1 where there is no fault 7 and no round before clashes, and to final coin j where no round clashes and
 -- no final coin before fails.
-abbrev pub ShiftsTreated : List ℕ → ℕ → Type 0
-ShiftsTreated w i = ((q : ℕ) → DomainFault w q → ⊥) × ((q : ℕ) → q < suc i → ClashFault w q → ⊥)
+abbrev pub ShiftsTreated : Edition → Sheet → List ℕ → ℕ → Type 0
+ShiftsTreated ed h w i = ((q : ℕ) → DomainFault ed h w q → ⊥) × ((q : ℕ) → q < suc i → ClashFault ed h w q → ⊥)
 
-abbrev pub FinalTreated : List ℕ → ℕ → Type 0
-FinalTreated w j = ((q : ℕ) → DomainFault w q → ⊥) × ((q : ℕ) → ClashFault w q → ⊥) × ((r : ℕ) → r < j → FinalFault w r → ⊥)
+abbrev pub FinalTreated : Edition → Sheet → List ℕ → ℕ → Type 0
+FinalTreated ed h w j = ((q : ℕ) → DomainFault ed h w q → ⊥) × ((q : ℕ) → ClashFault ed h w q → ⊥) × ((r : ℕ) → r < j → FinalFault ed h w r → ⊥)
 
--- point y of table i is used: it is root m, for some m below k, of a coin that is treated
-pub data Used (w : List ℕ) : ℕ → ℕ → Type 0 where
-  by·shift : (i j m : ℕ) → i < roundsOf w → j < partLength w (shifts i) → m < levelOf w i .fold → ShiftsTreated w i →
-      Used w i (partWord w (shifts i) j + m * shiftCount (levelOf w i))
-  by·final : (j m : ℕ) → j < partLength w finals → m < levelOf w (roundsOf w) .fold → FinalTreated w j →
-      Used w (roundsOf w) (partWord w finals j + m * shiftCount (levelOf w (roundsOf w)))
+-- point y of table i is used: it is root m, for some m below k_i, of a coin that is treated
+pub data Used (ed : Edition) (h : Sheet) (w : List ℕ) : ℕ → ℕ → Type 0 where
+  by·shift : (i j m : ℕ) → i < roundsOf h → j < partLength h (shifts i) → m < levelOf h i .fold → ShiftsTreated ed h w i →
+      Used ed h w i (partWord ed h w (shifts i) j + m * shiftCount (levelOf h i))
+  by·final : (j m : ℕ) → j < partLength h finals → m < levelOf h (roundsOf h) .fold → FinalTreated ed h w j →
+      Used ed h w (roundsOf h) (partWord ed h w finals j + m * shiftCount (levelOf h (roundsOf h)))
 
--- two streams have the same words outside the tables, and the same table words at every place that deciding uses in the first
-abbrev pub SameOutside : List ℕ → List ℕ → Type 0
-SameOutside v w = (n : ℕ) → ((i j : ℕ) → i ≤ roundsOf v → j < levelOf v i .size → n ≡ startOf v (table i) + j → ⊥) → getD v n 0 ≡ getD w n 0
+-- two streams, the first with sheet h, have the same words outside the tables, and the same table words at every place that deciding uses in the first
+abbrev pub SameOutside : Edition → Sheet → List ℕ → List ℕ → Type 0
+SameOutside ed h v w = (n : ℕ) → ((i j : ℕ) → i ≤ roundsOf h → j < levelOf h i .size → n ≡ startOf ed h (table i) + j → ⊥) → getD v n 0 ≡ getD w n 0
 
-abbrev pub SameWhereUsed : List ℕ → List ℕ → Type 0
-SameWhereUsed v w = (i y : ℕ) → Used v i y → partWord v (words (table i)) y ≡ partWord w (words (table i)) y
+abbrev pub SameWhereUsed : Edition → Sheet → List ℕ → List ℕ → Type 0
+SameWhereUsed ed h v w = (i y : ℕ) → Used ed h v i y → partWord ed h v (words (table i)) y ≡ partWord ed h w (words (table i)) y
 
--- the reads that go with an outcome: k for each coin treated, which are the shift coins of the rounds up to the clash for 8, those of all rounds and the final coins up to
--- and with the failing one for 9, and all coins for accepted
-unfoldable pub readsWith : List ℕ → Outcome → ℕ
-readsWith w accepted = getD w 3 0 * (total (map (λ i. levelOf w i .repetitions) (range 0 (roundsOf w))) + partLength w finals)
-readsWith w (refused n q) =
-    cond (eqb n 8) (getD w 3 0 * total (map (λ i. levelOf w i .repetitions) (range 0 q)))
-    (cond (eqb n 9) (getD w 3 0 * (total (map (λ i. levelOf w i .repetitions) (range 0 (roundsOf w))) + suc q)) 0)
+-- the reads of all shift coins of the first rounds, k_i for each coin of round i + 1; and the reads that go with an outcome: those of the rounds up to the clash for 8;
+-- for 9 those of all rounds, and k_M for each final coin up to and with the failing one; and for accepted those of all coins
+unfoldable pub readsBefore : Sheet → ℕ → ℕ
+readsBefore h m = total (map (λ i. levelOf h i .fold * levelOf h i .repetitions) (range 0 m))
+
+unfoldable pub readsWith : Sheet → Outcome → ℕ
+readsWith h accepted = readsBefore h (roundsOf h) + levelOf h (roundsOf h) .fold * partLength h finals
+readsWith h (refused n q) =
+    cond (eqb n 8) (readsBefore h q) (cond (eqb n 9) (readsBefore h (roundsOf h) + levelOf h (roundsOf h) .fold * suc q) 0)
+
+-- THE OUTCOME OF A CONVERTED FILE is that of the original, but for the word number of a 7, which is six higher in edition 2.
+unfoldable pub sixHigher : Outcome → Outcome
+sixHigher accepted = accepted
+sixHigher (refused n q) = refused n (cond (eqb n 7) (6 + q) q)
 
 -- THE ANSWERS THAT EXIST, with the range of each place. Verify refuses with one of these,
-pub data VerifyRefusal (file : List ℕ) : ℕ → ℕ → Type 0 where
-  length·wrong : VerifyRefusal file 1 0
-  check·wrong : (b : ℕ) → b < blocksIn file → VerifyRefusal file 2 b
-  rule·broken : (i : ℕ) → i < 12 → VerifyRefusal file 3 i
-  blocks·differ : VerifyRefusal file 4 (blockCount (dueOf (streamOf file)))
-  word·over : (q : ℕ) → 12 ≤ q → q < dueOf (streamOf file) → VerifyRefusal file 5 q
-  fill·set : (q : ℕ) → dueOf (streamOf file) ≤ q → q < 127 * blocksIn file → VerifyRefusal file 6 q
-  coin·inside : (q : ℕ) → 12 ≤ q → q < dueOf (streamOf file) → VerifyRefusal file 7 q
-  pairs·clash : (i : ℕ) → 1 ≤ i → i ≤ roundsOf (streamOf file) → VerifyRefusal file 8 i
-  final·differs : (j : ℕ) → j < partLength (streamOf file) finals → VerifyRefusal file 9 j
+pub data VerifyRefusal (ed : Edition) (file : List ℕ) : ℕ → ℕ → Type 0 where
+  length·wrong : VerifyRefusal ed file 1 0
+  check·wrong : (b : ℕ) → b < blocksIn file → VerifyRefusal ed file 2 b
+  rule·broken : (i : ℕ) → i < sheetLength ed → VerifyRefusal ed file 3 i
+  blocks·differ : VerifyRefusal ed file 4 (blockCount (dueOf ed (sheetIn ed file)))
+  word·over : (q : ℕ) → sheetLength ed ≤ q → q < dueOf ed (sheetIn ed file) → VerifyRefusal ed file 5 q
+  fill·set : (q : ℕ) → dueOf ed (sheetIn ed file) ≤ q → q < 127 * blocksIn file → VerifyRefusal ed file 6 q
+  coin·inside : (q : ℕ) → sheetLength ed ≤ q → q < dueOf ed (sheetIn ed file) → VerifyRefusal ed file 7 q
+  pairs·clash : (i : ℕ) → 1 ≤ i → i ≤ roundsOf (sheetIn ed file) → VerifyRefusal ed file 8 i
+  final·differs : (j : ℕ) → j < partLength (sheetIn ed file) finals → VerifyRefusal ed file 9 j
 
 -- prove with one of these,
-pub data ProveRefusal (w f coins : List ℕ) : ℕ → ℕ → Type 0 where
-  sheet·length : ProveRefusal w f coins 10 0
-  rule·broken : (i : ℕ) → i < 12 → ProveRefusal w f coins 3 i
-  coefficient·count : ProveRefusal w f coins 10 1
-  coin·count : ProveRefusal w f coins 10 2
-  word·over : (q : ℕ) → q < length f + length coins → ProveRefusal w f coins 5 q
-  coin·inside : (q : ℕ) → q < length coins → ProveRefusal w f coins 7 q
-  output·short : ProveRefusal w f coins 11 (blockCount (wordsDue (sheetOf w)))
+pub data ProveRefusal (ed : Edition) (w f coins : List ℕ) : ℕ → ℕ → Type 0 where
+  sheet·length : ProveRefusal ed w f coins 10 0
+  rule·broken : (i : ℕ) → i < sheetLength ed → ProveRefusal ed w f coins 3 i
+  coefficient·count : ProveRefusal ed w f coins 10 1
+  coin·count : ProveRefusal ed w f coins 10 2
+  word·over : (q : ℕ) → q < length f + length coins → ProveRefusal ed w f coins 5 q
+  coin·inside : (q : ℕ) → q < length coins → ProveRefusal ed w f coins 7 q
+  output·short : ProveRefusal ed w f coins 11 (blockCount (wordsDue ed (sheetOf ed w)))
 
--- and encode with one of these.
+-- and encode, whose sheets are of edition 1, with one of these.
 pub data EncodeRefusal (w f : List ℕ) : ℕ → ℕ → Type 0 where
   sheet·length : EncodeRefusal w f 10 0
   rule·broken : (i : ℕ) → i < 12 → EncodeRefusal w f 3 i
@@ -274,6 +314,6 @@ pub data EncodeRefusal (w f : List ℕ) : ℕ → ℕ → Type 0 where
 -- what encode asks of its input: 12 words that keep their rules, and d0 elements
 pub record Encodable (w f : List ℕ) : Type 0 where
   pub words : length w ≡ 12
-  pub rules : (i : ℕ) → i < 12 → KeepsRule w i
+  pub rules : (i : ℕ) → i < 12 → KeepsRule edition1 w i
   pub count : length f ≡ getD w 2 0
-  pub range : (j : ℕ) → j < length f → getD f j 0 < sheetOf w .prime
+  pub range : (j : ℕ) → j < length f → getD f j 0 < sheetOf edition1 w .prime

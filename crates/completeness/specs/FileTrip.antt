@@ -21,7 +21,7 @@ fillCount w = 127 * blockCount (length w) - length w
 unfoldable pub filled : List ℕ → List ℕ
 filled w = w ++ replicate (fillCount w) 0
 
-filled-length : (w : List ℕ) → length (filled w) ≡ blockCount (length w) * 127
+pub filled-length : (w : List ℕ) → length (filled w) ≡ blockCount (length w) * 127
 unfolding filled fillCount blockCount
 filled-length w = length-append w _ ∙ rw length-replicate (omega arith)
 
@@ -30,7 +30,7 @@ unfolding chunks
 chunks-length zero size xs = refl
 chunks-length (suc n) size xs = ap suc (chunks-length n size (drop size xs))
 
-chunk-sizes : {A : Type 0} (n size : ℕ) (xs : List A) → length xs ≡ n * size → All (λ x. length x ≡ size) (chunks n size xs)
+pub chunk-sizes : {A : Type 0} (n size : ℕ) (xs : List A) → length xs ≡ n * size → All (λ x. length x ≡ size) (chunks n size xs)
 unfolding chunks
 chunk-sizes zero size xs h = tt
 chunk-sizes (suc n) size xs h = (
@@ -39,7 +39,7 @@ chunk-sizes (suc n) size xs h = (
 )
 
 -- the chunks joined are the list
-chunks-joined : {A : Type 0} (n size : ℕ) (xs : List A) → length xs ≡ n * size → flatMap (λ x. x) (chunks n size xs) ≡ xs
+pub chunks-joined : {A : Type 0} (n size : ℕ) (xs : List A) → length xs ≡ n * size → flatMap (λ x. x) (chunks n size xs) ≡ xs
 unfolding chunks flatMap
 chunks-joined zero size [] h = refl
 chunks-joined zero size (x ∷ xs) h = absurd (omega (arith, h, zero-mul size))
@@ -88,7 +88,7 @@ unsealed b [] h = refl
 unsealed b (x ∷ xs) h = λ i. take-at x (checkWord b x ∷ []) 127 (h .0) i ++ unsealed (suc b) xs (h .1) i
 
 -- the file's bytes are those of its words
-seal-bytes : (b : ℕ) (xs : List (List ℕ)) → sealFrom b xs ≡ flatMap bytesOf (flatMap (λ x. x) (sealed b xs))
+pub seal-bytes : (b : ℕ) (xs : List (List ℕ)) → sealFrom b xs ≡ flatMap bytesOf (flatMap (λ x. x) (sealed b xs))
 unfolding sealFrom flatMap sealed
 seal-bytes b [] = refl
 seal-bytes b (x ∷ xs) =

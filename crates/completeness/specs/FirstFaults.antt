@@ -6,36 +6,52 @@ use native.Mathlib.Omega.{arith}
 use mathlib.Core.Bool.{Bool, true, false, true≢false}
 use mathlib.Core.List.{List, [], _∷_}
 use mathlib.Core.Option.{Option, none, some}
-use mathlib.Core.Path.{_≡_, refl, sym, _∙_, subst}
+use mathlib.Core.Path.{_≡_, refl, sym, ap, _∙_, subst}
 use lib.ListN.{length, getD}
-use Rattle.definition.specs.Lists.{firstTrue}
+use Rattle.definition.specs.Lists.{firstOf, firstTrue}
 use Rattle.definition.specs.Verdict.{Outcome, _then_, accepted, refuseAt, refuseIf, refused}
 
--- the place of the first true one, or none where all are false
+-- the place of the first true one, where test j has a place, or none where all are false
+abbrev pub FirstAt : (ℕ → ℕ) → List Bool → Option ℕ → Type 0
+FirstAt place bs none = (j : ℕ) → j < length bs → getD bs j false ≡ false
+FirstAt place bs (some q) = (j : ℕ) × (q ≡ place j) × (j < length bs) × (getD bs j false ≡ true) × ((i : ℕ) → i < j → getD bs i false ≡ false)
+
+-- one false test before the others
+later : (p q : ℕ → ℕ) (bs : List Bool) (o : Option ℕ) → ((j : ℕ) → p j ≡ q (suc j)) → FirstAt p bs o → FirstAt q (false ∷ bs) o
+later p q bs o e h = go o h
+  where
+    none-before : (n : ℕ) → ((i : ℕ) → i < n → getD bs i false ≡ false) → (i : ℕ) → i < suc n → getD (false ∷ bs) i false ≡ false
+    none-before n k zero l = refl
+    none-before n k (suc i) l = k i (omega arith)
+
+    go : (x : Option ℕ) → FirstAt p bs x → FirstAt q (false ∷ bs) x
+    go none k = none-before (length bs) k
+    go (some r) k = (suc (k .0), k .1 ∙ e (k .0), omega (arith, k .2), k .3, none-before (k .0) (k .4))
+
+-- places that go up from one on, and places in a list
 abbrev pub FirstTrue : ℕ → List Bool → Option ℕ → Type 0
-FirstTrue start bs none = (j : ℕ) → j < length bs → getD bs j false ≡ false
-FirstTrue start bs (some q) = (j : ℕ) × (q ≡ start + j) × (j < length bs) × (getD bs j false ≡ true) × ((i : ℕ) → i < j → getD bs i false ≡ false)
+FirstTrue start bs o = FirstAt (λ j. start + j) bs o
 
 pub first-true : (start : ℕ) (bs : List Bool) → FirstTrue start bs (firstTrue start bs)
 unfolding firstTrue
 first-true start [] = λ j l. absurd (omega arith)
 first-true start (true ∷ bs) = (0, sym (add-zero start), omega arith, refl, λ i l. absurd (omega arith))
-first-true start (false ∷ bs) = go (firstTrue (suc start) bs) (first-true (suc start) bs)
-  where
-    none-before : (n : ℕ) → ((i : ℕ) → i < n → getD bs i false ≡ false) → (i : ℕ) → i < suc n → getD (false ∷ bs) i false ≡ false
-    none-before n h zero l = refl
-    none-before n h (suc i) l = h i (omega arith)
+first-true start (false ∷ bs) = later (λ j. suc start + j) (λ j. start + j) bs (firstTrue (suc start) bs) (λ j. suc-add start j ∙ sym (add-suc start j)) (first-true (suc start) bs)
 
-    go : (o : Option ℕ) → FirstTrue (suc start) bs o → FirstTrue start (false ∷ bs) o
-    go none h = none-before (length bs) h
-    go (some q) h = (suc (h .0), h .1 ∙ suc-add start (h .0) ∙ sym (add-suc start (h .0)), omega (arith, h .2), h .3, none-before (h .0) (h .4))
+pub first-of : (ns : List ℕ) (bs : List Bool) → length bs ≤ length ns → FirstAt (λ j. getD ns j 0) bs (firstOf ns bs)
+unfolding firstOf
+first-of [] [] l = λ j u. absurd (omega arith)
+first-of [] (b ∷ bs) l = absurd (omega arith)
+first-of (n ∷ ns) [] l = λ j u. absurd (omega arith)
+first-of (n ∷ ns) (true ∷ bs) l = (0, refl, omega arith, refl, λ i u. absurd (omega arith))
+first-of (n ∷ ns) (false ∷ bs) l = later (λ j. getD ns j 0) (λ j. getD (n ∷ ns) j 0) bs (firstOf ns bs) (λ j. refl) (first-of ns bs (omega arith))
 
--- P n q: there is a fault of number n at place q
-module _ (P : ℕ → (ℕ → Type 0)) where
+-- P n q: there is a fault of number n at place q; turn n q: the turn of place q among the places of number n
+module _ (P : ℕ → (ℕ → Type 0)) (turn : ℕ → ℕ → ℕ) where
   -- what an outcome of the tests from number `from` on says
   abbrev pub Exact : ℕ → Outcome → Type 0
   Exact from accepted = (n q : ℕ) → from ≤ n → P n q → ⊥
-  Exact from (refused n q) = (from ≤ n) × P n q × ((r : ℕ) → r < q → P n r → ⊥) × ((m r : ℕ) → from ≤ m → m < n → P m r → ⊥)
+  Exact from (refused n q) = (from ≤ n) × P n q × ((r : ℕ) → turn n r < turn n q → P n r → ⊥) × ((m r : ℕ) → from ≤ m → m < n → P m r → ⊥)
 
   -- no fault of one number, and what the tests after it say
   exact-none : (from : ℕ) (o : Outcome) → ((q : ℕ) → P from q → ⊥) → Exact (suc from) o → Exact from o
@@ -57,29 +73,39 @@ module _ (P : ℕ → (ℕ → Type 0)) where
       (((q : ℕ) → P from q → ⊥) → Exact (suc from) rest) → Exact from (refuseIf from place b then rest)
   unfolding refuseIf _then_
   exact-if from place true rest sound complete next =
-      (omega arith, sound refl, λ r l p. absurd (omega (arith, complete r p .0)), λ m r l u p. absurd (omega arith))
+      (omega arith, sound refl, λ r l p. absurd (omega (arith, ap (turn from) (complete r p .0))), λ m r l u p. absurd (omega arith))
   exact-if from place false rest sound complete next =
       let clear : (q : ℕ) → P from q → ⊥ = λ q p. true≢false (sym (complete q p .1)) in exact-none from rest clear (next clear)
 
-  -- a test of a list of places, from `start` on
-  pub exact-at : (from start : ℕ) (bs : List Bool) (rest : Outcome) → ((j : ℕ) → j < length bs → getD bs j false ≡ true → P from (start + j)) →
-      ((q : ℕ) → P from q → (j : ℕ) × (q ≡ start + j) × (j < length bs) × (getD bs j false ≡ true)) →
-      (((q : ℕ) → P from q → ⊥) → Exact (suc from) rest) → Exact from (refuseAt from (firstTrue start bs) then rest)
+  -- a list of tests whose places are in the order of their turns
+  pub exact-places : (from : ℕ) (place : ℕ → ℕ) (bs : List Bool) (o : Option ℕ) (rest : Outcome) → FirstAt place bs o →
+      ((i j : ℕ) → i < length bs → j < length bs → turn from (place i) < turn from (place j) → i < j) →
+      ((j : ℕ) → j < length bs → getD bs j false ≡ true → P from (place j)) →
+      ((q : ℕ) → P from q → (j : ℕ) × (q ≡ place j) × (j < length bs) × (getD bs j false ≡ true)) →
+      (((q : ℕ) → P from q → ⊥) → Exact (suc from) rest) → Exact from (refuseAt from o then rest)
   unfolding refuseAt _then_
-  exact-at from start bs rest sound complete next = go (firstTrue start bs) (first-true start bs)
+  exact-places from place bs o rest first rises sound complete next = go o first
     where
-      go : (o : Option ℕ) → FirstTrue start bs o → Exact from (refuseAt from o then rest)
+      go : (x : Option ℕ) → FirstAt place bs x → Exact from (refuseAt from x then rest)
       go none h =
           let clear : (q : ℕ) → P from q → ⊥ = λ q p. let c = complete q p in true≢false (sym (c .3) ∙ h (c .0) (c .2)) in exact-none from rest clear (next clear)
       go (some q) h = (
         omega arith,
         subst (P from) (sym (h .1)) (sound (h .0) (h .2) (h .3)),
-        λ r l p. let c = complete r p in true≢false (sym (c .3) ∙ h .4 (c .0) (omega (arith, l, c .1, h .1))),
+        λ r l p. let c = complete r p in
+            true≢false (sym (c .3) ∙ h .4 (c .0) (rises (c .0) (h .0) (c .2) (h .2) (omega (arith, l, ap (turn from) (c .1), ap (turn from) (h .1))))),
         λ m r l u p. absurd (omega arith),
       )
 
+  -- places from `start` on, each of which is its own turn
+  pub exact-at : (from start : ℕ) (bs : List Bool) (rest : Outcome) → ((q : ℕ) → turn from q ≡ q) → ((j : ℕ) → j < length bs → getD bs j false ≡ true → P from (start + j)) →
+      ((q : ℕ) → P from q → (j : ℕ) × (q ≡ start + j) × (j < length bs) × (getD bs j false ≡ true)) →
+      (((q : ℕ) → P from q → ⊥) → Exact (suc from) rest) → Exact from (refuseAt from (firstTrue start bs) then rest)
+  exact-at from start bs rest own =
+      exact-places from (λ j. start + j) bs (firstTrue start bs) rest (first-true start bs) (λ i j li lj l. omega (arith, l, own (start + i), own (start + j)))
+
   -- What the outcome says is all: the converse of both cases, for faults from number 1 on.
-  module _ (o : Outcome) (exact : Exact 1 o) (numbered : (n q : ℕ) → P n q → 1 ≤ n) where
+  module _ (o : Outcome) (exact : Exact 1 o) (numbered : (n q : ℕ) → P n q → 1 ≤ n) (apart : (n q r : ℕ) → P n q → P n r → turn n q ≡ turn n r → q ≡ r) where
     pub accepted-then : o ≡ accepted → (n q : ℕ) → P n q → ⊥
     accepted-then e n q p = subst (Exact 1) e exact n q (numbered n q p) p
 
@@ -90,10 +116,10 @@ module _ (P : ℕ → (ℕ → Type 0)) where
         go accepted k = refl
         go (refused n q) k = absurd (h n q (k .1))
 
-    pub refused-then : (n q : ℕ) → o ≡ refused n q → P n q × ((r : ℕ) → r < q → P n r → ⊥) × ((m r : ℕ) → m < n → P m r → ⊥)
+    pub refused-then : (n q : ℕ) → o ≡ refused n q → P n q × ((r : ℕ) → turn n r < turn n q → P n r → ⊥) × ((m r : ℕ) → m < n → P m r → ⊥)
     refused-then n q e = let k = subst (Exact 1) e exact in (k .1, k .2, λ m r l p. k .3 m r (numbered m r p) l p)
 
-    pub first-then : (n q : ℕ) → P n q → ((r : ℕ) → r < q → P n r → ⊥) → ((m r : ℕ) → m < n → P m r → ⊥) → o ≡ refused n q
+    pub first-then : (n q : ℕ) → P n q → ((r : ℕ) → turn n r < turn n q → P n r → ⊥) → ((m r : ℕ) → m < n → P m r → ⊥) → o ≡ refused n q
     first-then n q there place number = go o exact
       where
         go : (x : Outcome) → Exact 1 x → x ≡ refused n q
@@ -101,12 +127,15 @@ module _ (P : ℕ → (ℕ → Type 0)) where
         go (refused m r) k = least (decLt m n) (decLt n m)
           where
             same : m ≡ n → refused m r ≡ refused n q
-            same e = λ i. refused (e i) (places (decLt r q) (decLt q r) i)
+            same e = λ i. refused (e i) (places (decLt (turn n r) (turn n q)) (decLt (turn n q) (turn n r)) i)
               where
-                places : Dec (r < q) → Dec (q < r) → r ≡ q
-                places (yes l) d = absurd (place r l (subst (λ (x : ℕ). P x r) e (k .1)))
-                places (no l) (yes u) = absurd (k .2 q u (subst (λ (x : ℕ). P x q) (sym e) there))
-                places (no l) (no u) = omega arith
+                here : P n r
+                here = subst (λ (x : ℕ). P x r) e (k .1)
+
+                places : Dec (turn n r < turn n q) → Dec (turn n q < turn n r) → r ≡ q
+                places (yes l) d = absurd (place r l here)
+                places (no l) (yes u) = absurd (subst (λ (x : ℕ). turn x q < turn x r → P x q → ⊥) e (k .2 q) u there)
+                places (no l) (no u) = apart n r q here there (omega arith)
 
             least : Dec (m < n) → Dec (n < m) → refused m r ≡ refused n q
             least (yes l) d = absurd (number m r l (k .1))

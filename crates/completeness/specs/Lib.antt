@@ -1,11 +1,12 @@
--- THEOREMS over the written definition, on two pages: Statements, on completeness, over the vocabulary Numbered; and Verdicts, on verify, over Numbered and Faults.
--- A reader needs these four files. The others are their proofs.
+-- THEOREMS over the written definition, on three pages: Statements, on completeness, over the vocabulary Numbered; Verdicts, on verify, over Numbered and Faults; and
+-- Editions, on the two editions and the converter, over both. A reader needs these five files. The others are their proofs.
 
 -- the vocabularies, and the pages
 pub mod Numbered
 pub mod Statements
 pub mod Faults
 pub mod Verdicts
+pub mod Editions
 -- lists and tests
 pub mod ListLaws
 pub mod ByPlace
@@ -15,6 +16,7 @@ pub mod Tests
 pub mod LevelSizes
 pub mod LevelsByNumber
 pub mod SheetRules
+pub mod Lawful
 pub mod SheetLevels
 pub mod Ready
 -- in any field with the laws: deciding accepts honest transcripts; one round; domains; and a party that sends and asks
@@ -26,6 +28,7 @@ pub mod Causal
 -- the words: their file, their kinds, and the coins among them
 pub mod BlockTrip
 pub mod FileTrip
+pub mod FileRead
 pub mod Passed
 pub mod EachWord
 pub mod LayoutFacts
@@ -46,14 +49,16 @@ pub mod LoadAllowed
 -- rounds, messages and domains by number
 pub mod CoinsByNumber
 pub mod LayoutByNumber
+pub mod DueSizes
 pub mod DomainsByNumber
 pub mod RunByNumber
 pub mod StreamByNumber
 pub mod FunctionsByNumber
 pub mod NonAnticipation
--- verify exactly: the first fault; a file's words, parts and pairs by number; the tests one by one
-pub mod FirstFaults
+-- verify exactly: the sheet's rules by word; the first fault; a file's words, parts and pairs by number; the tests one by one
+pub mod RulesByWord
 pub mod PlainSheet
+pub mod FirstFaults
 pub mod FileByNumber
 pub mod PartsByNumber
 pub mod PairsByNumber
@@ -68,3 +73,11 @@ pub mod Dependence
 pub mod SameVerdict
 pub mod Places
 pub mod ReadsByNumber
+-- edition 1 in its own terms; a file's words under a sheet of the other edition, and the converter
+pub mod EditionOne
+pub mod FileBack
+pub mod FrontOfStream
+pub mod Spread
+pub mod Carried
+pub mod Conversion
+pub mod Converter

@@ -66,3 +66,12 @@ all-at P from (suc n) h (suc i) l = subst P (step from i) (all-at P (suc from) n
   where
     step : (a b : ℕ) → suc a + b ≡ a + suc b
     step a b = omega arith
+
+-- the parts of a joined list
+pub all-left : {A : Type 0} (P : A → Type 0) (xs ys : List A) → All P (xs ++ ys) → All P xs
+all-left P [] ys h = tt
+all-left P (x ∷ xs) ys h = (h .0, all-left P xs ys (h .1))
+
+pub all-right : {A : Type 0} (P : A → Type 0) (xs ys : List A) → All P (xs ++ ys) → All P ys
+all-right P [] ys h = h
+all-right P (x ∷ xs) ys h = all-right P xs ys (h .1)

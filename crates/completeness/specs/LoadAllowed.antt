@@ -10,30 +10,29 @@ use mathlib.Core.Path.{_≡_, refl, sym, ap, _∙_, subst}
 use lib.Dec.{eqb, ltb, leb}
 use lib.ListN.{length, getD, take, replicate, length-append, length-map, length-replicate, List·getD-append}
 use borrow.Author.Tests.{eqb-true, lt-leb, leb-true, leb-false, ltb-true, eq-eqb, ne-eqb}
-use Rattle.definition.specs.Block.{fileOf}
 use Rattle.definition.specs.Deciding.{outInDomain}
 use Rattle.definition.specs.Field.{knownField, primeOf}
 use Rattle.definition.specs.Layout.{Kind, coin, coinKinds, index, layout, limit, message, out}
-use Rattle.definition.specs.Lists.{firstTrue, member, range}
+use Rattle.definition.specs.Lists.{firstTrue, member, productOf, range}
 use Rattle.definition.specs.Line.{decimal, decimalWithin, lineOf, outcomeText}
-use Rattle.definition.specs.Load.{Drawn, Order, step, drawBelow, keep, permits, candidates, permitted, workedSheet, drawWords, drawSheet, drawOut, drawKind, drawKinds, drawOrder, orders, verdictOn, loadRuns, loadLines}
+use Rattle.definition.specs.Load.{step, drawBelow, keep, permits, candidates, permitted, workedSheet, drawWords, drawSheet, drawOut, drawKind, drawKinds, drawOrder, orders, verdictOn, loadRuns, loadLines}
 use Rattle.definition.specs.Prove.{coefficientsTest, coinDomainTest, coinsTest, inputRangeTest, sheetLengthTest}
-use Rattle.definition.specs.Prover.{honestStream}
 use Rattle.definition.specs.Reading.{outOfRange, sheetTest}
-use Rattle.definition.specs.Sheet.{Sheet, between, degreeRule, fieldRule, foldRule, mostRepetitions, outCoinsRule, powerOfTwo, repetitionsRule, roundsRule, sheetLength, sheetOf, sheetRules, sizeRule}
+use Rattle.definition.specs.Sheet.{Sheet, between, degreeRule, edition1, fieldRule, foldPlaces, foldRule, foldWords, foldingNumber, laterRules, mostRepetitions, outCoinsRule, powerOfTwo, repetitionsRule, roundsRule, sheetOf, sheetRules, sizeRule}
 use Rattle.definition.specs.Verdict.{Verdict, accepted}
-use Rattle.definition.specs.Verify.{verify}
-use Rattle.algebra.specs.ListFacts.{All, all-map, all-of-map}
+use Rattle.algebra.specs.ListFacts.{All}
 use Rattle.completeness.specs.ByPlace.{at-place}
 use Rattle.completeness.specs.Completeness.{completeness}
 use Rattle.completeness.specs.EachWord.{Each, each-join, each-length, each-map, each-none}
 use Rattle.completeness.specs.FairCoins.{Passes}
+use Rattle.completeness.specs.Faults.{wordTurn}
 use Rattle.completeness.specs.ListLaws.{all-replicate}
 use Rattle.completeness.specs.Numbered.{Allowed, readsDue}
 use Rattle.completeness.specs.Premises.{Zero, by-hand, coins-of, layout-zeros, message-zero}
 use Rattle.completeness.specs.Ready.{Ready, ready}
-use Rattle.completeness.specs.Tests.{and-true, at-none, if-false, none-true}
-use Rattle.completeness.specs.SheetRules.{between-true, power-of-two}
+use Rattle.completeness.specs.RulesByWord.{sheet-exactly}
+use Rattle.completeness.specs.Tests.{and-true, at-none, if-false}
+use Rattle.completeness.specs.SheetRules.{between-true, count-small, power-of-two}
 
 -- ---- the sheet
 
@@ -90,36 +89,24 @@ two-in (suc (suc (suc (suc (suc (suc (suc (suc (suc (suc (suc (suc (suc a)))))))
 power-in : (x : ℕ) → powerOfTwo x ≡ true → member x candidates ≡ true
 power-in x e = let p = power-of-two x e in subst (λ (y : ℕ). member y candidates ≡ true) (sym (p .2)) (two-in (p .0) (p .1))
 
-count-small : (w : List ℕ) (i : ℕ) → repetitionsRule w i ≡ true → getD w (6 + i) 0 ≤ 48
-unfolding repetitionsRule
-count-small w i e = go (ltb i (getD w 4 0)) (eqb i (getD w 4 0)) _ e
-  where
-    t : ℕ
-    t = getD w (6 + i) 0
-
-    go : (x y v : Bool) → cond x (between 1 48 t && v) (cond y (between 1 48 t) (eqb t 0)) ≡ true → t ≤ 48
-    go true y v k = between-true 1 48 t (and-true (between 1 48 t) v k .0) .1
-    go false true v k = between-true 1 48 t k .1
-    go false false v k = let z : t ≡ 0 = eqb-true t 0 k in omega arith
-
 pub none-missing : (w : List ℕ) (x : ℕ) → permits w x ≡ true → member x candidates ≡ true
-unfolding permits sheetRules range fieldRule knownField sizeRule degreeRule foldRule roundsRule outCoinsRule
+unfolding permits sheetRules range fieldRule knownField sizeRule degreeRule foldRule roundsRule outCoinsRule foldingNumber laterRules
 none-missing [] x e = small-in x (omega (arith, ltb-true x 3 e))
 none-missing (a ∷ []) x e = power-in x (and-true (powerOfTwo x) _ (and-true (powerOfTwo x && between 4 4096 x) _ e .0) .0)
 none-missing (a ∷ b ∷ []) x e = power-in x (and-true (powerOfTwo x) _ e .0)
 none-missing (a ∷ b ∷ c ∷ []) x e = power-in x (and-true (powerOfTwo x) _ (and-true (powerOfTwo x && between 2 16 x) _ e .0) .0)
 none-missing (a ∷ b ∷ c ∷ d ∷ []) x e = small-in x (omega (arith, leb-true x 5 (and-true (leb x 5) _ e .0)))
 none-missing (a ∷ b ∷ c ∷ d ∷ f ∷ []) x e = small-in x (omega (arith, between-true 1 2 x e .1))
-none-missing (a ∷ b ∷ c ∷ d ∷ f ∷ g ∷ []) x e = small-in x (count-small (a ∷ b ∷ c ∷ d ∷ f ∷ g ∷ x ∷ []) 0 e)
-none-missing (a ∷ b ∷ c ∷ d ∷ f ∷ g ∷ h ∷ []) x e = small-in x (count-small (a ∷ b ∷ c ∷ d ∷ f ∷ g ∷ h ∷ x ∷ []) 1 e)
-none-missing (a ∷ b ∷ c ∷ d ∷ f ∷ g ∷ h ∷ i ∷ []) x e = small-in x (count-small (a ∷ b ∷ c ∷ d ∷ f ∷ g ∷ h ∷ i ∷ x ∷ []) 2 e)
-none-missing (a ∷ b ∷ c ∷ d ∷ f ∷ g ∷ h ∷ i ∷ j ∷ []) x e = small-in x (count-small (a ∷ b ∷ c ∷ d ∷ f ∷ g ∷ h ∷ i ∷ j ∷ x ∷ []) 3 e)
-none-missing (a ∷ b ∷ c ∷ d ∷ f ∷ g ∷ h ∷ i ∷ j ∷ k ∷ []) x e = small-in x (count-small (a ∷ b ∷ c ∷ d ∷ f ∷ g ∷ h ∷ i ∷ j ∷ k ∷ x ∷ []) 4 e)
-none-missing (a ∷ b ∷ c ∷ d ∷ f ∷ g ∷ h ∷ i ∷ j ∷ k ∷ l ∷ []) x e = small-in x (count-small (a ∷ b ∷ c ∷ d ∷ f ∷ g ∷ h ∷ i ∷ j ∷ k ∷ l ∷ x ∷ []) 5 e)
+none-missing (a ∷ b ∷ c ∷ d ∷ f ∷ g ∷ []) x e = small-in x (count-small edition1 (a ∷ b ∷ c ∷ d ∷ f ∷ g ∷ x ∷ []) 0 e)
+none-missing (a ∷ b ∷ c ∷ d ∷ f ∷ g ∷ h ∷ []) x e = small-in x (count-small edition1 (a ∷ b ∷ c ∷ d ∷ f ∷ g ∷ h ∷ x ∷ []) 1 e)
+none-missing (a ∷ b ∷ c ∷ d ∷ f ∷ g ∷ h ∷ i ∷ []) x e = small-in x (count-small edition1 (a ∷ b ∷ c ∷ d ∷ f ∷ g ∷ h ∷ i ∷ x ∷ []) 2 e)
+none-missing (a ∷ b ∷ c ∷ d ∷ f ∷ g ∷ h ∷ i ∷ j ∷ []) x e = small-in x (count-small edition1 (a ∷ b ∷ c ∷ d ∷ f ∷ g ∷ h ∷ i ∷ j ∷ x ∷ []) 3 e)
+none-missing (a ∷ b ∷ c ∷ d ∷ f ∷ g ∷ h ∷ i ∷ j ∷ k ∷ []) x e = small-in x (count-small edition1 (a ∷ b ∷ c ∷ d ∷ f ∷ g ∷ h ∷ i ∷ j ∷ k ∷ x ∷ []) 4 e)
+none-missing (a ∷ b ∷ c ∷ d ∷ f ∷ g ∷ h ∷ i ∷ j ∷ k ∷ l ∷ []) x e = small-in x (count-small edition1 (a ∷ b ∷ c ∷ d ∷ f ∷ g ∷ h ∷ i ∷ j ∷ k ∷ l ∷ x ∷ []) 5 e)
 none-missing (a ∷ b ∷ c ∷ d ∷ f ∷ g ∷ h ∷ i ∷ j ∷ k ∷ l ∷ m ∷ w) x e = absurd (true≢false (sym e))
 
 -- what is permitted keeps the rule
-pub rule-kept : (w : List ℕ) (x : ℕ) → permits w x ≡ true → getD (sheetRules (w ++ (x ∷ []))) (length w) false ≡ true
+pub rule-kept : (w : List ℕ) (x : ℕ) → permits w x ≡ true → getD (sheetRules edition1 (w ++ (x ∷ []))) (length w) false ≡ true
 unfolding permits sheetRules fieldRule
 rule-kept [] x e = e
 rule-kept (a ∷ w) x e = e
@@ -129,15 +116,15 @@ module _ (w u : List ℕ) where
   same : (i : ℕ) → i < length w → getD (w ++ u) i 0 ≡ getD w i 0
   same i l = List·getD-append w u 0 i l
 
-  repetitions-front : (i : ℕ) → 6 + i < length w → repetitionsRule (w ++ u) i ≡ repetitionsRule w i
-  unfolding repetitionsRule
+  repetitions-front : (i : ℕ) → 6 + i < length w → repetitionsRule edition1 (w ++ u) i ≡ repetitionsRule edition1 w i
+  unfolding repetitionsRule foldWords foldPlaces
   repetitions-front i l = λ t.
       cond (ltb i (same 4 (omega arith) t))
-      (between 1 mostRepetitions (same (6 + i) l t) && ltb (same (6 + i) l t + same 5 (omega arith) t) (same 2 (omega arith) t / same 3 (omega arith) t ^ suc i))
+      (between 1 mostRepetitions (same (6 + i) l t) && ltb (same (6 + i) l t + same 5 (omega arith) t) (same 2 (omega arith) t / productOf (take (suc i) (replicate 6 (same 3 (omega arith) t)))))
       (cond (eqb i (same 4 (omega arith) t)) (between 1 mostRepetitions (same (6 + i) l t)) (eqb (same (6 + i) l t) 0))
 
-  pub rule-front : (j : ℕ) → j < length w → getD (sheetRules (w ++ u)) j false ≡ getD (sheetRules w) j false
-  unfolding sheetRules range fieldRule sizeRule degreeRule foldRule roundsRule outCoinsRule
+  pub rule-front : (j : ℕ) → j < length w → getD (sheetRules edition1 (w ++ u)) j false ≡ getD (sheetRules edition1 w) j false
+  unfolding sheetRules laterRules range fieldRule sizeRule degreeRule foldRule foldingNumber roundsRule outCoinsRule
   rule-front zero l = λ t. knownField (same 0 l t)
   rule-front (suc zero) l = λ t. powerOfTwo (same 1 l t) && between 4 4096 (same 1 l t) && eqb ((primeOf (same 0 (omega arith) t) - 1) % same 1 l t) 0
   rule-front (suc (suc zero)) l = λ t. powerOfTwo (same 2 l t) && between 2 (same 1 (omega arith) t / 2) (same 2 l t)
@@ -154,13 +141,13 @@ module _ (w u : List ℕ) where
 
 -- the words so far keep their rules
 abbrev pub Kept : List ℕ → Type 0
-Kept w = (j : ℕ) → j < length w → getD (sheetRules w) j false ≡ true
+Kept w = (j : ℕ) → j < length w → getD (sheetRules edition1 w) j false ≡ true
 
-pub kept-more : (w : List ℕ) (x : ℕ) → Kept w → getD (sheetRules (w ++ (x ∷ []))) (length w) false ≡ true → Kept (w ++ (x ∷ []))
+pub kept-more : (w : List ℕ) (x : ℕ) → Kept w → getD (sheetRules edition1 (w ++ (x ∷ []))) (length w) false ≡ true → Kept (w ++ (x ∷ []))
 kept-more w x k e j l = go (eqb j (length w)) refl
   where
-    go : (b : Bool) → eqb j (length w) ≡ b → getD (sheetRules (w ++ (x ∷ []))) j false ≡ true
-    go true q = ap (λ (i : ℕ). getD (sheetRules (w ++ (x ∷ []))) i false) (eqb-true j (length w) q) ∙ e
+    go : (b : Bool) → eqb j (length w) ≡ b → getD (sheetRules edition1 (w ++ (x ∷ []))) j false ≡ true
+    go true q = ap (λ (i : ℕ). getD (sheetRules edition1 (w ++ (x ∷ []))) i false) (eqb-true j (length w) q) ∙ e
     go false q =
         let less : j < length w = omega (arith, length-append w (x ∷ []), differs) in
         rule-front w (x ∷ []) j less ∙ k j less
@@ -169,32 +156,12 @@ kept-more w x k e j l = go (eqb j (length w)) refl
         differs z = true≢false (sym (eq-eqb j (length w) z) ∙ q)
 
 -- 12 words that keep their rules are a sheet without a fault
-kept-passes : (w : List ℕ) → length w ≡ 12 → Kept w → sheetTest w ≡ accepted
-unfolding sheetTest sheetRules range
-kept-passes w e k =
-    let r : (j : ℕ) → j < 12 → not (getD (sheetRules w) j false) ≡ false = λ j l. ap not (k j (omega arith)) in
-    at-none 3 _ (none-true 0 (map not (sheetRules w)) (
-      r 0 (omega arith),
-      (
-        r 1 (omega arith),
-        (
-          r 2 (omega arith),
-          (
-            r 3 (omega arith),
-            (
-              r 4 (omega arith),
-              (
-                r 5 (omega arith),
-                (r 6 (omega arith), (r 7 (omega arith), (r 8 (omega arith), (r 9 (omega arith), (r 10 (omega arith), (r 11 (omega arith), tt)))))),
-              ),
-            ),
-          ),
-        ),
-      ),
-    ))
+kept-passes : (w : List ℕ) → length w ≡ 12 → Kept w → sheetTest edition1 w ≡ accepted
+unfolding wordTurn
+kept-passes w e k = sheet-exactly edition1 w .1 (λ i l. k i (omega arith))
 
 abbrev Faultless : List ℕ → Type 0
-Faultless w = (length w ≡ 12) × (sheetTest w ≡ accepted)
+Faultless w = (length w ≡ 12) × (sheetTest edition1 w ≡ accepted)
 
 words-faultless : (count : ℕ) (w : List ℕ) (v : ℕ) → length w + count ≡ 12 → Kept w → Faultless (drawWords count w v .value)
 unfolding drawWords permitted
@@ -252,13 +219,13 @@ module _ (h : Sheet) (r : Ready h) where
   kinds-pass (k ∷ ks) v z = (kind-passes k v (z .0), kinds-pass ks (drawKind h k v .next) (z .1))
 
 -- Whatever the generator holds, what a run draws is allowed.
-pub draws-allowed : (v : ℕ) → Allowed (drawOrder v .value .sheet) (drawOrder v .value .coefficients) (drawOrder v .value .coins)
+pub draws-allowed : (v : ℕ) → Allowed edition1 (drawOrder v .value .sheet) (drawOrder v .value .coefficients) (drawOrder v .value .coins)
 unfolding drawOrder sheetLengthTest coefficientsTest coinsTest inputRangeTest coinDomainTest
 draws-allowed v =
     let s = sheet-faultless v in
     let w = drawSheet v .value in
-    let h = sheetOf w in
-    let r = ready w (s .0) (s .1) in
+    let h = sheetOf edition1 w in
+    let r = ready edition1 w (omega (arith, s .0)) (s .1) in
     let ms = replicate (h .degree) message in
     let ks = coinKinds (layout h) in
     let f = drawKinds h ms (drawSheet v .next) in
@@ -281,9 +248,9 @@ draws-allowed v =
 -- ---- the lines
 
 -- So the honest file of each run is accepted, with the reads due.
-pub draws-accepted : (v : ℕ) → verdictOn (drawOrder v .value) ≡ record { outcome = accepted; reads = readsDue (drawOrder v .value .sheet) }
+pub draws-accepted : (v : ℕ) → verdictOn (drawOrder v .value) ≡ record { outcome = accepted; reads = readsDue (sheetOf edition1 (drawOrder v .value .sheet)) }
 unfolding verdictOn
-draws-accepted v = completeness _ _ _ (draws-allowed v)
+draws-accepted v = completeness edition1 _ _ _ (draws-allowed v)
 
 -- `accepted`
 abbrev pub acceptedText : List ℕ

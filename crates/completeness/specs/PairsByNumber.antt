@@ -9,6 +9,7 @@ use Rattle.definition.specs.Deciding.{answers, nextFunction, tableFunction}
 use Rattle.definition.specs.Domain.{foldAt, point, shiftPoint}
 use Rattle.definition.specs.Field.{Field, primeField}
 use Rattle.definition.specs.Polynomial.{Sample, correctedValue, distinct, pair}
+use Rattle.definition.specs.Sheet.{Edition, Sheet}
 use Rattle.completeness.specs.Faults.{Part, PartDue, combination, dueOf, fold, functionIn, outs, pairIn, pairsIn, partLength, partStart, partWord, partWords, shifts, words}
 use Rattle.completeness.specs.ListLaws.{getD-map}
 use Rattle.completeness.specs.Numbered.{levelOf, lengthOf, outsOf, replies, roundsOf, sheetField, sheetRoot, table}
@@ -28,74 +29,74 @@ pair-at (x ∷ xs) [] d j e l = absurd (omega arith)
 pair-at (x ∷ xs) (y ∷ ys) d zero e l = refl
 pair-at (x ∷ xs) (y ∷ ys) d (suc j) e l = pair-at xs ys d j (omega arith) (omega arith)
 
-module _ (w : List ℕ) (full : dueOf w ≤ length w) where
+module _ (ed : Edition) (h : Sheet) (w : List ℕ) (full : dueOf ed h ≤ length w) where
   abbrev F : Field ℕ
-  F = sheetField w
+  F = sheetField h
 
   abbrev ω : ℕ
-  ω = sheetRoot w
+  ω = sheetRoot h
 
   -- the words of a part, by number
-  pub part-length : (x : Part) → PartDue w x → length (partWords w x) ≡ partLength w x
+  pub part-length : (x : Part) → PartDue h x → length (partWords ed h w x) ≡ partLength h x
   unfolding partWords
-  part-length x d = length-take (partLength w x) (drop (partStart w x) w) ∙ go (partLength w x) refl
+  part-length x d = length-take (partLength h x) (drop (partStart ed h x) w) ∙ go (partLength h x) refl
     where
-      go : (n : ℕ) → partLength w x ≡ n → min (partLength w x) (length (drop (partStart w x) w)) ≡ partLength w x
+      go : (n : ℕ) → partLength h x ≡ n → min (partLength h x) (length (drop (partStart ed h x) w)) ≡ partLength h x
       go zero e = omega arith
-      go (suc n) e = omega (arith, length-drop (partStart w x) w, part-below w x d n (omega arith))
+      go (suc n) e = omega (arith, length-drop (partStart ed h x) w, part-below ed h x d n (omega arith))
 
-  pub part-word : (x : Part) (j : ℕ) → j < partLength w x → getD (partWords w x) j 0 ≡ partWord w x j
+  pub part-word : (x : Part) (j : ℕ) → j < partLength h x → getD (partWords ed h w x) j 0 ≡ partWord ed h w x j
   unfolding partWords
-  part-word x j l = getD-take (partLength w x) (drop (partStart w x) w) j 0 l ∙ getD-drop (partStart w x) w j 0
+  part-word x j l = getD-take (partLength h x) (drop (partStart ed h x) w) j 0 l ∙ getD-drop (partStart ed h x) w j 0
 
   -- f_0 is table 0; f_(i+1) is worked out at each point from the entry of table i + 1 there and from the pairs
-  pub first-function : (j : ℕ) → j < levelOf w 0 .size → functionIn w 0 .value j ≡ partWord w (words (table 0)) j
+  pub first-function : (j : ℕ) → j < levelOf h 0 .size → functionIn ed h w 0 .value j ≡ partWord ed h w (words (table 0)) j
   unfolding functionIn tableFunction primeField partLength lengthOf
   first-function j l = part-word (words (table 0)) j l
 
-  pub next-function : (i j : ℕ) → j < levelOf w (suc i) .size → functionIn w (suc i) .value j
-      ≡ correctedValue (sheetField w) (distinct (sheetField w) (pairsIn w i)) (partWord w (combination i) 0) (point (sheetField w) (sheetRoot w) (levelOf w (suc i)) j)
-      (partWord w (words (table (suc i))) j)
+  pub next-function : (i j : ℕ) → j < levelOf h (suc i) .size → functionIn ed h w (suc i) .value j
+      ≡ correctedValue (sheetField h) (distinct (sheetField h) (pairsIn ed h w i)) (partWord ed h w (combination i) 0) (point (sheetField h) (sheetRoot h) (levelOf h (suc i)) j)
+      (partWord ed h w (words (table (suc i))) j)
   unfolding functionIn nextFunction pairsIn partLength lengthOf primeField
   next-function i j l =
-      ap (correctedValue F (distinct F (pairsIn w i)) (partWord w (combination i) 0) (point F ω (levelOf w (suc i)) j)) (part-word (words (table (suc i))) j l)
+      ap (correctedValue F (distinct F (pairsIn ed h w i)) (partWord ed h w (combination i) 0) (point F ω (levelOf h (suc i)) j)) (part-word (words (table (suc i))) j l)
 
-  module _ (i : ℕ) (due : i < roundsOf w) where
+  module _ (i : ℕ) (due : i < roundsOf h) where
     abbrev coins : List (Sample ℕ)
-    coins = pair (partWords w (outs i)) (partWords w (words (replies (suc i))))
+    coins = pair (partWords ed h w (outs i)) (partWords ed h w (words (replies (suc i))))
 
-    outs-length : length (partWords w (outs i)) ≡ outsOf w
+    outs-length : length (partWords ed h w (outs i)) ≡ outsOf h
     unfolding partLength
     outs-length = part-length (outs i) due
 
-    same-length : length (partWords w (outs i)) ≡ length (partWords w (words (replies (suc i))))
+    same-length : length (partWords ed h w (outs i)) ≡ length (partWords ed h w (words (replies (suc i))))
     unfolding partLength lengthOf
     same-length = outs-length ∙ sym (part-length (words (replies (suc i))) (omega arith, due))
 
-    coins-length : length coins ≡ outsOf w
+    coins-length : length coins ≡ outsOf h
     coins-length = pair-length _ _ same-length ∙ outs-length
 
-    shifts-length : length (partWords w (shifts i)) ≡ levelOf w i .repetitions
+    shifts-length : length (partWords ed h w (shifts i)) ≡ levelOf h i .repetitions
     unfolding partLength
     shifts-length = part-length (shifts i) due
 
     abbrev sampled : ℕ → Sample ℕ
-    sampled y = record { point = shiftPoint (sheetField w) (sheetRoot w) (levelOf w i) y; value = foldAt (sheetField w) (sheetRoot w) (levelOf w i) (functionIn w i .value) (partWord w (fold i) 0) y }
+    sampled y = record { point = shiftPoint (sheetField h) (sheetRoot h) (levelOf h i) y; value = foldAt (sheetField h) (sheetRoot h) (levelOf h i) (functionIn ed h w i .value) (partWord ed h w (fold i) 0) y }
 
     -- a round has s + t pairs: out coin j with reply j,
-    pub pair-count : length (pairsIn w i) ≡ outsOf w + levelOf w i .repetitions
+    pub pair-count : length (pairsIn ed h w i) ≡ outsOf h + levelOf h i .repetitions
     unfolding pairsIn answers
-    pair-count = omega (arith, length-append coins (map sampled (partWords w (shifts i))), coins-length, length-map (partWords w (shifts i)) sampled, shifts-length)
+    pair-count = omega (arith, length-append coins (map sampled (partWords ed h w (shifts i))), coins-length, length-map (partWords ed h w (shifts i)) sampled, shifts-length)
 
-    pub pair-of-out : (j : ℕ) → j < outsOf w → pairIn w i j ≡ record { point = partWord w (outs i) j; value = partWord w (words (replies (suc i))) j }
+    pub pair-of-out : (j : ℕ) → j < outsOf h → pairIn ed h w i j ≡ record { point = partWord ed h w (outs i) j; value = partWord ed h w (words (replies (suc i))) j }
     unfolding pairsIn answers partLength lengthOf
     pair-of-out j l =
-        List·getD-append coins (map sampled (partWords w (shifts i))) _ j (omega (arith, coins-length)) ∙ pair-at _ _ _ j same-length (omega (arith, outs-length))
+        List·getD-append coins (map sampled (partWords ed h w (shifts i))) _ j (omega (arith, coins-length)) ∙ pair-at _ _ _ j same-length (omega (arith, outs-length))
         ∙ (λ x. record { point = part-word (outs i) j l x; value = part-word (words (replies (suc i))) j l x })
 
     -- and the shift point of shift index j with the fold of f_i there
-    pub pair-of-shift : (j : ℕ) → j < levelOf w i .repetitions → pairIn w i (outsOf w + j) ≡ sampled (partWord w (shifts i) j)
+    pub pair-of-shift : (j : ℕ) → j < levelOf h i .repetitions → pairIn ed h w i (outsOf h + j) ≡ sampled (partWord ed h w (shifts i) j)
     unfolding pairsIn answers partLength
     pair-of-shift j l =
-        ap (λ (m : ℕ). getD (coins ++ map sampled (partWords w (shifts i))) (m + j) (record { point = 0; value = 0 })) (sym coins-length) ∙ getD-append-add coins _ j _
-        ∙ getD-map sampled (partWords w (shifts i)) 0 _ j (omega (arith, shifts-length)) ∙ ap sampled (part-word (shifts i) j l)
+        ap (λ (m : ℕ). getD (coins ++ map sampled (partWords ed h w (shifts i))) (m + j) (record { point = 0; value = 0 })) (sym coins-length) ∙ getD-append-add coins _ j _
+        ∙ getD-map sampled (partWords ed h w (shifts i)) 0 _ j (omega (arith, shifts-length)) ∙ ap sampled (part-word (shifts i) j l)

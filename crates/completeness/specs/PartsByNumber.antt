@@ -5,12 +5,13 @@ use native.Mathlib.Nat.{add-suc, add-zero}
 use native.Mathlib.Omega.{arith}
 use mathlib.Core.List.{List, _∷_, _++_}
 use mathlib.Core.Path.{_≡_, refl, sym, ap, _∙_}
-use lib.ListN.{length, getD, replicate, length-replicate, getD-replicate, List·getD-append}
+use lib.ListN.{getD, replicate, length-replicate, getD-replicate, List·getD-append}
 use lib.Seq.{getD-append-add, getD-drop}
 use Rattle.definition.specs.Layout.{Kind, coin, index, laterCount, layout, message, out, restLayout, wordsDue}
-use Rattle.definition.specs.Sheet.{finalCount, sheetOf, shiftCount}
+use Rattle.definition.specs.Sheet.{Edition, Sheet, finalCount, sheetLength, shiftCount}
 use Rattle.completeness.specs.Faults.{Part, PartDue, combination, dueOf, finals, fold, outs, partLength, partStart, shifts, words}
 use Rattle.completeness.specs.LayoutByNumber.{after-start, afterKinds, kinds-length, lastKinds, roundKinds, words-due}
+use Rattle.completeness.specs.LevelsByNumber.{Paired}
 use Rattle.completeness.specs.Numbered.{final, lengthOf, levelOf, outsOf, replies, roundStart, roundsOf, startOf, table, wordCount}
 use Rattle.completeness.specs.Parts.{joined}
 
@@ -25,56 +26,56 @@ module _ {A : Type 0} (d : A) where
   past n k z j = ap (λ (m : ℕ). getD (replicate n k ++ z) (m + j) d) (sym (length-replicate n k)) ∙ getD-append-add (replicate n k) z j d
 
 -- the kind of a part's words
-unfoldable pub partKind : List ℕ → Part → Kind
-partKind w (words m) = message
-partKind w (outs i) = out (levelOf w (suc i))
-partKind w (combination i) = coin
-partKind w (fold i) = coin
-partKind w (shifts i) = index (shiftCount (levelOf w i))
-partKind w finals = index (shiftCount (levelOf w (roundsOf w)))
+unfoldable pub partKind : Sheet → Part → Kind
+partKind h (words m) = message
+partKind h (outs i) = out (levelOf h (suc i))
+partKind h (combination i) = coin
+partKind h (fold i) = coin
+partKind h (shifts i) = index (shiftCount (levelOf h i))
+partKind h finals = index (shiftCount (levelOf h (roundsOf h)))
 
 -- a word number that is in a due part
-abbrev pub InPart : List ℕ → ℕ → Type 0
-InPart w n = (x : Part) × PartDue w x × ((j : ℕ) × (j < partLength w x) × (n ≡ partStart w x + j))
+abbrev pub InPart : Edition → Sheet → ℕ → Type 0
+InPart ed h n = (x : Part) × PartDue h x × ((j : ℕ) × (j < partLength h x) × (n ≡ partStart ed h x + j))
 
-module _ (w : List ℕ) where
-  pub starts-grow : (i m : ℕ) → roundStart w i ≤ roundStart w (i + m)
+module _ (ed : Edition) (h : Sheet) where
+  pub starts-grow : (i m : ℕ) → roundStart ed h i ≤ roundStart ed h (i + m)
   unfolding roundStart
   starts-grow i zero = rw (add-zero i) (omega arith)
   starts-grow i (suc m) = rw (add-suc i m) (omega (arith, starts-grow i m))
 
-  pub starts-after : (i : ℕ) → 12 ≤ roundStart w i
+  pub starts-after : (i : ℕ) → sheetLength ed ≤ roundStart ed h i
   unfolding roundStart
   starts-after zero = omega arith
   starts-after (suc i) = omega (arith, starts-after i)
 
   -- the round that a word number is in
-  locate : (m n : ℕ) → 12 ≤ n → n < roundStart w m → (i : ℕ) × (i < m) × ((y : ℕ) × (y < wordCount w i) × (n ≡ roundStart w i + y))
+  locate : (m n : ℕ) → sheetLength ed ≤ n → n < roundStart ed h m → (i : ℕ) × (i < m) × ((y : ℕ) × (y < wordCount h i) × (n ≡ roundStart ed h i + y))
   unfolding roundStart
   locate zero n l u = absurd (omega arith)
-  locate (suc m) n l u = go (decLt n (roundStart w m)) (locate m n l)
+  locate (suc m) n l u = go (decLt n (roundStart ed h m)) (locate m n l)
     where
-      go : Dec (n < roundStart w m) → (n < roundStart w m → (i : ℕ) × (i < m) × ((y : ℕ) × (y < wordCount w i) × (n ≡ roundStart w i + y))) → (i : ℕ) × (i < suc m) × ((y : ℕ) × (y < wordCount w i) × (n ≡ roundStart w i + y))
-      go (yes h) before = let r = before h in (r .0, omega (arith, r .1), r .2)
-      go (no h) before = (m, omega arith, (n - roundStart w m, omega arith, omega arith))
+      go : Dec (n < roundStart ed h m) → (n < roundStart ed h m → (i : ℕ) × (i < m) × ((y : ℕ) × (y < wordCount h i) × (n ≡ roundStart ed h i + y))) → (i : ℕ) × (i < suc m) × ((y : ℕ) × (y < wordCount h i) × (n ≡ roundStart ed h i + y))
+      go (yes v) before = let r = before v in (r .0, omega (arith, r .1), r .2)
+      go (no v) before = (m, omega arith, (n - roundStart ed h m, omega arith, omega arith))
 
   -- and its part in the round
-  in-round : (i y : ℕ) → i ≤ roundsOf w → y < wordCount w i → InPart w (roundStart w i + y)
+  in-round : (i y : ℕ) → i ≤ roundsOf h → y < wordCount h i → InPart ed h (roundStart ed h i + y)
   unfolding wordCount laterCount partStart partLength startOf lengthOf
-  in-round zero y l u = go (decLt y (levelOf w 0 .size))
+  in-round zero y l u = go (decLt y (levelOf h 0 .size))
     where
-      go : Dec (y < levelOf w 0 .size) → InPart w (roundStart w 0 + y)
-      go (yes h) = (words (table 0), l, (y, h, refl))
-      go (no h) = (fold 0, l, (0, omega arith, omega arith))
+      go : Dec (y < levelOf h 0 .size) → InPart ed h (roundStart ed h 0 + y)
+      go (yes v) = (words (table 0), l, (y, v, refl))
+      go (no v) = (fold 0, l, (0, omega arith, omega arith))
   in-round (suc i) y l u = go (decLt y n) (decLt y (n + s)) (decLt y (n + (s + s))) (decLt y (n + (s + (s + 1)))) (decLt y (n + (s + (s + 2))))
     where
       n : ℕ
-      n = levelOf w (suc i) .size
+      n = levelOf h (suc i) .size
 
       s : ℕ
-      s = outsOf w
+      s = outsOf h
 
-      go : Dec (y < n) → Dec (y < n + s) → Dec (y < n + (s + s)) → Dec (y < n + (s + (s + 1))) → Dec (y < n + (s + (s + 2))) → InPart w (roundStart w (suc i) + y)
+      go : Dec (y < n) → Dec (y < n + s) → Dec (y < n + (s + s)) → Dec (y < n + (s + (s + 1))) → Dec (y < n + (s + (s + 2))) → InPart ed h (roundStart ed h (suc i) + y)
       go (yes a) b c d e = (words (table (suc i)), l, (y, a, refl))
       go (no a) (yes b) c d e = (outs i, l, (y - n, omega arith, omega arith))
       go (no a) (no b) (yes c) d e = (words (replies (suc i)), (omega arith, l), (y - (n + s), omega arith, omega arith))
@@ -83,94 +84,94 @@ module _ (w : List ℕ) where
       go (no a) (no b) (no c) (no d) (no e) = (shifts i, l, (y - (n + (s + (s + 2))), omega arith, omega arith))
 
   -- every word after the sheet is a word of a due part,
-  pub every-word : (n : ℕ) → 12 ≤ n → n < dueOf w → InPart w n
+  pub every-word : (n : ℕ) → sheetLength ed ≤ n → n < dueOf ed h → InPart ed h n
   unfolding partStart partLength startOf lengthOf
-  every-word n l u = go (decLt n (roundStart w (suc (roundsOf w)))) (decLt n (partStart w finals))
+  every-word n l u = go (decLt n (roundStart ed h (suc (roundsOf h)))) (decLt n (partStart ed h finals))
     where
-      go : Dec (n < roundStart w (suc (roundsOf w))) → Dec (n < partStart w finals) → InPart w n
+      go : Dec (n < roundStart ed h (suc (roundsOf h))) → Dec (n < partStart ed h finals) → InPart ed h n
       go (yes a) b =
-          let r = locate (suc (roundsOf w)) n l a in
+          let r = locate (suc (roundsOf h)) n l a in
           let p = in-round (r .0) (r .2 .0) (omega (arith, r .1)) (r .2 .1) in
           (p .0, p .1, (p .2 .0, p .2 .1, r .2 .2 ∙ p .2 .2))
-      go (no a) (yes b) = (words final, tt, (n - roundStart w (suc (roundsOf w)), omega arith, omega arith))
-      go (no a) (no b) = (finals, tt, (n - partStart w finals, omega arith, omega arith))
+      go (no a) (yes b) = (words final, tt, (n - roundStart ed h (suc (roundsOf h)), omega arith, omega arith))
+      go (no a) (no b) = (finals, tt, (n - partStart ed h finals, omega arith, omega arith))
 
   -- and the words of a due part are among them
-  round-below : (i y : ℕ) → i ≤ roundsOf w → y < wordCount w i → (12 ≤ roundStart w i + y) × (roundStart w i + y < dueOf w)
+  round-below : (i y : ℕ) → i ≤ roundsOf h → y < wordCount h i → (sheetLength ed ≤ roundStart ed h i + y) × (roundStart ed h i + y < dueOf ed h)
   unfolding roundStart partStart
   round-below i y l u =
-      let e : suc i + (roundsOf w - i) ≡ suc (roundsOf w) = omega arith in
-      let g : roundStart w (suc i) ≤ roundStart w (suc (roundsOf w)) = rw e at (starts-grow (suc i) (roundsOf w - i)) in
+      let e : suc i + (roundsOf h - i) ≡ suc (roundsOf h) = omega arith in
+      let g : roundStart ed h (suc i) ≤ roundStart ed h (suc (roundsOf h)) = rw e at (starts-grow (suc i) (roundsOf h - i)) in
       (omega (arith, starts-after i), omega (arith, g))
 
-  pub part-below : (x : Part) → PartDue w x → (j : ℕ) → j < partLength w x → (12 ≤ partStart w x + j) × (partStart w x + j < dueOf w)
+  pub part-below : (x : Part) → PartDue h x → (j : ℕ) → j < partLength h x → (sheetLength ed ≤ partStart ed h x + j) × (partStart ed h x + j < dueOf ed h)
   unfolding partStart partLength startOf lengthOf wordCount laterCount
-  part-below (words (table zero)) h j l = round-below 0 j h (omega arith)
-  part-below (words (table (suc i))) h j l = round-below (suc i) j h (omega arith)
-  part-below (words (replies zero)) h j l = absurd (omega (arith, h .0))
-  part-below (words (replies (suc i))) h j l = omega (arith, round-below (suc i) (levelOf w (suc i) .size + outsOf w + j) (h .1) (omega arith))
-  part-below (words final) h j l = omega (arith, starts-after (suc (roundsOf w)))
-  part-below (outs i) h j l = omega (arith, round-below (suc i) (levelOf w (suc i) .size + j) h (omega arith))
-  part-below (combination i) h j l = omega (arith, round-below (suc i) (levelOf w (suc i) .size + (outsOf w + outsOf w) + j) h (omega arith))
-  part-below (fold zero) h j l = omega (arith, round-below 0 (levelOf w 0 .size + j) h (omega arith))
-  part-below (fold (suc i)) h j l = omega (arith, round-below (suc i) (levelOf w (suc i) .size + (outsOf w + (outsOf w + 1)) + j) h (omega arith))
-  part-below (shifts i) h j l = omega (arith, round-below (suc i) (levelOf w (suc i) .size + (outsOf w + (outsOf w + 2)) + j) h (omega arith))
-  part-below finals h j l = omega (arith, starts-after (suc (roundsOf w)))
+  part-below (words (table zero)) v j l = round-below 0 j v (omega arith)
+  part-below (words (table (suc i))) v j l = round-below (suc i) j v (omega arith)
+  part-below (words (replies zero)) v j l = absurd (omega (arith, v .0))
+  part-below (words (replies (suc i))) v j l = omega (arith, round-below (suc i) (levelOf h (suc i) .size + outsOf h + j) (v .1) (omega arith))
+  part-below (words final) v j l = omega (arith, starts-after (suc (roundsOf h)))
+  part-below (outs i) v j l = omega (arith, round-below (suc i) (levelOf h (suc i) .size + j) v (omega arith))
+  part-below (combination i) v j l = omega (arith, round-below (suc i) (levelOf h (suc i) .size + (outsOf h + outsOf h) + j) v (omega arith))
+  part-below (fold zero) v j l = omega (arith, round-below 0 (levelOf h 0 .size + j) v (omega arith))
+  part-below (fold (suc i)) v j l = omega (arith, round-below (suc i) (levelOf h (suc i) .size + (outsOf h + (outsOf h + 1)) + j) v (omega arith))
+  part-below (shifts i) v j l = omega (arith, round-below (suc i) (levelOf h (suc i) .size + (outsOf h + (outsOf h + 2)) + j) v (omega arith))
+  part-below finals v j l = omega (arith, starts-after (suc (roundsOf h)))
 
-  module _ (long : 7 + roundsOf w ≤ length w) where
-    pub due-is : wordsDue (sheetOf w) ≡ dueOf w
+  module _ (long : Paired h) where
+    pub due-is : wordsDue ed h ≡ dueOf ed h
     unfolding partStart partLength
-    due-is = omega (arith, words-due w long)
+    due-is = omega (arith, words-due ed h long)
 
     -- the kinds of round i, and of what follows the rounds
-    round-kind : (i y z : ℕ) → i ≤ roundsOf w → y < wordCount w i → 12 + z ≡ roundStart w i + y → getD (layout (sheetOf w)) z message ≡ getD (roundKinds w i) y message
+    round-kind : (i y z : ℕ) → i ≤ roundsOf h → y < wordCount h i → sheetLength ed + z ≡ roundStart ed h i + y → getD (layout h) z message ≡ getD (roundKinds ed h i) y message
     unfolding joined
     round-kind i y z l u e =
-        let q : z ≡ roundStart w i + y - 12 + 0 = omega arith in
-        ap (λ (m : ℕ). getD (layout (sheetOf w)) m message) q ∙ sym (getD-drop (roundStart w i + y - 12) (layout (sheetOf w)) 0 message)
-        ∙ ap (λ (t : List Kind). getD t 0 message) (after-start w long i (suc (roundsOf w - i)) y (omega arith))
-        ∙ getD-drop y (joined (roundKinds w) (lastKinds w) i (suc (roundsOf w - i))) 0 message
-        ∙ ap (λ (m : ℕ). getD (joined (roundKinds w) (lastKinds w) i (suc (roundsOf w - i))) m message) (add-zero y)
-        ∙ List·getD-append (roundKinds w i) (joined (roundKinds w) (lastKinds w) (suc i) (roundsOf w - i)) message y (omega (arith, kinds-length w i))
+        let q : z ≡ roundStart ed h i + y - sheetLength ed + 0 = omega arith in
+        ap (λ (m : ℕ). getD (layout h) m message) q ∙ sym (getD-drop (roundStart ed h i + y - sheetLength ed) (layout h) 0 message)
+        ∙ ap (λ (t : List Kind). getD t 0 message) (after-start ed h long i (suc (roundsOf h - i)) y (omega arith))
+        ∙ getD-drop y (joined (roundKinds ed h) (lastKinds ed h) i (suc (roundsOf h - i))) 0 message
+        ∙ ap (λ (m : ℕ). getD (joined (roundKinds ed h) (lastKinds ed h) i (suc (roundsOf h - i))) m message) (add-zero y)
+        ∙ List·getD-append (roundKinds ed h i) (joined (roundKinds ed h) (lastKinds ed h) (suc i) (roundsOf h - i)) message y (omega (arith, kinds-length ed h i))
 
-    last-kind : (y z : ℕ) → 12 + z ≡ roundStart w (suc (roundsOf w)) + y → getD (layout (sheetOf w)) z message ≡ getD (lastKinds w) y message
+    last-kind : (y z : ℕ) → sheetLength ed + z ≡ roundStart ed h (suc (roundsOf h)) + y → getD (layout h) z message ≡ getD (lastKinds ed h) y message
     unfolding joined
     last-kind y z e =
-        let q : z ≡ roundStart w (suc (roundsOf w)) + y - 12 + 0 = omega arith in
-        ap (λ (m : ℕ). getD (layout (sheetOf w)) m message) q ∙ sym (getD-drop (roundStart w (suc (roundsOf w)) + y - 12) (layout (sheetOf w)) 0 message)
-        ∙ ap (λ (t : List Kind). getD t 0 message) (after-start w long (suc (roundsOf w)) 0 y (omega arith))
-        ∙ getD-drop y (lastKinds w) 0 message ∙ ap (λ (m : ℕ). getD (lastKinds w) m message) (add-zero y)
+        let q : z ≡ roundStart ed h (suc (roundsOf h)) + y - sheetLength ed + 0 = omega arith in
+        ap (λ (m : ℕ). getD (layout h) m message) q ∙ sym (getD-drop (roundStart ed h (suc (roundsOf h)) + y - sheetLength ed) (layout h) 0 message)
+        ∙ ap (λ (t : List Kind). getD t 0 message) (after-start ed h long (suc (roundsOf h)) 0 y (omega arith))
+        ∙ getD-drop y (lastKinds ed h) 0 message ∙ ap (λ (m : ℕ). getD (lastKinds ed h) m message) (add-zero y)
 
     -- the coins of round i + 1 after its replies
-    later : (i y z : ℕ) → i < roundsOf w → y < laterCount (levelOf w i) → 12 + z ≡ roundStart w (suc i) + (levelOf w (suc i) .size + (outsOf w + (outsOf w + y))) →
-        getD (layout (sheetOf w)) z message ≡ getD (coin ∷ coin ∷ replicate (levelOf w i .repetitions) (index (shiftCount (levelOf w i)))) y message
+    later : (i y z : ℕ) → i < roundsOf h → y < laterCount (levelOf h i) → sheetLength ed + z ≡ roundStart ed h (suc i) + (levelOf h (suc i) .size + (outsOf h + (outsOf h + y))) →
+        getD (layout h) z message ≡ getD (coin ∷ coin ∷ replicate (levelOf h i .repetitions) (index (shiftCount (levelOf h i)))) y message
     unfolding roundKinds afterKinds wordCount
-    later i y z h u e =
-        let n = levelOf w (suc i) .size in
-        let s = outsOf w in
-        round-kind (suc i) (n + (s + (s + y))) z h (omega arith) e
-        ∙ past message n message _ (s + (s + y)) ∙ past message s (out (levelOf w (suc i))) _ (s + y) ∙ past message s message _ y
+    later i y z v u e =
+        let n = levelOf h (suc i) .size in
+        let s = outsOf h in
+        round-kind (suc i) (n + (s + (s + y))) z v (omega arith) e
+        ∙ past message n message _ (s + (s + y)) ∙ past message s (out (levelOf h (suc i))) _ (s + y) ∙ past message s message _ y
 
-    pub part-kind : (x : Part) → PartDue w x → (j : ℕ) → j < partLength w x → (z : ℕ) → 12 + z ≡ partStart w x + j → getD (layout (sheetOf w)) z message ≡ partKind w x
+    pub part-kind : (x : Part) → PartDue h x → (j : ℕ) → j < partLength h x → (z : ℕ) → sheetLength ed + z ≡ partStart ed h x + j → getD (layout h) z message ≡ partKind h x
     unfolding partStart partLength partKind startOf lengthOf roundKinds afterKinds lastKinds restLayout wordCount laterCount
-    part-kind (words (table zero)) h j l z e = round-kind 0 j z h (omega arith) e ∙ here message (levelOf w 0 .size) message _ j l
-    part-kind (words (table (suc i))) h j l z e = round-kind (suc i) j z h (omega arith) e ∙ here message (levelOf w (suc i) .size) message _ j l
-    part-kind (words (replies zero)) h j l z e = absurd (omega (arith, h .0))
-    part-kind (words (replies (suc i))) h j l z e =
-        let n = levelOf w (suc i) .size in
-        let s = outsOf w in
-        round-kind (suc i) (n + (s + j)) z (h .1) (omega arith) (omega arith) ∙ past message n message _ (s + j) ∙ past message s (out (levelOf w (suc i))) _ j ∙ here message s message _ j l
-    part-kind (words final) h j l z e = last-kind j z e ∙ here message (finalCount (levelOf w (roundsOf w))) message _ j l
-    part-kind (outs i) h j l z e =
-        let n = levelOf w (suc i) .size in
-        round-kind (suc i) (n + j) z h (omega arith) (omega arith) ∙ past message n message _ j ∙ here message (outsOf w) (out (levelOf w (suc i))) _ j l
-    part-kind (combination i) h j l z e = later i 0 z h (omega arith) (omega arith)
-    part-kind (fold zero) h j l z e =
-        round-kind 0 (levelOf w 0 .size + 0) z h (omega arith) (omega arith) ∙ past message (levelOf w 0 .size) message _ 0
-    part-kind (fold (suc i)) h j l z e = later i 1 z h (omega arith) (omega arith)
-    part-kind (shifts i) h j l z e =
-        later i (2 + j) z h (omega arith) (omega arith) ∙ ap (λ (m : ℕ). getD (coin ∷ coin ∷ replicate (levelOf w i .repetitions) (index (shiftCount (levelOf w i)))) m message) (two j)
-        ∙ getD-replicate (levelOf w i .repetitions) j (index (shiftCount (levelOf w i))) message l
-    part-kind finals h j l z e =
-        let b = levelOf w (roundsOf w) in
+    part-kind (words (table zero)) v j l z e = round-kind 0 j z v (omega arith) e ∙ here message (levelOf h 0 .size) message _ j l
+    part-kind (words (table (suc i))) v j l z e = round-kind (suc i) j z v (omega arith) e ∙ here message (levelOf h (suc i) .size) message _ j l
+    part-kind (words (replies zero)) v j l z e = absurd (omega (arith, v .0))
+    part-kind (words (replies (suc i))) v j l z e =
+        let n = levelOf h (suc i) .size in
+        let s = outsOf h in
+        round-kind (suc i) (n + (s + j)) z (v .1) (omega arith) (omega arith) ∙ past message n message _ (s + j) ∙ past message s (out (levelOf h (suc i))) _ j ∙ here message s message _ j l
+    part-kind (words final) v j l z e = last-kind j z e ∙ here message (finalCount (levelOf h (roundsOf h))) message _ j l
+    part-kind (outs i) v j l z e =
+        let n = levelOf h (suc i) .size in
+        round-kind (suc i) (n + j) z v (omega arith) (omega arith) ∙ past message n message _ j ∙ here message (outsOf h) (out (levelOf h (suc i))) _ j l
+    part-kind (combination i) v j l z e = later i 0 z v (omega arith) (omega arith)
+    part-kind (fold zero) v j l z e =
+        round-kind 0 (levelOf h 0 .size + 0) z v (omega arith) (omega arith) ∙ past message (levelOf h 0 .size) message _ 0
+    part-kind (fold (suc i)) v j l z e = later i 1 z v (omega arith) (omega arith)
+    part-kind (shifts i) v j l z e =
+        later i (2 + j) z v (omega arith) (omega arith) ∙ ap (λ (m : ℕ). getD (coin ∷ coin ∷ replicate (levelOf h i .repetitions) (index (shiftCount (levelOf h i)))) m message) (two j)
+        ∙ getD-replicate (levelOf h i .repetitions) j (index (shiftCount (levelOf h i))) message l
+    part-kind finals v j l z e =
+        let b = levelOf h (roundsOf h) in
         last-kind (finalCount b + j) z (omega arith) ∙ past message (finalCount b) message _ j ∙ getD-replicate (b .repetitions) j (index (shiftCount b)) message l

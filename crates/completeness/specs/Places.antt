@@ -8,7 +8,7 @@ use lib.ListN.{length, getD, length-map, List·getD-append}
 use lib.Seq.{getD-append-add}
 use Rattle.definition.specs.Deciding.{Place, ownPlace, placesOf}
 use Rattle.definition.specs.Domain.{rootNumbers}
-use Rattle.definition.specs.Sheet.{Level, shiftCount}
+use Rattle.definition.specs.Sheet.{Edition, Level, Sheet, shiftCount}
 use Rattle.completeness.specs.DecidingAccepts.{root-number, roots-length}
 use Rattle.completeness.specs.Dependence.{own-places}
 use Rattle.completeness.specs.Faults.{functionIn}
@@ -34,24 +34,24 @@ module _ (l : Level) (d : Place) where
 
   places-at : (js : List ℕ) (a m : ℕ) → a < length js → m < l .fold → getD (placesOf l (ownPlace l) js) (a * l .fold + m) d ≡ place (getD js a 0 + m * shiftCount l)
   unfolding placesOf flatMap
-  places-at [] a m h u = absurd (omega arith)
-  places-at (j ∷ js) zero m h u =
+  places-at [] a m g u = absurd (omega arith)
+  places-at (j ∷ js) zero m g u =
       ap (λ (n : ℕ). getD (flatMap (ownPlace l) (rootNumbers l j) ++ placesOf l (ownPlace l) js) n d) (let e : 0 * l .fold + m ≡ m = omega (arith, zero-mul (l .fold)) in e)
       ∙ List·getD-append (flatMap (ownPlace l) (rootNumbers l j)) (placesOf l (ownPlace l) js) d m (omega (arith, coin-length j)) ∙ coin-place j m u
-  places-at (j ∷ js) (suc a) m h u =
+  places-at (j ∷ js) (suc a) m g u =
       let p = flatMap (ownPlace l) (rootNumbers l j) in
       let e : suc a * l .fold + m ≡ length p + (a * l .fold + m) = omega (arith, coin-length j, suc-mul a (l .fold)) in
       ap (λ (n : ℕ). getD (p ++ placesOf l (ownPlace l) js) n d) e ∙ getD-append-add p (placesOf l (ownPlace l) js) (a * l .fold + m) d ∙ places-at js a m (omega arith) u
 
 -- the places that coins lead to at level i
-module _ (w : List ℕ) (i : ℕ) (js : List ℕ) where
-  same-places : placesOf (levelOf w i) (functionIn w i .places) js ≡ placesOf (levelOf w i) (ownPlace (levelOf w i)) js
-  same-places = ap (λ (f : ℕ → List Place). placesOf (levelOf w i) f js) (own-places w i)
+module _ (ed : Edition) (h : Sheet) (w : List ℕ) (i : ℕ) (js : List ℕ) where
+  same-places : placesOf (levelOf h i) (functionIn ed h w i .places) js ≡ placesOf (levelOf h i) (ownPlace (levelOf h i)) js
+  same-places = ap (λ (f : ℕ → List Place). placesOf (levelOf h i) f js) (own-places ed h w i)
 
-  pub coin-places-count : length (placesOf (levelOf w i) (functionIn w i .places) js) ≡ length js * levelOf w i .fold
-  coin-places-count = ap length same-places ∙ places-length (levelOf w i) js
+  pub coin-places-count : length (placesOf (levelOf h i) (functionIn ed h w i .places) js) ≡ length js * levelOf h i .fold
+  coin-places-count = ap length same-places ∙ places-length (levelOf h i) js
 
-  pub coin-places : (a m : ℕ) → a < length js → m < levelOf w i .fold →
-      getD (placesOf (levelOf w i) (functionIn w i .places) js) (a * levelOf w i .fold + m) (record { table = 0; number = 0 })
-      ≡ record { table = i; number = getD js a 0 + m * shiftCount (levelOf w i) }
-  coin-places a m h u = ap (λ (t : List Place). getD t (a * levelOf w i .fold + m) (record { table = 0; number = 0 })) same-places ∙ places-at (levelOf w i) _ js a m h u
+  pub coin-places : (a m : ℕ) → a < length js → m < levelOf h i .fold →
+      getD (placesOf (levelOf h i) (functionIn ed h w i .places) js) (a * levelOf h i .fold + m) (record { table = 0; number = 0 })
+      ≡ record { table = i; number = getD js a 0 + m * shiftCount (levelOf h i) }
+  coin-places a m g u = ap (λ (t : List Place). getD t (a * levelOf h i .fold + m) (record { table = 0; number = 0 })) same-places ∙ places-at (levelOf h i) _ js a m g u

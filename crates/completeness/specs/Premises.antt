@@ -13,12 +13,12 @@ use Rattle.definition.specs.Layout.{Kind, coin, coinKinds, index, layout, limit
 use Rattle.definition.specs.Lists.{firstTrue, range}
 use Rattle.definition.specs.Prove.{coefficientsTest, coinDomainTest, coinsTest, inputRangeTest, sheetLengthTest}
 use Rattle.definition.specs.Reading.{outOfRange, sheetTest}
-use Rattle.definition.specs.Sheet.{Level, Sheet, rootOfUnity, sheetOf, shiftCount}
+use Rattle.definition.specs.Sheet.{Edition, Level, Sheet, edition1, rootOfUnity, sheetOf, shiftCount}
 use Rattle.definition.specs.Verdict.{accepted}
 use Rattle.definition.specs.WorkedTranscript.{coefficients, coins, definitions, sheetWords}
 use Rattle.algebra.specs.ListFacts.{All, all-map}
 use Rattle.algebra.specs.PrimeField.{signs-differ}
-use Rattle.completeness.specs.Allowed.{sheet-long}
+use Rattle.completeness.specs.Allowed.{sheet-enough, sheet-long}
 use Rattle.completeness.specs.Domains.{power-nonzero}
 use Rattle.completeness.specs.EachWord.{Each, each-false, each-join, each-none}
 use Rattle.completeness.specs.LayoutFacts.{layout-all}
@@ -108,12 +108,12 @@ unfolding coefficientsTest
 full-length h f e = equal-passes 10 1 (length f) (h .degree) e
 
 -- Under every sheet without a fault, for every list of d0 elements, the coins all 0 are allowed.
-pub zeros-allowed : (w f : List ℕ) → sheetLengthTest w ≡ accepted → sheetTest w ≡ accepted → coefficientsTest (sheetOf w) f ≡ accepted → inputRangeTest (sheetOf w) [] f ≡ accepted →
-    Allowed w f (replicate (length (coinKinds (layout (sheetOf w)))) 0)
+pub zeros-allowed : (ed : Edition) (w f : List ℕ) → sheetLengthTest ed w ≡ accepted → sheetTest ed w ≡ accepted → coefficientsTest (sheetOf ed w) f ≡ accepted → inputRangeTest (sheetOf ed w) [] f ≡ accepted →
+    Allowed ed w f (replicate (length (coinKinds (layout (sheetOf ed w)))) 0)
 unfolding ks coinsTest
-zeros-allowed w f words passed coefficients elements =
-    let h = sheetOf w in
-    let r = ready w (sheet-long w words) passed in
+zeros-allowed ed w f words passed coefficients elements =
+    let h = sheetOf ed w in
+    let r = ready ed w (sheet-enough ed w (sheet-long ed w words)) passed in
     record {
       words = words;
       sheet = passed;
@@ -124,6 +124,6 @@ zeros-allowed w f words passed coefficients elements =
     }
 
 -- The transcript by hand is allowed.
-pub by-hand : Allowed sheetWords coefficients coins
+pub by-hand : Allowed edition1 sheetWords coefficients coins
 unfolding definitions
 by-hand = record { words = refl; sheet = refl; coefficients = refl; full = refl; range = refl; outside = refl }

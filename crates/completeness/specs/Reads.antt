@@ -1,25 +1,22 @@
--- The reads of an accepted transcript: k for each shift and final coin, that is k·(t_0 + .. + t_M).
-use Prim.Native.Nat.{ℕ, zero, suc, _+_, _*_, _<_}
+-- The reads of an accepted transcript: k_i for each coin of level i, that is k_0·t_0 + .. + k_M·t_M.
+use Prim.Native.Nat.{ℕ, zero, suc, _+_, _*_}
 use native.Mathlib.Nat
 use native.Mathlib.Nat.{suc-mul, zero-mul}
 use native.Mathlib.Omega.{arith}
-use mathlib.Core.List.{List, [], _∷_, flatMap, map}
+use mathlib.Core.List.{List, [], _∷_, flatMap, map, zipWith}
 use mathlib.Core.Path.{_≡_, refl, sym, ap, _∙_}
-use lib.ListN.{length, getD, take, drop, length-append, length-drop}
+use lib.ListN.{length, getD, take, drop, drop-of-length-le, length-append, length-drop}
 use lib.Seq.{drop-cons}
 use Rattle.definition.specs.Deciding.{ownPlace, placesOf}
 use Rattle.definition.specs.Domain.{rootNumbers}
 use Rattle.definition.specs.Layout.{Kind, index, laterCount, readFinals, readRounds, roundCoins}
 use Rattle.definition.specs.Lists.{range}
-use Rattle.definition.specs.Reading.{sheetTest}
-use Rattle.definition.specs.Sheet.{Level, firstLevel, laterLevels, sheetOf, shiftCount}
-use Rattle.definition.specs.Verdict.{accepted}
+use Rattle.definition.specs.Sheet.{Level, Sheet, firstLevel, laterLevels, shiftCount}
 use Rattle.completeness.specs.DecidingAccepts.{allPlaces, roots-length}
 use Rattle.completeness.specs.EachWord.{each-later, each-replicate}
 use Rattle.completeness.specs.LayoutFacts.{Dealt}
-use Rattle.completeness.specs.LevelsByNumber.{as-listed}
-use Rattle.completeness.specs.Numbered.{levelOf, readsDue, total}
-use Rattle.completeness.specs.SheetLevels.{enough-words}
+use Rattle.completeness.specs.LevelsByNumber.{Paired, as-listed}
+use Rattle.completeness.specs.Numbered.{levelOf, readsDue, roundsOf, total}
 
 -- the reads level by level
 abbrev pub levelReads : Level → List Level → ℕ
@@ -47,20 +44,17 @@ all-reads R s b (l ∷ ls) w d =
     length-append (placesOf b (ownPlace b) (drop 2 v)) _
     ∙ (λ i. (places-length b (drop 2 v) ∙ ap (λ (n : ℕ). n * b .fold) e) i + all-reads R s l ls (drop (laterCount b) (drop s w)) (d .2) i)
 
--- the same of a sheet: levels i to M, whose repetition words are those from word j on
-reads-from : (w : List ℕ) (m i j : ℕ) → j ≡ 6 + i → j + m < length w →
-    levelReads (levelOf w i) (map (levelOf w) (range (suc i) m)) ≡ getD w 3 0 * total (take (suc m) (drop j w))
-unfolding range total
-reads-from w zero i j e l = rw (drop-cons w j 0 (omega arith), e) (Nat.mul-comm (getD w (6 + i) 0) (getD w 3 0) ∙ ap (λ (x : ℕ). getD w 3 0 * x) (sym (Nat.add-zero (getD w (6 + i) 0))))
-reads-from w (suc m) i j e l =
-    let k = getD w 3 0 in
-    let t : getD w (6 + i) 0 ≡ getD w j 0 = ap (λ (x : ℕ). getD w x 0) (sym e) in
-    rw (drop-cons w j 0 (omega arith))
-    ((λ x. (ap (λ (y : ℕ). y * k) t ∙ Nat.mul-comm (getD w j 0) k) x + reads-from w m (suc i) (suc j) (omega arith) (omega arith) x)
-    ∙ sym (Nat.mul-add k (getD w j 0) (total (take (suc m) (drop (suc j) w)))))
+-- the same of a sheet: levels i to M
+reads-from : (h : Sheet) (m i : ℕ) → Paired h → suc i + m ≡ length (h .folds) →
+    levelReads (levelOf h i) (map (levelOf h) (range (suc i) m)) ≡ total (zipWith _*_ (drop i (h .folds)) (drop i (h .repetitions)))
+unfolding range total zipWith
+reads-from h zero i p e =
+    rw (drop-cons (h .folds) i 0 (omega arith), drop-cons (h .repetitions) i 0 (omega (arith, p .same)), drop-of-length-le (h .folds) {i = suc i} (omega arith))
+    (Nat.mul-comm (getD (h .repetitions) i 0) (getD (h .folds) i 0) ∙ sym (Nat.add-zero (getD (h .folds) i 0 * getD (h .repetitions) i 0)))
+reads-from h (suc m) i p e =
+    rw (drop-cons (h .folds) i 0 (omega arith), drop-cons (h .repetitions) i 0 (omega (arith, p .same)))
+    (λ x. Nat.mul-comm (getD (h .repetitions) i 0) (getD (h .folds) i 0) x + reads-from h m (suc i) p (omega arith) x)
 
-pub sheet-reads : (w : List ℕ) → length w ≡ 12 → sheetTest w ≡ accepted → levelReads (firstLevel (sheetOf w)) (laterLevels (sheetOf w)) ≡ readsDue w
-unfolding readsDue sheetOf
-sheet-reads w long passed =
-    as-listed w (λ b ls. levelReads b ls ≡ getD w 3 0 * total (take (suc (getD w 4 0)) (drop 6 w))) (enough-words w long passed)
-    (reads-from w (getD w 4 0) 0 6 refl (omega (arith, enough-words w long passed)))
+pub sheet-reads : (h : Sheet) → Paired h → levelReads (firstLevel h) (laterLevels h) ≡ readsDue h
+unfolding readsDue
+sheet-reads h p = as-listed h (λ b ls. levelReads b ls ≡ total (zipWith _*_ (h .folds) (h .repetitions))) p (reads-from h (roundsOf h) 0 p (omega (arith, p .some)))

@@ -5,13 +5,12 @@ use native.Mathlib.Nat.{pow-suc, div-le-self, mul-le-mul-right, one-mul}
 use native.Mathlib.Omega.{arith}
 use mathlib.Core.List.{List}
 use mathlib.Core.Path.{_≡_, sym, ap, _∙_, subst}
-use lib.ListN.{length, getD, take, drop, take-append-drop}
+use lib.ListN.{length, getD}
 use lib.Pow.{pow-pos}
-use lib.Seq.{length-take-le}
 use Rattle.definition.specs.Field.{power, powerMod, primeField}
 use Rattle.definition.specs.Layout.{layout, limit}
 use Rattle.definition.specs.Reading.{sheetTest}
-use Rattle.definition.specs.Sheet.{Level, Sheet, firstLevel, laterLevels, rootOfUnity, sheetOf, shiftCount}
+use Rattle.definition.specs.Sheet.{Edition, Level, Sheet, firstLevel, laterLevels, rootOfUnity, sheetLength, sheetOf, shiftCount}
 use Rattle.definition.specs.Verdict.{accepted}
 use Rattle.algebra.specs.Laws.{FieldLaws}
 use Rattle.algebra.specs.ListFacts.{All}
@@ -21,8 +20,8 @@ use Rattle.algebra.specs.RootsOfUnity.{minusOne}
 use Rattle.completeness.specs.LayoutFacts.{layout-all}
 use Rattle.completeness.specs.LevelSizes.{Chain, Sized}
 use Rattle.completeness.specs.Numbered.{levelOf, roundsOf}
-use Rattle.completeness.specs.SheetLevels.{Steps, rules-same, sheet-chain, sheet-front, sheet-steps, sized}
-use Rattle.completeness.specs.SheetRules.{exponents}
+use Rattle.completeness.specs.SheetLevels.{Steps, sheet-chain, sheet-steps, sized}
+use Rattle.completeness.specs.Lawful.{lawful}
 
 pub record Ready (h : Sheet) : Type 0 where
   pub laws : FieldLaws (primeField (h .prime))
@@ -42,10 +41,11 @@ root-at p g a n S e h =
     ∙ subst (λ (m : ℕ). power (primeField p) (g ^ ((p - 1) / m) % p) (2 ^ a) ≡ minusOne (primeField p)) (sym twice)
     (fitting-root p g (2 ^ a) (S .large) (S .fits) (subst (λ (m : ℕ). (p - 1) % m ≡ 0) twice h))
 
-pub ready : (w : List ℕ) → length w ≡ 12 → sheetTest w ≡ accepted → Ready (sheetOf w)
+-- n0 and d0 as powers of two, and the exponents of the folding numbers, are those of the rules
+pub ready : (ed : Edition) (w : List ℕ) → sheetLength ed ≤ length w → sheetTest ed w ≡ accepted → Ready (sheetOf ed w)
 unfolding sheetOf rootOfUnity
-ready w long passed =
-    let x = exponents w passed in
+ready ed w long passed =
+    let x = lawful ed w long passed in
     let S = suited (getD w 0 0) in
     record {
       laws = prime-field _ (S .prime);
@@ -54,22 +54,15 @@ ready w long passed =
       e = x .a;
       bound = subst (λ (n : ℕ). n ≤ 4096) (x .size) (x .small);
       root = root-at _ _ (x .a) (getD w 1 0) S (x .size) (x .divides);
-      chain = sheet-chain w long passed;
-      steps = sheet-steps w long passed;
+      chain = sheet-chain (sheetOf ed w) x;
+      steps = sheet-steps (sheetOf ed w) x;
     }
 
--- and so has the sheet of a stream
-pub ready-stream : (w : List ℕ) → 12 ≤ length w → sheetTest w ≡ accepted → Ready (sheetOf w)
-ready-stream w long passed =
-    let front = length-take-le 12 w long in
-    let whole = take-append-drop 12 w in
-    let rules = sym (rules-same (take 12 w) front (drop 12 w)) ∙ ap sheetTest whole ∙ passed in
-    subst Ready (sym (sheet-front (take 12 w) front rules (drop 12 w)) ∙ ap sheetOf whole) (ready (take 12 w) front rules)
-
 -- its levels by number
-pub ready-sized : (w : List ℕ) (long : length w ≡ 12) (passed : sheetTest w ≡ accepted) (i : ℕ) → i ≤ roundsOf w → Sized (suc (ready w long passed .e)) (levelOf w i)
+pub ready-sized : (ed : Edition) (w : List ℕ) (long : sheetLength ed ≤ length w) (passed : sheetTest ed w ≡ accepted) (i : ℕ) → i ≤ roundsOf (sheetOf ed w) →
+    Sized (suc (ready ed w long passed .e)) (levelOf (sheetOf ed w) i)
 unfolding ready
-ready-sized = sized
+ready-sized ed w long passed = sized (sheetOf ed w) (lawful ed w long passed)
 
 -- every limit of the layout is a word's
 shift-count : (a : ℕ) (b : Level) → Sized a b → shiftCount b ≤ 2 ^ a

@@ -1,8 +1,9 @@
 -- THE PAGE OF STATEMENTS (demand 3 over the definition). It holds theorems and nothing else; each proof is one citation, and no proof need be read.
 -- To read it: the definition (crate `definition`) and the vocabulary Numbered.antt, which says what round i, level i and message m are and what Allowed asks.
--- All theorems are of the three fields and of every sheet, polynomial and coin list that pass the definition's tests. Behind them stand general theorems, for any
--- field with the laws and any fitting root: DecidingAccepts.deciding-accepts (any list of levels), RoundPolynomials, Domains, and Causal (any party that sends and asks).
-use Prim.Native.Nat.{ℕ, suc, _+_, _-_, _*_, _/_, _%_, _^_, _≤_, _<_}
+-- All theorems are of both editions, of the three fields and of every sheet, polynomial and coin list that pass the definition's tests; what they are in edition 1, with
+-- its one folding number, is on the page Editions.antt. Behind them stand general theorems, for any field with the laws and any fitting root:
+-- DecidingAccepts.deciding-accepts (any list of levels), RoundPolynomials, Domains, and Causal (any party that sends and asks).
+use Prim.Native.Nat.{ℕ, suc, _+_, _-_, _*_, _%_, _^_, _≤_, _<_}
 use native.Mathlib.Omega.{arith}
 use mathlib.Core.Bool.{true}
 use mathlib.Core.List.{List, [], _∷_, _++_, map}
@@ -17,12 +18,12 @@ use Rattle.definition.specs.Layout.{coinKinds, layout, message, readTranscript,
 use Rattle.definition.specs.Lists.{member, range}
 use Rattle.definition.specs.Load.{candidates, drawOrder, loadLines, permits, verdictOn}
 use Rattle.definition.specs.Polynomial.{addPoly, evaluate, foldPoly, geometric, mulPoly, points}
-use Rattle.definition.specs.Prove.{coefficientsTest, done, inputRangeTest, prove, refusal, sheetLengthTest}
+use Rattle.definition.specs.Prove.{coefficientsTest, done, inputRangeTest, proveIn, refusal, sheetLengthTest}
 use Rattle.definition.specs.Prover.{honest, honestStream}
 use Rattle.definition.specs.Reading.{reading, sheetTest}
-use Rattle.definition.specs.Sheet.{finalCount, sheetLength, sheetOf, shiftCount}
+use Rattle.definition.specs.Sheet.{Edition, Sheet, edition1, finalCount, sheetLength, sheetOf, shiftCount}
 use Rattle.definition.specs.Verdict.{accepted}
-use Rattle.definition.specs.Verify.{verify}
+use Rattle.definition.specs.Verify.{verifyIn}
 use Rattle.definition.specs.WorkedTranscript.{coefficients, coins, sheetWords}
 use Rattle.algebra.specs.Divisors as algebra
 use Rattle.algebra.specs.PublicInverse
@@ -37,232 +38,234 @@ use Rattle.completeness.specs.FunctionsByNumber
 use Rattle.completeness.specs.LayoutByNumber
 use Rattle.completeness.specs.LoadAllowed
 use Rattle.completeness.specs.NonAnticipation
-use Rattle.completeness.specs.Numbered.{Allowed, Copy, Due, Message, Nonzero, Room, answerPoly, coinsOf, combinationCoin, correctedOf, decidingDivisors, divisors, final, finalIndices, foldCoin, functionOf, lengthOf, levelOf, outCoinsOf, outsOf, pairAt, pairsOf, quotientPoly, read, readsDue, replies, roundOf, roundPoly, roundsOf, samplesAt, sentBefore, sheetField, sheetRoot, startOf, streamOn, table, total, vanishingPoly, wordsIn}
+use Rattle.completeness.specs.Numbered.{Allowed, Copy, Due, Message, Nonzero, Room, answerPoly, coinsOf, combinationCoin, correctedOf, decidingDivisors, degreeOf, divisors, final, finalIndices, foldCoin, functionOf, lengthOf, levelOf, outCoinsOf, outsOf, pairAt, pairsOf, quotientPoly, read, readsDue, replies, roundOf, roundPoly, roundsOf, samplesAt, sentBefore, sheetField, sheetRoot, startOf, streamOn, table, total, vanishingPoly, wordsIn}
 use Rattle.completeness.specs.Premises
 use Rattle.completeness.specs.ProveAccepted
 use Rattle.completeness.specs.RunByNumber
 use Rattle.completeness.specs.StreamByNumber
 
--- 1. COMPLETENESS. For every list of 12 words without a broken rule, every list of d0 elements and every allowed coin list, verify accepts the prover's blocks, with
--- k·(t_0 + .. + t_M) reads. One claim over a whole coin list, through all its rounds.
-pub completeness : (w f coins : List ℕ) → Allowed w f coins → verify (fileOf (honestStream w f coins)) ≡ record { outcome = accepted; reads = readsDue w }
+-- 1. COMPLETENESS. For every sheet without a broken rule, every list of d0 elements and every allowed coin list, verify accepts the prover's blocks, with
+-- k_0·t_0 + .. + k_M·t_M reads. One claim over a list of folding numbers and a whole coin list, through all its rounds.
+pub completeness : (ed : Edition) (w f coins : List ℕ) → Allowed ed w f coins → verifyIn ed (fileOf (honestStream ed w f coins)) ≡ record { outcome = accepted; reads = readsDue (sheetOf ed w) }
 completeness = Completeness.completeness
 
 -- That file is a list of bytes, 512 for each block that the sheet needs.
-pub file-length : (w f coins : List ℕ) → Allowed w f coins → length (fileOf (honestStream w f coins)) ≡ 512 * blockCount (wordsDue (sheetOf w))
-file-length w f coins ok = Completeness.file-size ok
+pub file-length : (ed : Edition) (w f coins : List ℕ) → Allowed ed w f coins → length (fileOf (honestStream ed w f coins)) ≡ 512 * blockCount (wordsDue ed (sheetOf ed w))
+file-length ed w f coins ok = Completeness.file-size ok
 
-pub file-of-bytes : (w f coins : List ℕ) (j : ℕ) → j < length (fileOf (honestStream w f coins)) → getD (fileOf (honestStream w f coins)) j 0 < 256
-file-of-bytes w f coins = at-place (λ b. b < 256) (fileOf (honestStream w f coins)) 0 (FileTrip.file-of-bytes (honestStream w f coins))
+pub file-of-bytes : (ed : Edition) (w f coins : List ℕ) (j : ℕ) → j < length (fileOf (honestStream ed w f coins)) → getD (fileOf (honestStream ed w f coins)) j 0 < 256
+file-of-bytes ed w f coins = at-place (λ b. b < 256) (fileOf (honestStream ed w f coins)) 0 (FileTrip.file-of-bytes (honestStream ed w f coins))
 
 -- 2. COMPLETENESS OF PROVE. Where prove answers done with n blocks, the first n blocks of its output are a file that verify accepts.
-pub prove-accepted : (w f coins output : List ℕ) (n : ℕ) → prove w f coins output .answer ≡ done n →
-    verify (take (512 * n) (prove w f coins output .output)) ≡ record { outcome = accepted; reads = readsDue w }
+pub prove-accepted : (ed : Edition) (w f coins output : List ℕ) (n : ℕ) → proveIn ed w f coins output .answer ≡ done n →
+    verifyIn ed (take (512 * n) (proveIn ed w f coins output .output)) ≡ record { outcome = accepted; reads = readsDue (sheetOf ed w) }
 prove-accepted = ProveAccepted.prove-accepted
 
 -- It answers done exactly when sheet, coefficients, coins and output pass its tests,
-pub prove-done-exactly : (w f coins output : List ℕ) →
-    (prove w f coins output .answer ≡ done (blockCount (wordsDue (sheetOf w)))) ↔ (Allowed w f coins × Room w output)
+pub prove-done-exactly : (ed : Edition) (w f coins output : List ℕ) →
+    (proveIn ed w f coins output .answer ≡ done (blockCount (wordsDue ed (sheetOf ed w)))) ↔ (Allowed ed w f coins × Room ed (sheetOf ed w) output)
 prove-done-exactly = ProveAccepted.done-exactly
 
 -- never with another number of blocks than the sheet needs,
-pub prove-count : (w f coins output : List ℕ) (n : ℕ) → prove w f coins output .answer ≡ done n → n ≡ blockCount (wordsDue (sheetOf w))
-prove-count w f coins output n e = ProveAccepted.done-allowed w f coins output n e .2
+pub prove-count : (ed : Edition) (w f coins output : List ℕ) (n : ℕ) → proveIn ed w f coins output .answer ≡ done n → n ≡ blockCount (wordsDue ed (sheetOf ed w))
+prove-count ed w f coins output n e = ProveAccepted.done-allowed ed w f coins output n e .2
 
 -- and then the whole output is the blocks, and after them the bytes as before.
-pub prove-output : (w f coins output : List ℕ) → Allowed w f coins → Room w output →
-    prove w f coins output .output ≡ fileOf (honestStream w f coins) ++ drop (512 * blockCount (wordsDue (sheetOf w))) output
+pub prove-output : (ed : Edition) (w f coins output : List ℕ) → Allowed ed w f coins → Room ed (sheetOf ed w) output →
+    proveIn ed w f coins output .output ≡ fileOf (honestStream ed w f coins) ++ drop (512 * blockCount (wordsDue ed (sheetOf ed w))) output
 prove-output = ProveAccepted.output-done
 
 -- Refused: the output as before.
-pub prove-refused : (w f coins output : List ℕ) (number place : ℕ) → prove w f coins output .answer ≡ refusal number place → prove w f coins output .output ≡ output
+pub prove-refused : (ed : Edition) (w f coins output : List ℕ) (number place : ℕ) → proveIn ed w f coins output .answer ≡ refusal number place → proveIn ed w f coins output .output ≡ output
 prove-refused = ProveAccepted.refused-same
 
--- 3 TO 6: the run of an allowed list, in the stream as it is written and as verify reads it out of the file. A round from 1 to M is written suc i, for i below M.
-module _ (w f coins : List ℕ) (ok : Allowed w f coins) where
-  infixl 65 _⊕_
-  infixl 70 _⊗_
-  open Field (sheetField w) using (_⊕_, _⊗_)
+-- 3 TO 8 are of an edition's words w and of the sheet h that they say.
+module _ (ed : Edition) (w : List ℕ) where
+  abbrev h : Sheet
+  h = sheetOf ed w
 
-  -- 3. TABLES ARE VALUES. Entry j of table i is the value of round i's polynomial at point j of domain i,
-  pub tables-are-values : (copy : Copy) (i j : ℕ) → i ≤ roundsOf w → j < levelOf w i .size →
-      getD (streamOn copy w f coins) (startOf w (table i) + j) 0 ≡ evaluate (sheetField w) (roundPoly w f coins i) (point (sheetField w) (sheetRoot w) (levelOf w i) j)
-  tables-are-values copy i j l h = rw (StreamByNumber.copy-is ok copy) (StreamByNumber.table-entry ok _ i j l h)
+  -- 3 TO 6: the run of an allowed list, in the stream as it is written and as verify reads it out of the file. A round from 1 to M is written suc i, for i below M.
+  module _ (f coins : List ℕ) (ok : Allowed ed w f coins) where
+    infixl 65 _⊕_
+    infixl 70 _⊗_
+    open Field (sheetField h) using (_⊕_, _⊗_)
 
-  -- reply j of round i is its value at out coin j,
-  pub replies-are-values : (copy : Copy) (i j : ℕ) → 1 ≤ i → i ≤ roundsOf w → j < outsOf w →
-      getD (streamOn copy w f coins) (startOf w (replies i) + j) 0 ≡ evaluate (sheetField w) (roundPoly w f coins i) (getD (outCoinsOf w coins i) j 0)
-  replies-are-values copy i j l u h = rw (StreamByNumber.copy-is ok copy) (StreamByNumber.reply-entry ok _ i j l u h)
+    -- 3. TABLES ARE VALUES. Entry j of table i is the value of round i's polynomial at point j of domain i,
+    pub tables-are-values : (copy : Copy) (i j : ℕ) → i ≤ roundsOf h → j < levelOf h i .size →
+        getD (streamOn copy ed w f coins) (startOf ed h (table i) + j) 0 ≡ evaluate (sheetField h) (roundPoly h f coins i) (point (sheetField h) (sheetRoot h) (levelOf h i) j)
+    tables-are-values copy i j l b = rw (StreamByNumber.copy-is ok copy) (StreamByNumber.table-entry ok _ i j l b)
 
-  -- and the final message is the coefficients of the fold of f_M, d_M/k of them, lowest first.
-  pub final-is-fold : (copy : Copy) (j : ℕ) → j < lengthOf w final →
-      getD (streamOn copy w f coins) (startOf w final + j) 0 ≡ getD (roundPoly w f coins (suc (roundsOf w))) j 0
-  final-is-fold copy j h = rw (StreamByNumber.copy-is ok copy) (StreamByNumber.final-entry ok _ j h)
+    -- reply j of round i is its value at out coin j,
+    pub replies-are-values : (copy : Copy) (i j : ℕ) → 1 ≤ i → i ≤ roundsOf h → j < outsOf h →
+        getD (streamOn copy ed w f coins) (startOf ed h (replies i) + j) 0 ≡ evaluate (sheetField h) (roundPoly h f coins i) (getD (outCoinsOf h coins i) j 0)
+    replies-are-values copy i j l u b = rw (StreamByNumber.copy-is ok copy) (StreamByNumber.reply-entry ok _ i j l u b)
 
-  -- 4. DEGREES. The first polynomial has d0 coefficients, and round i's has d_i = d0 / k^i; the final message has d_M/k;
-  pub first-degree : length (roundPoly w f coins 0) ≡ getD w 2 0
-  first-degree = RunByNumber.first-degree ok
+    -- and the final message is the coefficients of the fold of f_M, d_M/k_M of them, lowest first.
+    pub final-is-fold : (copy : Copy) (j : ℕ) → j < lengthOf h final →
+        getD (streamOn copy ed w f coins) (startOf ed h final + j) 0 ≡ getD (roundPoly h f coins (suc (roundsOf h))) j 0
+    final-is-fold copy j b = rw (StreamByNumber.copy-is ok copy) (StreamByNumber.final-entry ok _ j b)
 
-  pub round-degree : (i : ℕ) → i ≤ roundsOf w → length (roundPoly w f coins i) ≡ getD w 2 0 / getD w 3 0 ^ i
-  round-degree = RunByNumber.round-length ok
+    -- 4. DEGREES. The first polynomial has d0 coefficients, and round i's has d_i, which is d0 over the product of k_0 to k_(i-1); the final message has d_M/k_M;
+    pub first-degree : length (roundPoly h f coins 0) ≡ h .degree
+    first-degree = RunByNumber.first-degree ok
 
-  pub final-degree : length (roundPoly w f coins (suc (roundsOf w))) ≡ finalCount (levelOf w (roundsOf w))
-  final-degree = RunByNumber.folded-length ok (roundsOf w) (omega arith)
+    pub round-degree : (i : ℕ) → i ≤ roundsOf h → length (roundPoly h f coins i) ≡ degreeOf h i
+    round-degree = RunByNumber.round-length ok
 
-  -- the corrected polynomial f_i has d_i again,
-  pub corrected-degree : (i : ℕ) → i ≤ roundsOf w → length (correctedOf w f coins i) ≡ getD w 2 0 / getD w 3 0 ^ i
-  corrected-degree = RunByNumber.corrected-length ok
+    pub final-degree : length (roundPoly h f coins (suc (roundsOf h))) ≡ finalCount (levelOf h (roundsOf h))
+    final-degree = RunByNumber.folded-length ok (roundsOf h) (omega arith)
 
-  -- all coefficients of both are elements,
-  pub round-elements : (i j : ℕ) → j < length (roundPoly w f coins i) → getD (roundPoly w f coins i) j 0 < sheetOf w .prime
-  round-elements = RunByNumber.round-elements ok
+    -- the corrected polynomial f_i has d_i again,
+    pub corrected-degree : (i : ℕ) → i ≤ roundsOf h → length (correctedOf h f coins i) ≡ degreeOf h i
+    corrected-degree = RunByNumber.corrected-length ok
 
-  pub corrected-elements : (i j : ℕ) → j < length (correctedOf w f coins i) → getD (correctedOf w f coins i) j 0 < sheetOf w .prime
-  corrected-elements = RunByNumber.corrected-elements ok
+    -- all coefficients of both are elements,
+    pub round-elements : (i j : ℕ) → j < length (roundPoly h f coins i) → getD (roundPoly h f coins i) j 0 < h .prime
+    round-elements = RunByNumber.round-elements ok
 
-  -- and with e = |G_i|, which is below d_i, the quotient has d_i - e.
-  pub quotient-degree : (i : ℕ) → i < roundsOf w →
-      length (quotientPoly w f coins (suc i)) ≡ getD w 2 0 / getD w 3 0 ^ suc i - length (samplesAt w f coins (suc i))
-  quotient-degree = RunByNumber.quotient-length ok
+    pub corrected-elements : (i j : ℕ) → j < length (correctedOf h f coins i) → getD (correctedOf h f coins i) j 0 < h .prime
+    corrected-elements = RunByNumber.corrected-elements ok
 
-  pub samples-fewer : (i : ℕ) → i < roundsOf w → length (samplesAt w f coins (suc i)) < getD w 2 0 / getD w 3 0 ^ suc i
-  samples-fewer = RunByNumber.fewer ok
+    -- and with e = |G_i|, which is below d_i, the quotient has d_i - e.
+    pub quotient-degree : (i : ℕ) → i < roundsOf h →
+        length (quotientPoly h f coins (suc i)) ≡ degreeOf h (suc i) - length (samplesAt h f coins (suc i))
+    quotient-degree = RunByNumber.quotient-length ok
 
-  -- e is the number of different points, also where points repeat: no two of G_i's points are equal, and each point of its list is one of them.
-  pub samples-different : (i : ℕ) → i < roundsOf w → (a b : ℕ) → a < length (samplesAt w f coins (suc i)) → b < length (samplesAt w f coins (suc i)) →
-      getD (points (samplesAt w f coins (suc i))) a 0 ≡ getD (points (samplesAt w f coins (suc i))) b 0 → a ≡ b
-  samples-different = RunByNumber.samples-different ok
+    pub samples-fewer : (i : ℕ) → i < roundsOf h → length (samplesAt h f coins (suc i)) < degreeOf h (suc i)
+    samples-fewer = RunByNumber.fewer ok
 
-  pub points-sampled : (i : ℕ) → i < roundsOf w → (j : ℕ) → j < length (pairsOf w f coins (suc i)) →
-      (a : ℕ) × (a < length (samplesAt w f coins (suc i))) × (getD (points (samplesAt w f coins (suc i))) a 0 ≡ pairAt w f coins (suc i) j .point)
-  points-sampled = RunByNumber.pairs-sampled ok
+    -- e is the number of different points, also where points repeat: no two of G_i's points are equal, and each point of its list is one of them.
+    pub samples-different : (i : ℕ) → i < roundsOf h → (a b : ℕ) → a < length (samplesAt h f coins (suc i)) → b < length (samplesAt h f coins (suc i)) →
+        getD (points (samplesAt h f coins (suc i))) a 0 ≡ getD (points (samplesAt h f coins (suc i))) b 0 → a ≡ b
+    samples-different = RunByNumber.samples-different ok
 
-  -- 5. NO REMAINDER. g_i is A_i plus V_i times the quotient, at every point and as coefficient lists;
-  pub no-remainder : (i : ℕ) → i < roundsOf w → (x : ℕ) → evaluate (sheetField w) (roundPoly w f coins (suc i)) x
-      ≡ evaluate (sheetField w) (answerPoly w f coins (suc i)) x ⊕ evaluate (sheetField w) (vanishingPoly w f coins (suc i)) x ⊗ evaluate (sheetField w) (quotientPoly w f coins (suc i)) x
-  no-remainder = RunByNumber.values-divide ok
+    pub points-sampled : (i : ℕ) → i < roundsOf h → (j : ℕ) → j < length (pairsOf h f coins (suc i)) →
+        (a : ℕ) × (a < length (samplesAt h f coins (suc i))) × (getD (points (samplesAt h f coins (suc i))) a 0 ≡ pairAt h f coins (suc i) j .point)
+    points-sampled = RunByNumber.pairs-sampled ok
 
-  pub no-remainder-coefficients : (i : ℕ) → i < roundsOf w → roundPoly w f coins (suc i)
-      ≡ addPoly (sheetField w) (answerPoly w f coins (suc i)) (mulPoly (sheetField w) (vanishingPoly w f coins (suc i)) (quotientPoly w f coins (suc i)))
-  no-remainder-coefficients = RunByNumber.coefficients-divide ok
+    -- 5. NO REMAINDER. g_i is A_i plus V_i times the quotient, at every point and as coefficient lists;
+    pub no-remainder : (i : ℕ) → i < roundsOf h → (x : ℕ) → evaluate (sheetField h) (roundPoly h f coins (suc i)) x
+        ≡ evaluate (sheetField h) (answerPoly h f coins (suc i)) x ⊕ evaluate (sheetField h) (vanishingPoly h f coins (suc i)) x ⊗ evaluate (sheetField h) (quotientPoly h f coins (suc i)) x
+    no-remainder = RunByNumber.values-divide ok
 
-  -- f_i is the quotient times 1 + cX + .. + (cX)^e, which has e + 1 terms.
-  pub corrected-is : (i : ℕ) → correctedOf w f coins (suc i)
-      ≡ mulPoly (sheetField w) (quotientPoly w f coins (suc i)) (geometric (sheetField w) (combinationCoin w coins (suc i)) (length (samplesAt w f coins (suc i))))
-  corrected-is = RunByNumber.corrected-is w f coins
+    pub no-remainder-coefficients : (i : ℕ) → i < roundsOf h → roundPoly h f coins (suc i)
+        ≡ addPoly (sheetField h) (answerPoly h f coins (suc i)) (mulPoly (sheetField h) (vanishingPoly h f coins (suc i)) (quotientPoly h f coins (suc i)))
+    no-remainder-coefficients = RunByNumber.coefficients-divide ok
 
-  -- A_i has e coefficients and passes through every pair of G_i's list, also through those that repeat a point;
-  pub answer-degree : (i : ℕ) → i < roundsOf w → length (answerPoly w f coins (suc i)) ≡ length (samplesAt w f coins (suc i))
-  answer-degree = RunByNumber.answer-length ok
+    -- f_i is the quotient times 1 + cX + .. + (cX)^e, which has e + 1 terms.
+    pub corrected-is : (i : ℕ) → correctedOf h f coins (suc i)
+        ≡ mulPoly (sheetField h) (quotientPoly h f coins (suc i)) (geometric (sheetField h) (combinationCoin h coins (suc i)) (length (samplesAt h f coins (suc i))))
+    corrected-is = RunByNumber.corrected-is h f coins
 
-  pub answer-passes : (i : ℕ) → i < roundsOf w → (j : ℕ) → j < length (pairsOf w f coins (suc i)) →
-      evaluate (sheetField w) (answerPoly w f coins (suc i)) (pairAt w f coins (suc i) j .point) ≡ pairAt w f coins (suc i) j .value
-  answer-passes = RunByNumber.passes-through ok
+    -- A_i has e coefficients and passes through every pair of G_i's list, also through those that repeat a point;
+    pub answer-degree : (i : ℕ) → i < roundsOf h → length (answerPoly h f coins (suc i)) ≡ length (samplesAt h f coins (suc i))
+    answer-degree = RunByNumber.answer-length ok
 
-  -- it is the only polynomial with e coefficients, all elements, that does.
-  pub answer-only : (i : ℕ) → i < roundsOf w → (q : List ℕ) → length q ≡ length (samplesAt w f coins (suc i)) →
-      ((j : ℕ) → j < length q → getD q j 0 < sheetOf w .prime) →
-      ((j : ℕ) → j < length (pairsOf w f coins (suc i)) → evaluate (sheetField w) q (pairAt w f coins (suc i) j .point) ≡ pairAt w f coins (suc i) j .value) →
-      q ≡ answerPoly w f coins (suc i)
-  answer-only = RunByNumber.only-answer ok
+    pub answer-passes : (i : ℕ) → i < roundsOf h → (j : ℕ) → j < length (pairsOf h f coins (suc i)) →
+        evaluate (sheetField h) (answerPoly h f coins (suc i)) (pairAt h f coins (suc i) j .point) ≡ pairAt h f coins (suc i) j .value
+    answer-passes = RunByNumber.passes-through ok
 
-  -- 6. THE VERIFIER'S FUNCTIONS ARE THE PROVER'S POLYNOMIALS. The transcript that verify reads is the honest one, with the coins as they are numbered here.
-  pub transcript-read : (copy : Copy) → readTranscript (sheetOf w) (drop sheetLength (streamOn copy w f coins))
-      ≡ honest (sheetField w) (sheetRoot w) (levelOf w 0) f (record { fold = foldCoin w coins 0; rounds = map (coinsOf w coins) (range 1 (roundsOf w)); finals = finalIndices w coins })
-  transcript-read copy = rw (StreamByNumber.copy-is ok copy) (StreamByNumber.transcript-read ok _)
+    -- it is the only polynomial with e coefficients, all elements, that does.
+    pub answer-only : (i : ℕ) → i < roundsOf h → (q : List ℕ) → length q ≡ length (samplesAt h f coins (suc i)) →
+        ((j : ℕ) → j < length q → getD q j 0 < h .prime) →
+        ((j : ℕ) → j < length (pairsOf h f coins (suc i)) → evaluate (sheetField h) q (pairAt h f coins (suc i) j .point) ≡ pairAt h f coins (suc i) j .value) →
+        q ≡ answerPoly h f coins (suc i)
+    answer-only = RunByNumber.only-answer ok
 
-  -- On domain i, f_i as the verifier works it out from the words of the stream is the corrected polynomial;
-  pub function-is-polynomial : (copy : Copy) (i j : ℕ) → i ≤ roundsOf w → j < levelOf w i .size →
-      functionOf w coins (streamOn copy w f coins) i j ≡ evaluate (sheetField w) (correctedOf w f coins i) (point (sheetField w) (sheetRoot w) (levelOf w i) j)
-  function-is-polynomial copy i j l h = rw (StreamByNumber.copy-is ok copy) (FunctionsByNumber.function-agrees ok _ i l j h)
+    -- 6. THE VERIFIER'S FUNCTIONS ARE THE PROVER'S POLYNOMIALS. The transcript that verify reads is the honest one, with the coins as they are numbered here.
+    pub transcript-read : (copy : Copy) → readTranscript h (drop (sheetLength ed) (streamOn copy ed w f coins))
+        ≡ honest (sheetField h) (sheetRoot h) (levelOf h 0) f (record { fold = foldCoin h coins 0; rounds = map (coinsOf h coins) (range 1 (roundsOf h)); finals = finalIndices h coins })
+    transcript-read copy = rw (StreamByNumber.copy-is ok copy) (StreamByNumber.transcript-read ok _)
 
-  -- the fold at a shift point, through the k roots there, is the folded polynomial's value, for every fold coin r;
-  pub fold-is-polynomial : (copy : Copy) (i r j : ℕ) → i ≤ roundsOf w → j < shiftCount (levelOf w i) →
-      foldAt (sheetField w) (sheetRoot w) (levelOf w i) (functionOf w coins (streamOn copy w f coins) i) r j
-      ≡ evaluate (sheetField w) (foldPoly (sheetField w) (getD w 3 0) r (correctedOf w f coins i)) (shiftPoint (sheetField w) (sheetRoot w) (levelOf w i) j)
-  fold-is-polynomial copy i r j l h = rw (StreamByNumber.copy-is ok copy) (FunctionsByNumber.fold-agrees ok _ i r j l h)
+    -- On domain i, f_i as the verifier works it out from the words of the stream is the corrected polynomial;
+    pub function-is-polynomial : (copy : Copy) (i j : ℕ) → i ≤ roundsOf h → j < levelOf h i .size →
+        functionOf ed h coins (streamOn copy ed w f coins) i j ≡ evaluate (sheetField h) (correctedOf h f coins i) (point (sheetField h) (sheetRoot h) (levelOf h i) j)
+    function-is-polynomial copy i j l b = rw (StreamByNumber.copy-is ok copy) (FunctionsByNumber.function-agrees ok _ i l j b)
 
-  -- and the verifier's list of pairs in a round is the prover's.
-  pub pairs-are-answers : (copy : Copy) (i : ℕ) → i < roundsOf w →
-      answers (sheetField w) (sheetRoot w) (levelOf w i) (functionOf w coins (streamOn copy w f coins) i) (foldCoin w coins i) (roundOf w coins (streamOn copy w f coins) (suc i))
-      ≡ pairsOf w f coins (suc i)
-  pairs-are-answers copy i l = rw (StreamByNumber.copy-is ok copy) (FunctionsByNumber.pairs-agree ok _ i l)
+    -- the fold at a shift point, through the k_i roots there, is the folded polynomial's value, for every fold coin r;
+    pub fold-is-polynomial : (copy : Copy) (i r j : ℕ) → i ≤ roundsOf h → j < shiftCount (levelOf h i) →
+        foldAt (sheetField h) (sheetRoot h) (levelOf h i) (functionOf ed h coins (streamOn copy ed w f coins) i) r j
+        ≡ evaluate (sheetField h) (foldPoly (sheetField h) (levelOf h i .fold) r (correctedOf h f coins i)) (shiftPoint (sheetField h) (sheetRoot h) (levelOf h i) j)
+    fold-is-polynomial copy i r j l b = rw (StreamByNumber.copy-is ok copy) (FunctionsByNumber.fold-agrees ok _ i r j l b)
 
--- 7. NON-ANTICIPATION. For any message, a table, the replies of one round or the final coefficients, and any two allowed lists that agree on all coins sent before
--- it, the two files have the same words in that message.
-pub non-anticipation : (w f c d : List ℕ) → Allowed w f c → Allowed w f d → (copy : Copy) (m : Message) → Due w m →
-    take (sentBefore w m) c ≡ take (sentBefore w m) d → wordsIn w (streamOn copy w f c) m ≡ wordsIn w (streamOn copy w f d) m
-non-anticipation = NonAnticipation.non-anticipation
+    -- and the verifier's list of pairs in a round is the prover's.
+    pub pairs-are-answers : (copy : Copy) (i : ℕ) → i < roundsOf h →
+        answers (sheetField h) (sheetRoot h) (levelOf h i) (functionOf ed h coins (streamOn copy ed w f coins) i) (foldCoin h coins i) (roundOf ed h coins (streamOn copy ed w f coins) (suc i))
+        ≡ pairsOf h f coins (suc i)
+    pairs-are-answers copy i l = rw (StreamByNumber.copy-is ok copy) (FunctionsByNumber.pairs-agree ok _ i l)
 
--- The messages are those of the layout: of a message's words each is of kind message, as many coins stand before it as it says,
-pub message-kinds : (w : List ℕ) → sheetLengthTest w ≡ accepted → sheetTest w ≡ accepted → (m : Message) → Due w m →
-    take (lengthOf w m) (drop (startOf w m - sheetLength) (layout (sheetOf w))) ≡ replicate (lengthOf w m) message
-message-kinds w words sheet = LayoutByNumber.message-kinds w (DomainsByNumber.enough w words sheet)
+  -- 7. NON-ANTICIPATION. For any message, a table, the replies of one round or the final coefficients, and any two allowed lists that agree on all coins sent before
+  -- it, the two files have the same words in that message.
+  pub non-anticipation : (f c d : List ℕ) → Allowed ed w f c → Allowed ed w f d → (copy : Copy) (m : Message) → Due h m →
+      take (sentBefore h m) c ≡ take (sentBefore h m) d → wordsIn ed h (streamOn copy ed w f c) m ≡ wordsIn ed h (streamOn copy ed w f d) m
+  non-anticipation = NonAnticipation.non-anticipation ed w
 
-pub coins-before-message : (w : List ℕ) → sheetLengthTest w ≡ accepted → sheetTest w ≡ accepted → (m : Message) → Due w m →
-    length (coinKinds (take (startOf w m - sheetLength) (layout (sheetOf w)))) ≡ sentBefore w m
-coins-before-message w words sheet = LayoutByNumber.message-coins w (DomainsByNumber.enough w words sheet)
+  module _ (words : sheetLengthTest ed w ≡ accepted) (sheet : sheetTest ed w ≡ accepted) where
+    -- The messages are those of the layout: of a message's words each is of kind message, as many coins stand before it as it says,
+    pub message-kinds : (m : Message) → Due h m → take (lengthOf h m) (drop (startOf ed h m - sheetLength ed) (layout h)) ≡ replicate (lengthOf h m) message
+    message-kinds = LayoutByNumber.message-kinds ed h (DomainsByNumber.paired ed w words sheet)
 
--- and none is missing: the words of the tables, of the replies and of the final message, and the coins, are all the words after the sheet.
-pub no-message-missing : (w : List ℕ) → sheetLengthTest w ≡ accepted → sheetTest w ≡ accepted →
-    total (map (λ i. lengthOf w (table i)) (range 0 (suc (roundsOf w)))) + total (map (λ i. lengthOf w (replies i)) (range 1 (roundsOf w))) + lengthOf w final
-    + length (coinKinds (layout (sheetOf w))) ≡ length (layout (sheetOf w))
-no-message-missing w words sheet = LayoutByNumber.messages-all w (DomainsByNumber.enough w words sheet)
+    pub coins-before-message : (m : Message) → Due h m → length (coinKinds (take (startOf ed h m - sheetLength ed) (layout h))) ≡ sentBefore h m
+    coins-before-message = LayoutByNumber.message-coins ed h (DomainsByNumber.paired ed w words sheet)
 
--- 8. DOMAINS, of every sheet without a fault, by level number i.
-module _ (w : List ℕ) (words : sheetLengthTest w ≡ accepted) (sheet : sheetTest w ≡ accepted) where
-  -- The points of a domain are pairwise different.
-  pub points-different : (i a b : ℕ) → i ≤ roundsOf w → a < levelOf w i .size → b < levelOf w i .size →
-      point (sheetField w) (sheetRoot w) (levelOf w i) a ≡ point (sheetField w) (sheetRoot w) (levelOf w i) b → a ≡ b
-  points-different = DomainsByNumber.points-different w words sheet
+    -- and none is missing: the words of the tables, of the replies and of the final message, and the coins, are all the words after the sheet.
+    pub no-message-missing : total (map (λ i. lengthOf h (table i)) (range 0 (suc (roundsOf h)))) + total (map (λ i. lengthOf h (replies i)) (range 1 (roundsOf h))) + lengthOf h final
+        + length (coinKinds (layout h)) ≡ length (layout h)
+    no-message-missing = LayoutByNumber.messages-all ed h (DomainsByNumber.paired ed w words sheet)
 
-  -- Shift point j has k roots; root m is point j + m·n_i/k, which is a point of the domain;
-  pub root-count : (i j : ℕ) → length (rootNumbers (levelOf w i) j) ≡ getD w 3 0
-  root-count i j = DecidingAccepts.roots-length (levelOf w i) j
+    -- 8. DOMAINS, of every sheet without a fault, by level number i.
+    -- The points of a domain are pairwise different.
+    pub points-different : (i a b : ℕ) → i ≤ roundsOf h → a < levelOf h i .size → b < levelOf h i .size →
+        point (sheetField h) (sheetRoot h) (levelOf h i) a ≡ point (sheetField h) (sheetRoot h) (levelOf h i) b → a ≡ b
+    points-different = DomainsByNumber.points-different ed w words sheet
 
-  pub root-number : (i j m : ℕ) → m < getD w 3 0 → getD (rootNumbers (levelOf w i) j) m 0 ≡ j + m * shiftCount (levelOf w i)
-  root-number i j m = DecidingAccepts.root-number (levelOf w i) j m
+    -- Shift point j has k_i roots; root m is point j + m·n_i/k_i, which is a point of the domain;
+    pub root-count : (i j : ℕ) → length (rootNumbers (levelOf h i) j) ≡ levelOf h i .fold
+    root-count i j = DecidingAccepts.roots-length (levelOf h i) j
 
-  pub root-in-domain : (i j m : ℕ) → i ≤ roundsOf w → j < shiftCount (levelOf w i) → m < getD w 3 0 → j + m * shiftCount (levelOf w i) < levelOf w i .size
-  root-in-domain i j m l h = DomainsByNumber.roots-of-shift w words sheet i j l h .below m
+    pub root-number : (i j m : ℕ) → m < levelOf h i .fold → getD (rootNumbers (levelOf h i) j) m 0 ≡ j + m * shiftCount (levelOf h i)
+    root-number i j m = DecidingAccepts.root-number (levelOf h i) j m
 
-  -- its k-th power is the shift point;
-  pub root-power : (i j m : ℕ) → i ≤ roundsOf w → j < shiftCount (levelOf w i) → m < getD w 3 0 →
-      power (sheetField w) (point (sheetField w) (sheetRoot w) (levelOf w i) (j + m * shiftCount (levelOf w i))) (getD w 3 0) ≡ shiftPoint (sheetField w) (sheetRoot w) (levelOf w i) j
-  root-power i j m l h = DomainsByNumber.roots-of-shift w words sheet i j l h .power-is m
+    pub root-in-domain : (i j m : ℕ) → i ≤ roundsOf h → j < shiftCount (levelOf h i) → m < levelOf h i .fold → j + m * shiftCount (levelOf h i) < levelOf h i .size
+    root-in-domain i j m l b = DomainsByNumber.roots-of-shift ed w words sheet i j l b .below m
 
-  -- the k roots are k different points.
-  pub roots-different : (i j m n : ℕ) → i ≤ roundsOf w → j < shiftCount (levelOf w i) → m < getD w 3 0 → n < getD w 3 0 →
-      point (sheetField w) (sheetRoot w) (levelOf w i) (j + m * shiftCount (levelOf w i)) ≡ point (sheetField w) (sheetRoot w) (levelOf w i) (j + n * shiftCount (levelOf w i)) → m ≡ n
-  roots-different i j m n l h = DomainsByNumber.roots-of-shift w words sheet i j l h .different m n
+    -- its k_i-th power is the shift point;
+    pub root-power : (i j m : ℕ) → i ≤ roundsOf h → j < shiftCount (levelOf h i) → m < levelOf h i .fold →
+        power (sheetField h) (point (sheetField h) (sheetRoot h) (levelOf h i) (j + m * shiftCount (levelOf h i))) (levelOf h i .fold) ≡ shiftPoint (sheetField h) (sheetRoot h) (levelOf h i) j
+    root-power i j m l b = DomainsByNumber.roots-of-shift ed w words sheet i j l b .power-is m
 
-  -- Different shift indices are different points.
-  pub shifts-different : (i a b : ℕ) → i ≤ roundsOf w → a < shiftCount (levelOf w i) → b < shiftCount (levelOf w i) →
-      shiftPoint (sheetField w) (sheetRoot w) (levelOf w i) a ≡ shiftPoint (sheetField w) (sheetRoot w) (levelOf w i) b → a ≡ b
-  shifts-different = DomainsByNumber.shifts-different w words sheet
+    -- the k_i roots are k_i different points.
+    pub roots-different : (i j m n : ℕ) → i ≤ roundsOf h → j < shiftCount (levelOf h i) → m < levelOf h i .fold → n < levelOf h i .fold →
+        point (sheetField h) (sheetRoot h) (levelOf h i) (j + m * shiftCount (levelOf h i)) ≡ point (sheetField h) (sheetRoot h) (levelOf h i) (j + n * shiftCount (levelOf h i)) → m ≡ n
+    roots-different i j m n l b = DomainsByNumber.roots-of-shift ed w words sheet i j l b .different m n
 
-  -- Shift points of round i + 1 and domain i + 1 never meet (000, Remark 5.3).
-  pub never-meet : (i m j : ℕ) → i < roundsOf w → point (sheetField w) (sheetRoot w) (levelOf w (suc i)) m ≡ shiftPoint (sheetField w) (sheetRoot w) (levelOf w i) j → ⊥
-  never-meet = DomainsByNumber.shifts-off-domain w words sheet
+    -- Different shift indices are different points.
+    pub shifts-different : (i a b : ℕ) → i ≤ roundsOf h → a < shiftCount (levelOf h i) → b < shiftCount (levelOf h i) →
+        shiftPoint (sheetField h) (sheetRoot h) (levelOf h i) a ≡ shiftPoint (sheetField h) (sheetRoot h) (levelOf h i) b → a ≡ b
+    shifts-different = DomainsByNumber.shifts-different ed w words sheet
+
+    -- Shift points of round i + 1 and domain i + 1 never meet (000, Remark 5.3).
+    pub never-meet : (i m j : ℕ) → i < roundsOf h → point (sheetField h) (sheetRoot h) (levelOf h (suc i)) m ≡ shiftPoint (sheetField h) (sheetRoot h) (levelOf h i) j → ⊥
+    never-meet = DomainsByNumber.shifts-off-domain ed w words sheet
 
 -- 9. THE PREMISES CAN BE MET. The transcript by hand is allowed,
-pub by-hand-allowed : Allowed sheetWords coefficients coins
+pub by-hand-allowed : Allowed edition1 sheetWords coefficients coins
 by-hand-allowed = Premises.by-hand
 
 -- and for every sheet without a fault and every list of d0 elements there is an allowed coin list.
-pub some-coins-allowed : (w f : List ℕ) → sheetLengthTest w ≡ accepted → sheetTest w ≡ accepted → coefficientsTest (sheetOf w) f ≡ accepted →
-    inputRangeTest (sheetOf w) [] f ≡ accepted → (coins : List ℕ) × Allowed w f coins
-some-coins-allowed w f words sheet coefficients elements = (replicate (length (coinKinds (layout (sheetOf w)))) 0, Premises.zeros-allowed w f words sheet coefficients elements)
+pub some-coins-allowed : (ed : Edition) (w f : List ℕ) → sheetLengthTest ed w ≡ accepted → sheetTest ed w ≡ accepted → coefficientsTest (sheetOf ed w) f ≡ accepted →
+    inputRangeTest (sheetOf ed w) [] f ≡ accepted → (coins : List ℕ) × Allowed ed w f coins
+some-coins-allowed ed w f words sheet coefficients elements = (replicate (length (coinKinds (layout (sheetOf ed w)))) 0, Premises.zeros-allowed ed w f words sheet coefficients elements)
 
 -- 10. NO ACCEPTED FILE IS SO LONG as 65,536 bytes (01, A transcript by hand), so what `check` reads is enough.
-pub accepted-short : (bytes : List ℕ) → verify bytes .outcome ≡ accepted → length bytes < 65536
+pub accepted-short : (ed : Edition) (bytes : List ℕ) → verifyIn ed bytes .outcome ≡ accepted → length bytes < 65536
 accepted-short = FileSize.accepted-short
 
--- 11. THE STATED LOAD (02, CR 2). Whatever the generator holds, a run draws a sheet, coefficients and coins that are allowed, and verify accepts its honest file.
-pub draws-allowed : (v : ℕ) → Allowed (drawOrder v .value .sheet) (drawOrder v .value .coefficients) (drawOrder v .value .coins)
+-- 11. THE STATED LOAD (02, CR 2). Whatever the generator holds, a run draws a sheet of edition 1, coefficients and coins that are allowed, and verify accepts its honest file.
+pub draws-allowed : (v : ℕ) → Allowed edition1 (drawOrder v .value .sheet) (drawOrder v .value .coefficients) (drawOrder v .value .coins)
 draws-allowed = LoadAllowed.draws-allowed
 
-pub draws-accepted : (v : ℕ) → verdictOn (drawOrder v .value) ≡ record { outcome = accepted; reads = readsDue (drawOrder v .value .sheet) }
+pub draws-accepted : (v : ℕ) → verdictOn (drawOrder v .value) ≡ record { outcome = accepted; reads = readsDue (sheetOf edition1 (drawOrder v .value .sheet)) }
 draws-accepted = LoadAllowed.draws-accepted
 
 -- So for every seed other than 0 there are a thousand lines, and each begins with `accepted`.
@@ -293,20 +296,29 @@ inverse-no-field = PublicInverse.inverse-nowhere
 
 -- Nothing is divided by 0. In a file that passes reading and refusal 7, whatever its tables, replies and final coefficients are, each divisor of deciding differs
 -- from 0: in every round those of the folds, of the interpolation and of the quotient.
-pub file-divisors : (bytes : List ℕ) → reading bytes ≡ accepted → outTest (sheetOf (streamOf bytes)) (streamOf bytes) ≡ accepted →
-    (i : ℕ) → i < length (decidingDivisors (streamOf bytes)) → Nonzero (streamOf bytes) (getD (decidingDivisors (streamOf bytes)) i 0)
-file-divisors bytes passes outside = at-place (Nonzero (streamOf bytes)) (decidingDivisors (streamOf bytes)) 0 (Divisors.file-divisors bytes passes outside)
+module _ (ed : Edition) (bytes : List ℕ) where
+  -- its stream, and the sheet in front of it
+  abbrev w : List ℕ
+  w = streamOf bytes
+
+  abbrev g : Sheet
+  g = sheetOf ed (streamOf bytes)
+
+  pub file-divisors : reading ed bytes ≡ accepted → outTest g (sheetLength ed) (layout g) w ≡ accepted →
+      (i : ℕ) → i < length (decidingDivisors ed w) → Nonzero g (getD (decidingDivisors ed w) i 0)
+  file-divisors passes outside = at-place (Nonzero g) (decidingDivisors ed w) 0 (Divisors.file-divisors ed bytes passes outside)
 
 -- So it is in every honest run, in the file,
-pub honest-divisors : (w f coins : List ℕ) → Allowed w f coins →
-    (i : ℕ) → i < length (decidingDivisors (streamOn read w f coins)) → Nonzero (streamOn read w f coins) (getD (decidingDivisors (streamOn read w f coins)) i 0)
-unfolding streamOn
-honest-divisors w f coins ok = at-place (Nonzero (streamOn read w f coins)) (decidingDivisors (streamOn read w f coins)) 0 (Divisors.honest-divisors ok)
+module _ (ed : Edition) (w f coins : List ℕ) (ok : Allowed ed w f coins) where
+  pub honest-divisors : (i : ℕ) → i < length (decidingDivisors ed (streamOn read ed w f coins)) →
+      Nonzero (sheetOf ed (streamOn read ed w f coins)) (getD (decidingDivisors ed (streamOn read ed w f coins)) i 0)
+  unfolding streamOn
+  honest-divisors = at-place (Nonzero (sheetOf ed (streamOn read ed w f coins))) (decidingDivisors ed (streamOn read ed w f coins)) 0 (Divisors.honest-divisors ok)
 
--- and in the prover's interpolation in each round. (Its fold and its quotient divide by no element.)
-pub prover-divisors : (w f coins : List ℕ) → Allowed w f coins → (i : ℕ) → i < roundsOf w →
-    (j : ℕ) → j < length (divisors (sheetField w) (samplesAt w f coins (suc i))) → Nonzero w (getD (divisors (sheetField w) (samplesAt w f coins (suc i))) j 0)
-prover-divisors w f coins ok i l = at-place (Nonzero w) (divisors (sheetField w) (samplesAt w f coins (suc i))) 0 (Divisors.prover-divisors ok i l)
+  -- and in the prover's interpolation in each round. (Its fold and its quotient divide by no element.)
+  pub prover-divisors : (i : ℕ) → i < roundsOf (sheetOf ed w) → (j : ℕ) → j < length (divisors (sheetField (sheetOf ed w)) (samplesAt (sheetOf ed w) f coins (suc i))) →
+      Nonzero (sheetOf ed w) (getD (divisors (sheetField (sheetOf ed w)) (samplesAt (sheetOf ed w) f coins (suc i))) j 0)
+  prover-divisors i l = at-place (Nonzero (sheetOf ed w)) (divisors (sheetField (sheetOf ed w)) (samplesAt (sheetOf ed w) f coins (suc i))) 0 (Divisors.prover-divisors ok i l)
 
 -- No verdict and no block changed: interpolation and quotient multiply by x^(p-2), as they did when the inverse of 0 was 0.
 pub reciprocal-as-before : (p x : ℕ) → 2 < p → reciprocal (primeField p) x ≡ x ^ (p - 2) % p

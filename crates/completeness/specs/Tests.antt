@@ -1,13 +1,14 @@
 -- Tests: what the passing of a test says, and what makes it pass.
-use Prim.Native.Nat.{ℕ, suc}
+use Prim.Native.Nat.{ℕ, suc, _≤_}
 use native.Mathlib.Omega.{arith}
 use mathlib.Core.Bool.{Bool, true, false, not, _&&_, true≢false}
 use mathlib.Core.List.{List, [], _∷_}
 use mathlib.Core.Option.{Option, none, some}
 use mathlib.Core.Path.{_≡_, refl, sym}
 use lib.Dec.{eqb}
+use lib.ListN.{length}
 use borrow.Author.Tests.{eqb-true, not-false}
-use Rattle.definition.specs.Lists.{firstTrue}
+use Rattle.definition.specs.Lists.{firstOf, firstTrue}
 use Rattle.definition.specs.Verdict.{Outcome, Verdict, _then_, accepted, refuseAt, refuseIf, refused, thenVerdict}
 use Rattle.algebra.specs.ListFacts.{All}
 
@@ -41,6 +42,14 @@ all-false n from [] e = tt
 all-false n from (true ∷ bs) e = let z : _≡_ {A = ℕ} 0 1 = cc in absurd (omega arith)
 all-false n from (false ∷ bs) e = (refl, all-false n (suc from) bs e)
 
+pub none-of : (n : ℕ) (ns : List ℕ) (bs : List Bool) → length bs ≤ length ns → refuseAt n (firstOf ns bs) ≡ accepted → All (λ (b : Bool). b ≡ false) bs
+unfolding firstOf refuseAt
+none-of n [] [] l e = tt
+none-of n [] (b ∷ bs) l e = absurd (omega arith)
+none-of n (m ∷ ns) [] l e = tt
+none-of n (m ∷ ns) (true ∷ bs) l e = let z : _≡_ {A = ℕ} 0 1 = cc in absurd (omega arith)
+none-of n (m ∷ ns) (false ∷ bs) l e = (refl, none-of n ns bs (omega arith) e)
+
 pub and-true : (a b : Bool) → (a && b) ≡ true → (a ≡ true) × (b ≡ true)
 and-true true b e = (refl, e)
 and-true false b e = absurd (true≢false (sym e))
@@ -54,6 +63,12 @@ pub none-true : (from : ℕ) (bs : List Bool) → All (λ (b : Bool). b ≡ fals
 unfolding firstTrue
 none-true from [] h = refl
 none-true from (b ∷ bs) h = rw (h .0) (none-true (suc from) bs (h .1))
+
+pub none-found : (ns : List ℕ) (bs : List Bool) → All (λ (b : Bool). b ≡ false) bs → firstOf ns bs ≡ none
+unfolding firstOf
+none-found [] bs h = refl
+none-found (n ∷ ns) [] h = refl
+none-found (n ∷ ns) (b ∷ bs) h = rw (h .0) (none-found ns bs (h .1))
 
 pub at-none : (n : ℕ) (o : Option ℕ) → o ≡ none → refuseAt n o ≡ accepted
 unfolding refuseAt

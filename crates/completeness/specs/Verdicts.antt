@@ -1,6 +1,6 @@
 -- THE PAGE ON THE ANSWERS: what verify accepts, what it refuses and where, which answers of verify, prove and encode exist, and what encode does. It holds theorems and nothing else; each proof is one citation.
 -- To read it: the definition (crate `definition`) and the vocabularies Numbered.antt and Faults.antt, which say by number what stands in a file and what a fault is.
--- All theorems are of every list of bytes or words, of any length and content.
+-- All theorems are of both editions and of every list of bytes or words, of any length and content; encode's are of edition 1, whose sheets it takes.
 use Prim.Native.Nat.{ℕ, suc, _+_, _*_, _≤_, _<_}
 use mathlib.Core.List.{List, _++_}
 use mathlib.Core.Logic.{_↔_}
@@ -10,16 +10,16 @@ use Rattle.definition.specs.Block.{streamOf}
 use Rattle.definition.specs.Deciding.{placesOf}
 use Rattle.definition.specs.Domain.{foldAt, point, shiftPoint}
 use Rattle.definition.specs.Polynomial.{correctedValue, distinct, evaluate}
-use Rattle.definition.specs.Prove.{done, encode, prove, refusal}
+use Rattle.definition.specs.Prove.{done, encode, proveIn, refusal}
 use Rattle.definition.specs.Prover.{tableOf}
 use Rattle.definition.specs.Reading.{reading}
-use Rattle.definition.specs.Sheet.{shiftCount}
+use Rattle.definition.specs.Sheet.{Edition, Sheet, edition1, sheetLength, sheetOf, shiftCount, testOrder}
 use Rattle.definition.specs.Verdict.{accepted, refused}
-use Rattle.definition.specs.Verify.{verify}
+use Rattle.definition.specs.Verify.{verifyIn}
 use Rattle.completeness.specs.AcceptedExactly
 use Rattle.completeness.specs.Answers
 use Rattle.completeness.specs.EncodeExactly
-use Rattle.completeness.specs.Faults.{Encodable, EncodeRefusal, ProveRefusal, VerifyRefusal, FirstFault, KeepsRule, Kept, Part, PartDue, PlainSheet, SameOutside, SameWhereUsed, blockWord, blocksIn, combination, dueOf, fold, functionIn, outs, pairIn, pairsIn, partLength, partStart, partWord, readsWith, shifts, words}
+use Rattle.completeness.specs.Faults.{Encodable, EncodeRefusal, ProveRefusal, VerifyRefusal, FirstFault, KeepsRule, Kept, Part, PartDue, PlainSheet, SameOutside, SameWhereUsed, blockWord, blocksIn, combination, dueOf, fold, functionIn, outs, pairIn, pairsIn, partLength, partStart, partWord, readsWith, sheetIn, shifts, wordTurn, words}
 use Rattle.completeness.specs.FileByNumber
 use Rattle.completeness.specs.Numbered.{levelOf, outsOf, replies, roundsOf, sheetField, sheetRoot, table}
 use Rattle.completeness.specs.PairsByNumber
@@ -27,18 +27,23 @@ use Rattle.completeness.specs.PartsByNumber
 use Rattle.completeness.specs.Places
 use Rattle.completeness.specs.PlainSheet
 use Rattle.completeness.specs.ReadsByNumber
+use Rattle.completeness.specs.RulesByWord
 use Rattle.completeness.specs.SameVerdict
 
 -- 1. ACCEPTED EXACTLY. Verify accepts a file exactly when all of Kept holds: of every block, sheet word, stream word, out coin, two pairs and final index.
-pub accepted-exactly : (file : List ℕ) → (verify file .outcome ≡ accepted) ↔ Kept file
+pub accepted-exactly : (ed : Edition) (file : List ℕ) → (verifyIn ed file .outcome ≡ accepted) ↔ Kept ed file
 accepted-exactly = AcceptedExactly.accepted-exactly
 
--- REFUSED EXACTLY. It refuses a file with number n and place q exactly when there is a fault n at q, none of number n at a smaller place and none of a smaller number.
-pub refused-exactly : (file : List ℕ) (n q : ℕ) → (verify file .outcome ≡ refused n q) ↔ FirstFault file n q
+-- REFUSED EXACTLY. It refuses a file with number n and place q exactly when there is a fault n at q, none of number n at an earlier turn and none of a smaller number.
+pub refused-exactly : (ed : Edition) (file : List ℕ) (n q : ℕ) → (verifyIn ed file .outcome ≡ refused n q) ↔ FirstFault ed file n q
 refused-exactly = AcceptedExactly.refused-exactly
 
--- 2. WHAT STANDS IN A FILE. The sheet's words keep their rules exactly when these plain facts hold of them.
-pub rules-exactly : (w : List ℕ) → ((i : ℕ) → i < 12 → KeepsRule w i) ↔ PlainSheet w
+-- 2. WHAT STANDS IN A FILE. The sheet's words are tested in the order of their turns,
+pub word-of-turn : (ed : Edition) (i : ℕ) → i < sheetLength ed → getD (testOrder ed) (wordTurn ed i) 0 ≡ i
+word-of-turn ed i l = RulesByWord.word-of-turn ed i l .0
+
+-- and keep their rules exactly when these plain facts hold of them.
+pub rules-exactly : (ed : Edition) (w : List ℕ) → ((i : ℕ) → i < sheetLength ed → KeepsRule ed w i) ↔ PlainSheet ed w
 rules-exactly = PlainSheet.rules-exactly
 
 -- The stream has 127 words of each block, in the blocks' order;
@@ -49,43 +54,43 @@ pub stream-word : (file : List ℕ) (b x : ℕ) → b < blocksIn file → x < 12
 stream-word = FileByNumber.stream-word
 
 -- every word of it after the sheet, up to the last final index, is a word of a part, and every word of a part is one of these.
-pub every-word-in-part : (w : List ℕ) (n : ℕ) → 12 ≤ n → n < dueOf w → (x : Part) × PartDue w x × ((j : ℕ) × (j < partLength w x) × (n ≡ partStart w x + j))
+pub every-word-in-part : (ed : Edition) (h : Sheet) (n : ℕ) → sheetLength ed ≤ n → n < dueOf ed h → (x : Part) × PartDue h x × ((j : ℕ) × (j < partLength h x) × (n ≡ partStart ed h x + j))
 every-word-in-part = PartsByNumber.every-word
 
-pub part-among-words : (w : List ℕ) (x : Part) → PartDue w x → (j : ℕ) → j < partLength w x → (12 ≤ partStart w x + j) × (partStart w x + j < dueOf w)
+pub part-among-words : (ed : Edition) (h : Sheet) (x : Part) → PartDue h x → (j : ℕ) → j < partLength h x → (sheetLength ed ≤ partStart ed h x + j) × (partStart ed h x + j < dueOf ed h)
 part-among-words = PartsByNumber.part-below
 
--- In a stream with all words due, f_0 is table 0;
-module _ (w : List ℕ) (full : dueOf w ≤ length w) where
-  pub first-function : (j : ℕ) → j < levelOf w 0 .size → functionIn w 0 .value j ≡ partWord w (words (table 0)) j
-  first-function = PairsByNumber.first-function w full
+-- In a stream w with all words that a sheet h makes due, f_0 is table 0;
+module _ (ed : Edition) (h : Sheet) (w : List ℕ) (full : dueOf ed h ≤ length w) where
+  pub first-function : (j : ℕ) → j < levelOf h 0 .size → functionIn ed h w 0 .value j ≡ partWord ed h w (words (table 0)) j
+  first-function = PairsByNumber.first-function ed h w full
 
   -- f_(i+1) at point j is the corrected value of entry j of table i + 1, by the different points of round i + 1's pairs and its combination coin;
-  pub next-function : (i j : ℕ) → j < levelOf w (suc i) .size → functionIn w (suc i) .value j
-      ≡ correctedValue (sheetField w) (distinct (sheetField w) (pairsIn w i)) (partWord w (combination i) 0) (point (sheetField w) (sheetRoot w) (levelOf w (suc i)) j)
-      (partWord w (words (table (suc i))) j)
-  next-function = PairsByNumber.next-function w full
+  pub next-function : (i j : ℕ) → j < levelOf h (suc i) .size → functionIn ed h w (suc i) .value j
+      ≡ correctedValue (sheetField h) (distinct (sheetField h) (pairsIn ed h w i)) (partWord ed h w (combination i) 0) (point (sheetField h) (sheetRoot h) (levelOf h (suc i)) j)
+      (partWord ed h w (words (table (suc i))) j)
+  next-function = PairsByNumber.next-function ed h w full
 
   -- and round i + 1 has s + t_i pairs: out coin j with reply j,
-  pub pair-count : (i : ℕ) → i < roundsOf w → length (pairsIn w i) ≡ outsOf w + levelOf w i .repetitions
-  pair-count = PairsByNumber.pair-count w full
+  pub pair-count : (i : ℕ) → i < roundsOf h → length (pairsIn ed h w i) ≡ outsOf h + levelOf h i .repetitions
+  pair-count = PairsByNumber.pair-count ed h w full
 
-  pub pair-of-out : (i : ℕ) → i < roundsOf w → (j : ℕ) → j < outsOf w → pairIn w i j ≡ record { point = partWord w (outs i) j; value = partWord w (words (replies (suc i))) j }
-  pair-of-out = PairsByNumber.pair-of-out w full
+  pub pair-of-out : (i : ℕ) → i < roundsOf h → (j : ℕ) → j < outsOf h → pairIn ed h w i j ≡ record { point = partWord ed h w (outs i) j; value = partWord ed h w (words (replies (suc i))) j }
+  pair-of-out = PairsByNumber.pair-of-out ed h w full
 
   -- then the shift point of shift index j with the fold of f_i there by fold coin i.
-  pub pair-of-shift : (i : ℕ) → i < roundsOf w → (j : ℕ) → j < levelOf w i .repetitions → pairIn w i (outsOf w + j) ≡ record {
-    point = shiftPoint (sheetField w) (sheetRoot w) (levelOf w i) (partWord w (shifts i) j);
-    value = foldAt (sheetField w) (sheetRoot w) (levelOf w i) (functionIn w i .value) (partWord w (fold i) 0) (partWord w (shifts i) j);
+  pub pair-of-shift : (i : ℕ) → i < roundsOf h → (j : ℕ) → j < levelOf h i .repetitions → pairIn ed h w i (outsOf h + j) ≡ record {
+    point = shiftPoint (sheetField h) (sheetRoot h) (levelOf h i) (partWord ed h w (shifts i) j);
+    value = foldAt (sheetField h) (sheetRoot h) (levelOf h i) (functionIn ed h w i .value) (partWord ed h w (fold i) 0) (partWord ed h w (shifts i) j);
   }
-  pair-of-shift = PairsByNumber.pair-of-shift w full
+  pair-of-shift = PairsByNumber.pair-of-shift ed h w full
 
 -- 3. THE ANSWERS THAT EXIST. An outcome of verify is accepted or refused, and refused with one of the numbers 1 to 9 and a place in the number's range;
-pub verify-refusals : (file : List ℕ) (n q : ℕ) → verify file .outcome ≡ refused n q → VerifyRefusal file n q
+pub verify-refusals : (ed : Edition) (file : List ℕ) (n q : ℕ) → verifyIn ed file .outcome ≡ refused n q → VerifyRefusal ed file n q
 verify-refusals = Answers.verify-refusals
 
 -- an answer of prove is done or a refusal, and a refusal with one of 10, 3, 5, 7 and 11;
-pub prove-refusals : (w f coins output : List ℕ) (n q : ℕ) → prove w f coins output .answer ≡ refusal n q → ProveRefusal w f coins n q
+pub prove-refusals : (ed : Edition) (w f coins output : List ℕ) (n q : ℕ) → proveIn ed w f coins output .answer ≡ refusal n q → ProveRefusal ed w f coins n q
 prove-refusals = Answers.prove-refusals
 
 -- an answer of encode is done or a refusal, and a refusal with one of 10, 3, 5 and 11.
@@ -102,35 +107,36 @@ encode-count w f output n e = EncodeExactly.done-encodable w f output n e .2
 
 -- and then the whole output is table 0, which has n0 words, and after it the words as before;
 pub encode-output : (w f output : List ℕ) → Encodable w f → getD w 1 0 ≤ length output →
-    encode w f output .output ≡ tableOf (sheetField w) (sheetRoot w) (levelOf w 0) f ++ drop (getD w 1 0) output
+    encode w f output .output ≡ tableOf (sheetField (sheetOf edition1 w)) (sheetRoot (sheetOf edition1 w)) (levelOf (sheetOf edition1 w) 0) f ++ drop (getD w 1 0) output
 encode-output = EncodeExactly.output-done
 
-pub table-count : (w f output : List ℕ) → length (tableOf (sheetField w) (sheetRoot w) (levelOf w 0) f) ≡ getD w 1 0
+pub table-count : (w f output : List ℕ) → length (tableOf (sheetField (sheetOf edition1 w)) (sheetRoot (sheetOf edition1 w)) (levelOf (sheetOf edition1 w) 0) f) ≡ getD w 1 0
 table-count = EncodeExactly.written-length
 
 -- word j of it is the value of the polynomial at point j of domain 0.
 pub encode-entry : (w f output : List ℕ) → Encodable w f → getD w 1 0 ≤ length output → (j : ℕ) → j < getD w 1 0 →
-    getD (encode w f output .output) j 0 ≡ evaluate (sheetField w) f (point (sheetField w) (sheetRoot w) (levelOf w 0) j)
+    getD (encode w f output .output) j 0 ≡ evaluate (sheetField (sheetOf edition1 w)) f (point (sheetField (sheetOf edition1 w)) (sheetRoot (sheetOf edition1 w)) (levelOf (sheetOf edition1 w) 0) j)
 encode-entry = EncodeExactly.entry
 
 -- Refused: the output as before.
 pub encode-refused : (w f output : List ℕ) (n q : ℕ) → encode w f output .answer ≡ refusal n q → encode w f output .output ≡ output
 encode-refused = EncodeExactly.refused-same
 
--- 5. READS ARE TABLE WORDS USED. A coin leads to k places: root m of coin a, for m below k, in the table of its own level.
-pub coin-places-count : (w : List ℕ) (i : ℕ) (js : List ℕ) → length (placesOf (levelOf w i) (functionIn w i .places) js) ≡ length js * levelOf w i .fold
+-- 5. READS ARE TABLE WORDS USED. A coin of level i leads to k_i places: root m of coin a, for m below k_i, in the table of its own level.
+pub coin-places-count : (ed : Edition) (h : Sheet) (w : List ℕ) (i : ℕ) (js : List ℕ) → length (placesOf (levelOf h i) (functionIn ed h w i .places) js) ≡ length js * levelOf h i .fold
 coin-places-count = Places.coin-places-count
 
-pub coin-places : (w : List ℕ) (i : ℕ) (js : List ℕ) (a m : ℕ) → a < length js → m < levelOf w i .fold →
-    getD (placesOf (levelOf w i) (functionIn w i .places) js) (a * levelOf w i .fold + m) (record { table = 0; number = 0 })
-    ≡ record { table = i; number = getD js a 0 + m * shiftCount (levelOf w i) }
+pub coin-places : (ed : Edition) (h : Sheet) (w : List ℕ) (i : ℕ) (js : List ℕ) (a m : ℕ) → a < length js → m < levelOf h i .fold →
+    getD (placesOf (levelOf h i) (functionIn ed h w i .places) js) (a * levelOf h i .fold + m) (record { table = 0; number = 0 })
+    ≡ record { table = i; number = getD js a 0 + m * shiftCount (levelOf h i) }
 coin-places = Places.coin-places
 
--- The reads go with the outcome: k for each coin treated, and none for 1 to 7.
-pub verify-reads : (file : List ℕ) → verify file .reads ≡ readsWith (streamOf file) (verify file .outcome)
+-- The reads go with the outcome: k_i for each coin of level i treated, and none for 1 to 7.
+pub verify-reads : (ed : Edition) (file : List ℕ) → verifyIn ed file .reads ≡ readsWith (sheetIn ed file) (verifyIn ed file .outcome)
 verify-reads = ReadsByNumber.verify-reads
 
 -- DEPENDENCE. Two files that pass reading, with the same words outside the tables and the same table words at every place that deciding uses in the first, get the
 -- same verdict, outcome and reads.
-pub dependence : (x y : List ℕ) → reading x ≡ accepted → reading y ≡ accepted → SameOutside (streamOf x) (streamOf y) → SameWhereUsed (streamOf x) (streamOf y) → verify x ≡ verify y
+pub dependence : (ed : Edition) (x y : List ℕ) → reading ed x ≡ accepted → reading ed y ≡ accepted → SameOutside ed (sheetIn ed x) (streamOf x) (streamOf y) →
+    SameWhereUsed ed (sheetIn ed x) (streamOf x) (streamOf y) → verifyIn ed x ≡ verifyIn ed y
 dependence = SameVerdict.dependence

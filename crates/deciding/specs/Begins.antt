@@ -1,12 +1,13 @@
 -- Words that begin with given kinds, in range, whatever follows them.
-use Prim.Native.Nat.{ℕ, zero, suc, _≤_, _<_}
+use Prim.Native.Nat.{ℕ, zero, suc, _+_, _≤_, _<_}
 use native.Mathlib.Omega.{arith}
-use mathlib.Core.Path.{_≡_, refl, subst}
+use mathlib.Core.Path.{_≡_, refl, ap, subst}
 use mathlib.Core.Bool.{Bool, true, false}
 use mathlib.Core.List.{List, [], _∷_, _++_, zipWith}
 use mathlib.Core.Option.{none}
 use lib.Dec.{leb}
-use lib.ListN.{length, take, drop, replicate}
+use lib.ListN.{length, getD, take, drop, replicate}
+use lib.Seq.{drop-cons}
 use borrow.Author.Tests.{leb-false}
 use Rattle.algebra.specs.ListFacts.{All}
 use Rattle.definition.specs.Layout.{Kind, limit}
@@ -59,3 +60,20 @@ begins-tested h from (k ∷ ks) (x ∷ w) l e = go (leb (limit (h .prime) k) x) 
         (firstTrue (suc from) (zipWith (outOfRange h) ks w) ≡ none → Begins (h .prime) ks w) → (x < limit (h .prime) k) × Begins (h .prime) ks w
     go true q f r = let z : _≡_ {A = ℕ} 0 1 = cc in absurd (omega arith)
     go false q f r = (leb-false (limit (h .prime) k) x q, r f)
+
+-- a test that finds nothing among words by their kinds finds nothing among those after the first n
+pub tested-after : (t : Kind → ℕ → Bool) (ks ks′ : List Kind) (w : List ℕ) (at n : ℕ) → length ks ≡ n → at + n ≤ length w →
+    firstTrue at (zipWith t (ks ++ ks′) (drop at w)) ≡ none → firstTrue (at + n) (zipWith t ks′ (drop (at + n) w)) ≡ none
+unfolding zipWith firstTrue
+tested-after t [] ks′ w at n f l e = let q : at ≡ at + n = omega arith in subst (λ (m : ℕ). firstTrue m (zipWith t ks′ (drop m w)) ≡ none) q e
+tested-after t (k ∷ ks) ks′ w at n f l e =
+    subst (λ (m : ℕ). firstTrue m (zipWith t ks′ (drop m w)) ≡ none) next
+    (tested-after t ks ks′ w (suc at) (length ks) refl (omega arith)
+    (go (t k (getD w at 0)) (subst (λ (v : List ℕ). firstTrue at (zipWith t (k ∷ (ks ++ ks′)) v) ≡ none) (drop-cons w at 0 (omega arith)) e)))
+  where
+    next : suc at + length ks ≡ at + n
+    next = omega arith
+
+    go : (b : Bool) → firstTrue at (b ∷ zipWith t (ks ++ ks′) (drop (suc at) w)) ≡ none → firstTrue (suc at) (zipWith t (ks ++ ks′) (drop (suc at) w)) ≡ none
+    go true q = let z : _≡_ {A = ℕ} 0 1 = cc in absurd (omega arith)
+    go false q = q

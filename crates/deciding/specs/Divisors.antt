@@ -13,9 +13,9 @@ use lib.Seq.{drop-cons, drop-drop}
 use Rattle.definition.specs.Deciding.{answers}
 use Rattle.definition.specs.Domain.{inDomain, point, shiftPoint}
 use Rattle.definition.specs.Field.{Field, fieldOf, power, primeOf}
-use Rattle.definition.specs.Layout.{limit, message, out, restLayout, roundLayout}
+use Rattle.definition.specs.Layout.{limit, message, out, roundLayout}
 use Rattle.definition.specs.Polynomial.{Sample, distinct, pair, points}
-use Rattle.definition.specs.Sheet.{Level, rootOfUnity, sheetOf}
+use Rattle.definition.specs.Sheet.{Level, Sheet, rootOfUnity}
 use Rattle.algebra.specs.Different.{Apart, Differ}
 use Rattle.algebra.specs.Division.{vanishing-nonzero}
 use Rattle.algebra.specs.Evaluation.{reduce-evaluate}
@@ -25,6 +25,7 @@ use Rattle.algebra.specs.PrimeField.{laws}
 use Rattle.algebra.specs.RootsOfUnity.{odd-even-differ, power-mul}
 use Rattle.completeness.specs.Divisors as completeness
 use Rattle.completeness.specs.FairCoins.{outside-differs, reduced}
+use Rattle.completeness.specs.Numbered.{roundsOf}
 use Rattle.domain.specs.OutCoins.{firstInside, orElse}
 use Rattle.lists.specs.Correcting.{Correcting}
 use Rattle.polynomial.specs.Pairs.{points-pair}
@@ -35,9 +36,9 @@ use Rattle.rounds.specs.Round.{Clear, point-room}
 use Rattle.rounds.specs.RoundLaws.{opposite-signs}
 use Rattle.deciding.specs.declared.Stand.{Stand}
 use Rattle.deciding.specs.Begins.{begins-after, begins-front, begins-run}
-use Rattle.deciding.specs.Inside.{round-inside, whole}
+use Rattle.deciding.specs.Inside.{whole, words-there}
 use Rattle.deciding.specs.Outs.{outs-next}
-use Rattle.deciding.specs.Stand.{levelOf, levelsOf, nextFunction, nextSize, nextStand, outsAt, outsFrom, outsOf, roundOf, shiftsOf}
+use Rattle.deciding.specs.Stand.{foldOf, kindsOf, levelOf, nextFunction, nextSize, nextStand, outsAt, outsFrom, outsOf, roundOf, shiftsOf}
 use Rattle.deciding.specs.Standing.{Served, Sifted, Standing}
 
 -- ---- test 7 found nothing
@@ -63,8 +64,8 @@ none-inside field ω l w at (suc count) h e =
 
 -- ---- a round from a place
 
-module _ (w pw ac vg : List ℕ) (st : Stand) (how : Function) (ok : Standing w (length pw) (length ac) (length vg) st how) (more : st .level < getD w 4 0)
-    (s : Served w pw ac vg st how) where
+module _ (h : Sheet) (w pw ac vg : List ℕ) (st : Stand) (how : Function) (ok : Standing h w (length pw) (length ac) (length vg) st how) (more : st .level < roundsOf h)
+    (s : Served h w pw ac vg st how) where
   abbrev field : ℕ
   field = getD w 0 0
 
@@ -75,91 +76,93 @@ module _ (w pw ac vg : List ℕ) (st : Stand) (how : Function) (ok : Standing w 
   L = laws field
 
   abbrev b : Level
-  b = levelOf w st
+  b = levelOf h st
 
   abbrev l : Level
-  l = levelOf w (nextStand w st)
+  l = levelOf h (nextStand h st)
 
-  both : (firstInside field (rootOfUnity (sheetOf w)) l w (outsAt st) (getD w 5 0) ≡ none) × (outsFrom w (nextStand w st) ≡ none)
-  both = or-else-none _ _ (sym (outs-next w st (ok .place) more) ∙ s .outside)
+  both : (firstInside field (rootOfUnity h) l w (outsAt st) (h .outCoins) ≡ none) × (outsFrom h w (nextStand h st) ≡ none)
+  both = or-else-none _ _ (sym (outs-next h w st (ok .place) (s .prime) more) ∙ s .outside)
 
   -- no out coin still to come lies in its domain
-  pub outside-next : outsFrom w (nextStand w st) ≡ none
+  pub outside-next : outsFrom h w (nextStand h st) ≡ none
   outside-next = both .1
 
-  out-words : All (λ x. x < primeOf field) (outsOf w st)
+  out-words : All (λ x. x < primeOf field) (outsOf h w st)
   unfolding outsOf roundLayout limit levelOf nextStand
   out-words =
-      let p = primeOf field in
+      let p = h .prime in
       let n = nextSize st in
-      let c = getD w 5 0 in
-      subst (λ (t : List ℕ). All (λ x. x < p) (take c t)) (drop-drop n (st .at) w)
+      let c = h .outCoins in
+      subst (λ (q : ℕ). All (λ x. x < q) (outsOf h w st)) (s .prime)
+      (subst (λ (t : List ℕ). All (λ x. x < p) (take c t)) (drop-drop n (st .at) w)
       (begins-run p c (out l) (drop n (drop (st .at) w))
       (begins-front p (replicate c (out l)) _ (drop n (drop (st .at) w))
       (begins-after p n (replicate n message) _ (drop (st .at) w) (length-replicate n message)
-      (begins-front p (roundLayout c b l) (restLayout c l (levelsOf w (nextStand w st))) (drop (st .at) w) (whole w st (ok .place) more)))))
+      (begins-front p (roundLayout c b l) (kindsOf h (nextStand h st)) (drop (st .at) w) (whole h w st (ok .place) more))))))
 
-  out-elements : All (λ x. L .reduce x ≡ x) (outsOf w st)
+  out-elements : All (λ x. L .reduce x ≡ x) (outsOf h w st)
   unfolding fieldOf
-  out-elements = all-map (outsOf w st) out-words (λ x h. reduced (primeOf field) L x h)
+  out-elements = all-map (outsOf h w st) out-words (λ x below. reduced (primeOf field) L x below)
 
-  outs-outside : All (λ x. inDomain F (s .ω) l x ≡ false) (outsOf w st)
+  outs-outside : All (λ x. inDomain F (s .ω) l x ≡ false) (outsOf h w st)
   unfolding outsOf
   outs-outside =
-      subst (λ (ω : ℕ). All (λ x. inDomain F ω l x ≡ false) (take (getD w 5 0) (drop (outsAt st) w))) (sym (s .root))
-      (none-inside field (rootOfUnity (sheetOf w)) l w (outsAt st) (getD w 5 0) (omega (arith, round-inside w st (ok .place) more .there)) (both .0))
+      subst (λ (ω : ℕ). All (λ x. inDomain F ω l x ≡ false) (take (h .outCoins) (drop (outsAt st) w))) (sym (s .root))
+      (none-inside field (rootOfUnity h) l w (outsAt st) (h .outCoins) (omega (arith, words-there h w st (ok .place) more)) (both .0))
 
   -- a shift point is an even power of ω, a point of the next domain an odd one (000, Remark 5.3)
   shift-off : (m j : ℕ) → Differ F (point F (s .ω) l m) (shiftPoint F (s .ω) b j)
   unfolding point shiftPoint levelOf nextStand
   shift-off m j =
       let ω = s .ω in
+      let k = ok .place .sheet .folds (st .level) (ok .place .level) in
       let a = 1 + 2 ^ st .level * j in
-      let q = a * 2 ^ ok .exponents .c in
+      let q = a * 2 ^ k .log in
       let d = 2 ^ st .level * m in
       let two : 2 ^ (st .level + 1) ≡ 2 ^ st .level * 2 = ap (λ (n : ℕ). 2 ^ n) (add-one (st .level)) ∙ pow-suc 2 (st .level) in
       let odd : 1 + 2 ^ (st .level + 1) * m ≡ suc (d + d) = ap (λ (n : ℕ). 1 + n * m) two ∙ omega arith in
-      let even : a * getD w 3 0 ≡ q + q = ap (λ (n : ℕ). a * n) (ok .exponents .fold ∙ pow-suc 2 (ok .exponents .c)) ∙ omega arith in
-      subst (λ (x : ℕ). Differ F (power F ω (1 + 2 ^ (st .level + 1) * m)) x) (sym (power-mul F L ω a (getD w 3 0) ∙ ap (power F ω) even))
+      let even : a * foldOf h st ≡ q + q = ap (λ (n : ℕ). a * n) (k .two ∙ pow-suc 2 (k .log)) ∙ omega arith in
+      subst (λ (x : ℕ). Differ F (power F ω (1 + 2 ^ (st .level + 1) * m)) x) (sym (power-mul F L ω a (foldOf h st) ∙ ap (power F ω) even))
       (subst (λ (n : ℕ). Differ F (power F ω n) (power F ω (q + q))) (sym odd)
       (odd-even-differ F L (opposite-signs field) ω (length pw / 2) d q (s .serves .powers .half)))
 
   -- no point of the next domain is an out coin or a shift point of the round
-  coins-off : (m : ℕ) → m < l .size → All (λ a. Differ F (point F (s .ω) l m) a) (outsOf w st ++ map (shiftPoint F (s .ω) b) (shiftsOf w st))
-  coins-off m h =
-      all-append _ (outsOf w st) _ (all-map₂ (outsOf w st) out-elements outs-outside (λ x e o. outside-differs F L (s .ω) l x e o m h))
-      (all-of-map _ (shiftPoint F (s .ω) b) (shiftsOf w st) (everywhere (shiftsOf w st) (λ j. shift-off m j)))
+  coins-off : (m : ℕ) → m < l .size → All (λ a. Differ F (point F (s .ω) l m) a) (outsOf h w st ++ map (shiftPoint F (s .ω) b) (shiftsOf h w st))
+  coins-off m within =
+      all-append _ (outsOf h w st) _ (all-map₂ (outsOf h w st) out-elements outs-outside (λ x e o. outside-differs F L (s .ω) l x e o m within))
+      (all-of-map _ (shiftPoint F (s .ω) b) (shiftsOf h w st) (everywhere (shiftsOf h w st) (λ j. shift-off m j)))
 
-  module _ (px py : List ℕ) (j : ℕ) (long : length py ≡ length px) (a : Sifted w pw ac vg st how (some (pair (drop j px) (drop j py)))) where
-    kept-is : pair (drop j px) (drop j py) ≡ distinct F (answers F (s .ω) b (s .f) (st .fold) (roundOf w st))
+  module _ (r : ℕ) (px py : List ℕ) (j : ℕ) (long : length py ≡ length px) (a : Sifted h w pw ac vg st r how (some (pair (drop j px) (drop j py)))) where
+    kept-is : pair (drop j px) (drop j py) ≡ distinct F (answers F (s .ω) b (s .f) r (roundOf h w st))
     unfolding roundOf
-    kept-is = sifted-some field (answers F (s .ω) b (s .f) (st .fold) (roundOf w st)) (pair (drop j px) (drop j py)) (a (s .ω) b (s .f) (roundOf w st) refl refl refl (s .serves)) .1
+    kept-is = sifted-some field (answers F (s .ω) b (s .f) r (roundOf h w st)) (pair (drop j px) (drop j py)) (a (s .ω) b (s .f) (roundOf h w st) refl refl refl (s .serves)) .1
 
-    points-are : points (distinct F (answers F (s .ω) b (s .f) (st .fold) (roundOf w st))) ≡ drop j px
+    points-are : points (distinct F (answers F (s .ω) b (s .f) r (roundOf h w st))) ≡ drop j px
     points-are = ap (λ (g : List (Sample ℕ)). points g) (sym kept-is) ∙ points-pair (drop j px) (drop j py) (omega (arith, length-drop j px, length-drop j py))
 
     -- interpolation: the points of the samples are different
     pub samples-apart : Apart F (drop j px)
     unfolding roundOf
-    samples-apart = subst (Apart F) points-are (completeness.samples-apart F L (s .ω) b (s .f) (st .fold) (roundOf w st) out-elements)
+    samples-apart = subst (Apart F) points-are (completeness.samples-apart F L (s .ω) b (s .f) r (roundOf h w st) out-elements)
 
     -- quotient: no point of the next domain is one of them
     points-off : (m : ℕ) → m < l .size → All (λ a. Differ F (point F (s .ω) l m) a) (points (pair (drop j px) (drop j py)))
     unfolding roundOf
-    points-off m h =
-        let off = completeness.samples-off F L (s .ω) b (s .f) (st .fold) (roundOf w st) (point F (s .ω) l m) (coins-off m h) in
+    points-off m within =
+        let off = completeness.samples-off F L (s .ω) b (s .f) r (roundOf h w st) (point F (s .ω) l m) (coins-off m within) in
         subst (λ (g : List (Sample ℕ)). All (λ a. Differ F (point F (s .ω) l m) a) (points g)) (sym kept-is) off
 
-    pub clear-next : (c words : ℕ) (pa pv : List ℕ) → Standing w (length pw) (length pa) (length pv) (nextStand w st) (nextFunction w st (how .scale) words) →
-        Correcting field (pair (drop j px) (drop j py)) c words pa pv → Clear field pw (nextStand w st .size) pv (nextFunction w st (how .scale) words)
+    pub clear-next : (c words : ℕ) (pa pv : List ℕ) → Standing h w (length pw) (length pa) (length pv) (nextStand h st) (nextFunction h st (how .scale) words) →
+        Correcting field (pair (drop j px) (drop j py)) c words pa pv → Clear field pw (nextStand h st .size) pv (nextFunction h st (how .scale) words)
     unfolding pointIn levelOf nextFunction
     clear-next c words pa pv next given = record {
       ω = s .ω;
       powers = s .serves .powers;
-      nonzero = λ m h some z.
+      nonzero = λ m within some z.
           let x = getD pw (2 * how .scale * m) 0 in
-          let at : x ≡ point F (s .ω) l m = point-in (s .serves .powers) l (next .scale) m (point-room (next .fits) m h) in
+          let at : x ≡ point F (s .ω) l m = point-in (s .serves .powers) l (next .scale) m (point-room (next .fits) m within) in
           vanishing-nonzero F L (points (pair (drop j px) (drop j py))) x
-          (subst (λ (y : ℕ). All (λ a. Differ F y a) (points (pair (drop j px) (drop j py)))) (sym at) (points-off m h))
+          (subst (λ (y : ℕ). All (λ a. Differ F y a) (points (pair (drop j px) (drop j py)))) (sym at) (points-off m within))
           (sym (given .vanish x) ∙ sym (reduce-evaluate F L _ x) ∙ z);
     }

@@ -1,160 +1,200 @@
--- Before round 1: what the tests of reading say of the first place, and that the verdict from there on is the definition's.
-use Prim.Native.Nat.{ℕ, suc, _+_, _-_, _*_, _^_, _≤_}
-use native.Mathlib.Nat.{sub-zero}
+-- Before round 1: what the sheet and the tests of the words after fold coin 0 say of the first place, and that the verdict from there on is the definition's.
+use Prim.Native.Nat.{ℕ, suc, _+_, _≤_}
 use native.Mathlib.Omega.{arith}
 use mathlib.Core.Path.{_≡_, refl, sym, ap, _∙_, subst}
-use mathlib.Core.List.{List, [], _∷_, zipWith}
+use mathlib.Core.List.{List, [], _∷_, zipWith, tail}
 use mathlib.Core.Option.{none}
 use lib.ListN.{length, getD, take, drop, replicate, length-append, length-drop, length-replicate}
-use lib.Seq.{drop-cons, drop-drop, getD-drop}
-use Rattle.completeness.specs.SheetRules.{exponents}
-use Rattle.completeness.specs.Tests.{at-passes}
+use lib.Seq.{drop-drop, getD-drop, getD-take}
+use Rattle.completeness.specs.Lawful.{lawful, rounds-word, times-word}
+use Rattle.completeness.specs.LevelsByNumber.{undivided}
+use Rattle.completeness.specs.Numbered.{roundsOf}
+use Rattle.completeness.specs.SheetRules.{fold-words, folding-large, folding-log, folding-small, long-enough, rounds-most}
+use Rattle.completeness.specs.Tests.{at-none, at-passes}
 use Rattle.definition.specs.Deciding.{decide, decideRest, readsOf, tableFunction}
-use Rattle.definition.specs.Field.{fieldOf, primeField, primeOf}
-use Rattle.definition.specs.Layout.{coin, layout, message, readRest, readTranscript, restLayout, wordsDue}
+use Rattle.definition.specs.Field.{Field, fieldOf, primeField, primeOf}
+use Rattle.definition.specs.Layout.{Kind, coin, layout, message, readRest, readTranscript, restLayout, wordsDue}
 use Rattle.definition.specs.Lists.{firstTrue}
 use Rattle.definition.specs.Reading.{outOfRange, rangeTest, sheetTest}
-use Rattle.definition.specs.Sheet.{Level, firstLevel, laterLevels, rootOfUnity, sheetOf, shiftCount}
+use Rattle.definition.specs.Sheet.{Edition, Level, Sheet, firstLevel, foldWords, laterLevels, rootOfUnity, sheetLength, sheetOf, shiftCount}
 use Rattle.definition.specs.Verdict.{Verdict, accepted}
 use Rattle.domain.specs.Powers.{Powers}
 use Rattle.rounds.specs.NextRound.{serves-first}
 use Rattle.rounds.specs.Round.{Fits}
 use Rattle.rounds.specs.RoundLaws.{Serves}
-use Rattle.sheet.specs.Bounds.{ranges}
-use Rattle.deciding.specs.Begins.{Begins, begins-after, begins-tail, begins-tested}
+use Rattle.deciding.specs.declared.Stand.{Stand}
+use Rattle.deciding.specs.Begins.{Begins, begins-tested, tested-after}
 use Rattle.deciding.specs.Inside.{divided}
-use Rattle.deciding.specs.Stand.{firstFunction, firstStand, levelOf, levelsOf, outsFrom, restOf, tableOf}
-use Rattle.deciding.specs.Standing.{Decided, Placed, Served, Shaped, Standing}
+use Rattle.deciding.specs.Stand.{afterFold, firstFunction, firstStand, foldOf, kindsAfterFold, kindsOf, levelOf, levelsOf, outsFrom, restOf, tableOf}
+use Rattle.deciding.specs.Standing.{Decided, Folding, Placed, Served, Shaped, Standing, Written}
 
-module _ (w : List ℕ) (passed : sheetTest w ≡ accepted) (due : wordsDue (sheetOf w) ≤ length w) where
-  pub shaped : Shaped w
-  unfolding wordsDue
-  shaped =
-      let r = ranges w passed in
-      record {
-        long = omega arith;
-        size = r .size;
-        fold = r .fold;
-        folds = r .folds;
-        rounds = r .rounds;
-        out = r .someOuts;
-        outs = r .outCoins;
-        repetitions = r .repetitions;
-      }
+-- ---- the sheet of given words
 
-  -- the sheet's levels are those of the first place
-  pub first-level : firstLevel (sheetOf w) ≡ levelOf w (firstStand w)
-  unfolding sheetOf firstLevel levelOf firstStand
-  first-level = rw (drop-cons w 6 0 (omega (arith, shaped .long)))
+module _ (ed : Edition) (w : List ℕ) (long : sheetLength ed ≤ length w) (passed : sheetTest ed w ≡ accepted) where
+  -- k_i is folding word i
+  fold-word : (i : ℕ) → i ≤ roundsOf (sheetOf ed w) → getD (foldWords ed w) i 0 ≡ getD (sheetOf ed w .folds) i 0
+  unfolding sheetOf
+  fold-word i l = sym (getD-take (suc (getD w 4 0)) (foldWords ed w) i 0 (omega (arith, rounds-word ed w long passed)))
 
-  pub later-levels : laterLevels (sheetOf w) ≡ levelsOf w (firstStand w)
-  unfolding sheetOf laterLevels levelsOf firstStand
-  later-levels = let e : getD w 4 0 - 0 ≡ getD w 4 0 = omega arith in rw (e, drop-cons w 6 0 (omega (arith, shaped .long)))
+  folding : (i : ℕ) → i ≤ roundsOf (sheetOf ed w) → Folding (getD (sheetOf ed w .folds) i 0)
+  folding i l =
+      let rule = fold-words ed w passed i (omega (arith, rounds-word ed w long passed)) in
+      let c = folding-log w _ rule in
+      subst Folding (fold-word i l) (record { log = c .0; two = c .1; large = folding-large w _ rule; small = folding-small w _ rule .0 })
 
-  first-words : drop 1 (drop (getD w 1 0) (drop 12 w)) ≡ drop (12 + getD w 1 0 + 1) w
-  first-words = ap (drop 1) (drop-drop (getD w 1 0) 12 w) ∙ drop-drop 1 (12 + getD w 1 0) w
-
-  first-fold : getD (drop (getD w 1 0) (drop 12 w)) 0 0 ≡ getD w (12 + getD w 1 0) 0
-  first-fold =
-      let e : 12 + getD w 1 0 + 0 ≡ 12 + getD w 1 0 = omega arith in
-      ap (λ (l : List ℕ). getD l 0 0) (drop-drop (getD w 1 0) 12 w) ∙ getD-drop (12 + getD w 1 0) w 0 0 ∙ ap (λ (m : ℕ). getD w m 0) e
-
-  -- the layout's words are there and in range
-  module _ (ranged : rangeTest (sheetOf w) w ≡ accepted) where
-    first-begins : Begins (primeOf (getD w 0 0)) (restLayout (getD w 5 0) (levelOf w (firstStand w)) (levelsOf w (firstStand w))) (drop (12 + getD w 1 0 + 1) w)
-    unfolding rangeTest wordsDue layout sheetOf
-    first-begins =
-        let h = sheetOf w in
-        let p = primeOf (getD w 0 0) in
-        let n = getD w 1 0 in
-        let rest = restLayout (getD w 5 0) (firstLevel h) (laterLevels h) in
-        let e = at-passes 5 (firstTrue 12 (zipWith (outOfRange h) (layout h) (drop 12 w))) ranged in
-        let b = begins-tested h 12 (layout h) (drop 12 w) (omega (arith, length-drop 12 w)) e in
-        let r = begins-tail p coin rest (drop n (drop 12 w)) (begins-after p n (replicate n message) (coin ∷ rest) (drop 12 w) (length-replicate n message) b) in
-        subst (λ (l : List ℕ). Begins p (restLayout (getD w 5 0) (levelOf w (firstStand w)) (levelsOf w (firstStand w))) l) first-words
-        (subst (λ (ls : List Level). Begins p (restLayout (getD w 5 0) (levelOf w (firstStand w)) ls) (drop 1 (drop n (drop 12 w)))) later-levels
-        (subst (λ (b : Level). Begins p (restLayout (getD w 5 0) b (laterLevels h)) (drop 1 (drop n (drop 12 w)))) first-level r))
-
-    pub first-room : 12 + getD w 1 0 + 1 ≤ length w
-    unfolding wordsDue layout sheetOf
-    first-room =
-        let h = sheetOf w in
-        omega (arith, length-append (replicate (getD w 1 0) message) (coin ∷ restLayout (getD w 5 0) (firstLevel h) (laterLevels h)), length-replicate (getD w 1 0) message)
-
-    -- n0 as level 0 has it
-    first-size : getD w 1 0 ≡ 2 ^ (suc (exponents w passed .a) - 0)
-    first-size = exponents w passed .size ∙ ap (λ (m : ℕ). 2 ^ m) (sym (sub-zero (suc (exponents w passed .a))))
-
-    first-fits : Fits (getD w 1 0) (getD w 1 0) (firstFunction w) (getD w 3 0)
-    unfolding firstFunction
-    first-fits =
-        let s = shaped in
-        let x = exponents w passed in
-        record {
-          log = x .c;
-          two = x .fold;
-          few = s .folds;
-          spaced = omega arith;
-          roots = divided w x 0 (getD w 1 0) first-size (omega arith);
-          room = omega arith;
-          small = s .size;
-          columns = 0;
-          whole = omega arith;
-          used = omega arith;
-        }
-
-    pub placed-first : Placed w (firstStand w)
-    unfolding firstStand
-    placed-first = record {
-      sheet = shaped;
-      level = omega arith;
-      table = omega (arith, first-room);
-      here = first-room;
-      words = first-begins;
-      reads = omega arith;
-    }
-
-    pub standing-first : (points answers factors : ℕ) → points ≡ getD w 1 0 → answers ≡ 66 → factors ≡ 132 → Standing w points answers factors (firstStand w) (firstFunction w)
-    unfolding firstStand firstFunction
-    standing-first points answers factors e h g = record {
-      place = placed-first;
-      exponents = exponents w passed;
-      size = first-size;
-      fits = subst (λ (n : ℕ). Fits n (getD w 1 0) (firstFunction w) (getD w 3 0)) (sym e) first-fits;
-      in-answers = h;
-      in-factors = g;
-      scale = refl;
-      step = refl;
-    }
-
-  first-serves : (pw ac vg : List ℕ) → Powers (getD w 0 0) (rootOfUnity (sheetOf w)) pw →
-      Serves (getD w 0 0) (rootOfUnity (sheetOf w)) (levelOf w (firstStand w))
-      (tableFunction (fieldOf (getD w 0 0)) (rootOfUnity (sheetOf w)) (levelOf w (firstStand w)) (tableOf w (firstStand w)) .value) pw (tableOf w (firstStand w)) ac vg (firstFunction w) (getD w 3 0)
-  unfolding firstFunction firstStand levelOf shiftCount
-  first-serves pw ac vg p =
-      serves-first (getD w 0 0) (rootOfUnity (sheetOf w)) (levelOf w (firstStand w)) pw (tableOf w (firstStand w)) ac vg (firstFunction w) (getD w 3 0) p refl refl refl refl
-
-  pub served-first : (pw ac vg : List ℕ) → Powers (getD w 0 0) (rootOfUnity (sheetOf w)) pw → outsFrom w (firstStand w) ≡ none →
-      Served w pw ac vg (firstStand w) (firstFunction w)
-  unfolding firstFunction
-  served-first pw ac vg p outside = record {
-    ω = _;
-    f = _;
-    serves = first-serves pw ac vg p;
-    root = refl;
-    clear = record { ω = _; powers = p; nonzero = λ m l some. absurd (omega arith) };
-    outside = outside;
+  pub shaped : Shaped (sheetOf ed w)
+  shaped = record {
+    law = lawful ed w long passed;
+    rounds = omega (arith, rounds-word ed w long passed, rounds-most ed w passed);
+    folds = folding;
   }
 
-  -- the definition's deciding is that from the first place on
-  pub first-step : (pw ac vg : List ℕ) {v : Verdict} → Powers (getD w 0 0) (rootOfUnity (sheetOf w)) pw →
-      Decided w pw ac vg (firstStand w) (firstFunction w) v →
-      v ≡ decide (primeField (sheetOf w .prime)) (rootOfUnity (sheetOf w)) (firstLevel (sheetOf w)) (readTranscript (sheetOf w) (drop 12 w))
-  unfolding decide readTranscript sheetOf fieldOf tableFunction restOf firstStand tableOf readsOf
-  first-step pw ac vg p d =
-      let ω = rootOfUnity (sheetOf w) in
-      let F = fieldOf (getD w 0 0) in
-      let n = getD w 1 0 in
-      d ω _ [] (first-serves pw ac vg p) refl
-      ∙ (λ i. decideRest F ω (sym first-level i) (tableFunction F ω (sym first-level i) (take n (drop 12 w))) (sym first-fold i) []
-      (readRest (getD w 5 0) (sym first-level i) (sym later-levels i) (sym first-words i)))
+  pub written : Written ed (sheetOf ed w) w
+  unfolding sheetOf
+  written = record {
+    long = long-enough ed w long;
+    sheet = long;
+    prime = refl;
+    size = refl;
+    degree = refl;
+    rounds = sym (rounds-word ed w long passed);
+    outs = refl;
+    times = λ i l. sym (times-word ed w long passed i (omega (arith, rounds-word ed w long passed)));
+    folds = fold-word;
+  }
+
+-- the words due hold the sheet
+pub sheet-there : (ed : Edition) (h : Sheet) (w : List ℕ) → wordsDue ed h ≤ length w → sheetLength ed ≤ length w
+unfolding wordsDue
+sheet-there ed h w due = omega arith
+
+-- ---- the first place
+
+tail-drop : (l : List ℕ) → tail l ≡ drop 1 l
+tail-drop [] = refl
+tail-drop (x ∷ l) = refl
+
+-- the words after the sheet begin at a number
+module _ (from : ℕ) (h : Sheet) where
+  -- the sheet's levels are those of the first place
+  pub first-level : firstLevel h ≡ levelOf h (firstStand from h)
+  unfolding firstLevel levelOf firstStand
+  first-level = refl
+
+  pub later-levels : laterLevels h ≡ levelsOf h (firstStand from h)
+  unfolding laterLevels levelsOf firstStand
+  later-levels = rw (tail-drop (h .folds), tail-drop (h .repetitions))
+
+  pub first-kinds : kindsAfterFold h ≡ kindsOf h (firstStand from h)
+  first-kinds = λ i. restLayout (h .outCoins) (first-level i) (later-levels i)
+
+  module _ (w : List ℕ) where
+    first-words : drop 1 (drop (h .size) (drop from w)) ≡ drop (afterFold from h) w
+    first-words = ap (drop 1) (drop-drop (h .size) from w) ∙ drop-drop 1 (from + h .size) w
+
+    first-fold : getD (drop (h .size) (drop from w)) 0 0 ≡ getD w (from + h .size) 0
+    first-fold =
+        let e : from + h .size + 0 ≡ from + h .size = omega arith in
+        ap (λ (l : List ℕ). getD l 0 0) (drop-drop (h .size) from w) ∙ getD-drop (from + h .size) w 0 0 ∙ ap (λ (m : ℕ). getD w m 0) e
+
+    -- all words due are there
+    module _ (due : from + length (layout h) ≤ length w) where
+      pub kinds-there : afterFold from h + length (kindsAfterFold h) ≤ length w
+      unfolding layout
+      kinds-there = omega (arith, length-append (replicate (h .size) message) (coin ∷ kindsAfterFold h), length-replicate (h .size) message)
+
+      pub first-room : afterFold from h ≤ length w
+      first-room = omega (arith, kinds-there)
+
+      -- of the words in range, those after fold coin 0 are
+      pub range-after : rangeTest h from (layout h) w ≡ accepted → rangeTest h (afterFold from h) (kindsAfterFold h) w ≡ accepted
+      unfolding rangeTest layout
+      range-after e =
+          let test = outOfRange h in
+          at-none 5 _
+          (tested-after test (coin ∷ []) (kindsAfterFold h) w (from + h .size) 1 refl (omega (arith, first-room))
+          (tested-after test (replicate (h .size) message) (coin ∷ kindsAfterFold h) w from (h .size) (length-replicate (h .size) message) (omega (arith, first-room))
+          (at-passes 5 (firstTrue from (zipWith test (layout h) (drop from w))) e)))
+
+      module _ (x : Shaped h) (ranged : rangeTest h (afterFold from h) (kindsAfterFold h) w ≡ accepted) where
+        first-begins : Begins (h .prime) (kindsOf h (firstStand from h)) (drop (afterFold from h) w)
+        unfolding rangeTest
+        first-begins =
+            subst (λ (ks : List Kind). Begins (h .prime) ks (drop (afterFold from h) w)) first-kinds
+            (begins-tested h (afterFold from h) (kindsAfterFold h) (drop (afterFold from h) w) (omega (arith, kinds-there, length-drop (afterFold from h) w))
+            (at-passes 5 (firstTrue (afterFold from h) (zipWith (outOfRange h) (kindsAfterFold h) (drop (afterFold from h) w))) ranged))
+
+        pub placed-first : Placed h w (firstStand from h)
+        unfolding firstStand
+        placed-first = record {
+          sheet = x;
+          level = omega arith;
+          table = omega (arith, first-room);
+          here = first-room;
+          words = first-begins;
+          reads = omega arith;
+        }
+
+        first-fits : Fits (h .size) (h .size) (firstFunction h) (getD (h .folds) 0 0)
+        unfolding firstFunction
+        first-fits =
+            let k = x .folds 0 (omega arith) in
+            record {
+              log = k .log;
+              two = k .two;
+              few = k .small;
+              spaced = omega arith;
+              roots = divided h x 0 (h .size) (sym (undivided (h .size))) (omega arith);
+              room = omega arith;
+              small = x .law .small;
+              columns = 0;
+              whole = omega arith;
+              used = omega arith;
+            }
+
+        pub standing-first : (points answers factors : ℕ) → points ≡ h .size → answers ≡ 66 → factors ≡ 132 →
+            Standing h w points answers factors (firstStand from h) (firstFunction h)
+        unfolding firstStand firstFunction
+        standing-first points answers factors e a g = record {
+          place = placed-first;
+          size = sym (undivided (h .size));
+          fits = subst (λ (n : ℕ). Fits n (h .size) (firstFunction h) (getD (h .folds) 0 0)) (sym e) first-fits;
+          in-answers = a;
+          in-factors = g;
+          scale = refl;
+          step = refl;
+        }
+
+    module _ (pw ac vg : List ℕ) (points : Powers (getD w 0 0) (rootOfUnity h) pw) where
+      first-serves : Serves (getD w 0 0) (rootOfUnity h) (levelOf h (firstStand from h))
+          (tableFunction (fieldOf (getD w 0 0)) (rootOfUnity h) (levelOf h (firstStand from h)) (tableOf w (firstStand from h)) .value) pw (tableOf w (firstStand from h)) ac vg (firstFunction h)
+          (foldOf h (firstStand from h))
+      unfolding firstFunction firstStand levelOf shiftCount
+      first-serves =
+          serves-first (getD w 0 0) (rootOfUnity h) (levelOf h (firstStand from h)) pw (tableOf w (firstStand from h)) ac vg (firstFunction h) (getD (h .folds) 0 0) points refl refl refl refl
+
+      pub served-first : h .prime ≡ primeOf (getD w 0 0) → outsFrom h w (firstStand from h) ≡ none → Served h w pw ac vg (firstStand from h) (firstFunction h)
+      unfolding firstFunction
+      served-first prime outside = record {
+        ω = _;
+        f = _;
+        prime = prime;
+        serves = first-serves;
+        root = refl;
+        clear = record { ω = _; powers = points; nonzero = λ m l some. absurd (omega arith) };
+        outside = outside;
+      }
+
+      -- the definition's deciding is that from the first place on, with fold coin 0
+      pub first-step : {v : Verdict} → h .prime ≡ primeOf (getD w 0 0) → Decided h w pw ac vg (firstStand from h) (getD w (from + h .size) 0) (firstFunction h) v →
+          v ≡ decide (primeField (h .prime)) (rootOfUnity h) (firstLevel h) (readTranscript h (drop from w))
+      unfolding decide readTranscript fieldOf tableFunction restOf firstStand tableOf readsOf
+      first-step prime d =
+          let ω = rootOfUnity h in
+          let F = fieldOf (getD w 0 0) in
+          let n = h .size in
+          let first : Stand = firstStand from h in
+          d ω _ [] first-serves refl
+          ∙ (λ i. decideRest F ω (sym first-level i) (tableFunction F ω (sym first-level i) (take n (drop from w))) (sym first-fold i) []
+          (readRest (h .outCoins) (sym first-level i) (sym later-levels i) (sym first-words i)))
+          ∙ (λ i. decide (primeField (sym prime i)) ω (firstLevel h) (readTranscript h (drop from w)))

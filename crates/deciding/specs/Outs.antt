@@ -8,74 +8,75 @@ use mathlib.Core.List.{List, [], _∷_, _++_, zipWith, append-assoc}
 use mathlib.Core.Option.{Option, none}
 use lib.ListN.{length, getD, drop, replicate, length-append, length-replicate}
 use Rattle.algebra.specs.ListFacts.{all-append}
+use Rattle.completeness.specs.Numbered.{roundsOf}
 use Rattle.definition.specs.Deciding.{outInDomain}
-use Rattle.definition.specs.Field.{fieldOf}
-use Rattle.definition.specs.Layout.{Kind, coin, index, layout, message, out, restLayout, roundLayout, wordsDue}
+use Rattle.definition.specs.Field.{fieldOf, primeField, primeOf}
+use Rattle.definition.specs.Layout.{Kind, coin, index, layout, message, out, restLayout, roundLayout}
 use Rattle.definition.specs.Lists.{firstTrue}
-use Rattle.definition.specs.Reading.{rangeTest, sheetTest}
-use Rattle.definition.specs.Sheet.{Level, finalCount, firstLevel, laterLevels, rootOfUnity, sheetOf, shiftCount}
-use Rattle.definition.specs.Verdict.{accepted}
+use Rattle.definition.specs.Sheet.{Level, Sheet, finalCount, rootOfUnity, shiftCount}
 use Rattle.domain.specs.OutCoins.{FirstInside, all-quiet, coin-quiet, firstInside, indices-quiet, messages-quiet, orElse, outs-run, quiet}
 use Rattle.domain.specs.Powers.{Powers}
 use Rattle.deciding.specs.declared.Stand.{Stand}
-use Rattle.deciding.specs.First.{first-level, first-room, later-levels}
-use Rattle.deciding.specs.Inside.{round-inside, scale-next}
-use Rattle.deciding.specs.Stand.{firstStand, levelOf, levelsOf, nextSize, nextStand, outsAt, outsFrom, repetitionsOf, repliesAt}
+use Rattle.deciding.specs.First.{first-kinds, first-room}
+use Rattle.deciding.specs.Inside.{scale-next, words-there}
+use Rattle.deciding.specs.Stand.{afterFold, firstStand, kindsAfterFold, kindsOf, levelOf, nextSize, nextStand, outsAt, outsFrom, repetitionsOf, repliesAt}
 use Rattle.deciding.specs.Standing.{Placed}
 use Rattle.deciding.specs.Words.{levels-end, levels-next}
 
-module _ (w : List ℕ) (st : Stand) (ok : Placed w st) where
-  pub outs-last : st .level ≡ getD w 4 0 → outsFrom w st ≡ none
+module _ (h : Sheet) (w : List ℕ) (st : Stand) (ok : Placed h w st) where
+  pub outs-last : st .level ≡ roundsOf h → outsFrom h w st ≡ none
   unfolding outsFrom restLayout
   outs-last end =
-      let h = sheetOf w in
-      let b = levelOf w st in
-      ap (λ (ls : List Level). firstTrue (st .at) (zipWith (outInDomain h) (restLayout (getD w 5 0) b ls) (drop (st .at) w))) (levels-end w st end)
+      let b = levelOf h st in
+      ap (λ (ls : List Level). firstTrue (st .at) (zipWith (outInDomain h) (restLayout (h .outCoins) b ls) (drop (st .at) w))) (levels-end h st (ok .sheet .law .paired) end)
       ∙ all-quiet (outInDomain h) (replicate (finalCount b) message ++ replicate (b .repetitions) (index (shiftCount b))) (drop (st .at) w) (st .at)
       (all-append (λ k. (x : ℕ) → outInDomain h k x ≡ false) (replicate (finalCount b) message) _ (messages-quiet h (finalCount b)) (indices-quiet h (b .repetitions) (shiftCount b)))
 
   regroup : (m o p r : List Kind) → (m ++ (o ++ p)) ++ r ≡ m ++ (o ++ (p ++ r))
   regroup m o p r = append-assoc m (o ++ p) r ∙ ap {B = List Kind} (λ x. m ++ x) (append-assoc o p r)
 
-  pub outs-next : st .level < getD w 4 0 →
-      outsFrom w st ≡ orElse (firstInside (getD w 0 0) (rootOfUnity (sheetOf w)) (levelOf w (nextStand w st)) w (outsAt st) (getD w 5 0)) (outsFrom w (nextStand w st))
-  unfolding outsFrom restLayout roundLayout levelOf nextStand sheetOf fieldOf
-  outs-next more =
-      let h = sheetOf w in
+  pub outs-next : h .prime ≡ primeOf (getD w 0 0) → st .level < roundsOf h →
+      outsFrom h w st ≡ orElse (firstInside (getD w 0 0) (rootOfUnity h) (levelOf h (nextStand h st)) w (outsAt st) (h .outCoins)) (outsFrom h w (nextStand h st))
+  unfolding outsFrom restLayout roundLayout levelOf nextStand fieldOf
+  outs-next prime more =
       let test = outInDomain h in
-      let b = levelOf w st in
-      let l = levelOf w (nextStand w st) in
+      let b = levelOf h st in
+      let l = levelOf h (nextStand h st) in
       let n = nextSize st in
-      let s = getD w 5 0 in
-      let t = repetitionsOf w st in
-      let there = round-inside w st ok more .there in
+      let s = h .outCoins in
+      let t = repetitionsOf h st in
+      let there = words-there h w st ok more in
       let q = replicate t (index (shiftCount b)) in
       let tail = replicate s message ++ (coin ∷ coin ∷ q) in
-      let rest = restLayout s l (levelsOf w (nextStand w st)) in
-      let e : repliesAt w st + (s + (2 + t)) ≡ nextStand w st .at = omega arith in
-      ap (λ (ls : List Level). firstTrue (st .at) (zipWith test (restLayout s b ls) (drop (st .at) w))) (levels-next w st (ok .sheet .long) (ok .sheet .rounds) more)
+      let rest = kindsOf h (nextStand h st) in
+      let e : repliesAt h st + (s + (2 + t)) ≡ nextStand h st .at = omega arith in
+      ap (λ (ls : List Level). firstTrue (st .at) (zipWith test (restLayout s b ls) (drop (st .at) w))) (levels-next h st (ok .sheet .law .paired) more)
       ∙ ap (λ (ks : List Kind). firstTrue (st .at) (zipWith test ks (drop (st .at) w))) (regroup (replicate n message) (replicate s (out l)) tail rest)
       ∙ quiet test (replicate n message) (replicate s (out l) ++ (tail ++ rest)) w (st .at) n (length-replicate n message) (messages-quiet h n) (omega arith)
-      ∙ outs-run h (getD w 0 0) refl l (tail ++ rest) w s (outsAt st) (omega arith)
+      ∙ outs-run h (getD w 0 0) (ap primeField prime) l (tail ++ rest) w s (outsAt st) (omega arith)
       ∙ ap (orElse (firstInside (getD w 0 0) (rootOfUnity h) l w (outsAt st) s))
-      (quiet test tail rest w (repliesAt w st) (s + (2 + t))
+      (quiet test tail rest w (repliesAt h st) (s + (2 + t))
       (length-append (replicate s message) (coin ∷ coin ∷ q) ∙ omega (arith, length-replicate s message, length-replicate t (index (shiftCount b))))
       (all-append (λ k. (x : ℕ) → test k x ≡ false) (replicate s message) (coin ∷ coin ∷ q) (messages-quiet h s) (coin-quiet h, (coin-quiet h, indices-quiet h t (shiftCount b)))) (omega arith)
       ∙ ap (λ (m : ℕ). firstTrue m (zipWith test rest (drop m w))) e)
 
-module _ (w : List ℕ) (passed : sheetTest w ≡ accepted) (due : wordsDue (sheetOf w) ≤ length w) (ranged : rangeTest (sheetOf w) w ≡ accepted) where
-  pub outs-first : outsFrom w (firstStand w) ≡ firstTrue 12 (zipWith (outInDomain (sheetOf w)) (layout (sheetOf w)) (drop 12 w))
-  unfolding outsFrom layout sheetOf firstStand
-  outs-first =
-      let h = sheetOf w in
+-- table 0 and fold coin 0 are no out coins
+module _ (from : ℕ) (h : Sheet) (w : List ℕ) (due : from + length (layout h) ≤ length w) where
+  outs-rest : outsFrom h w (firstStand from h) ≡ firstTrue (afterFold from h) (zipWith (outInDomain h) (kindsAfterFold h) (drop (afterFold from h) w))
+  unfolding outsFrom firstStand
+  outs-rest = ap (λ (ks : List Kind). firstTrue (afterFold from h) (zipWith (outInDomain h) ks (drop (afterFold from h) w))) (sym (first-kinds from h))
+
+  outs-all : firstTrue from (zipWith (outInDomain h) (layout h) (drop from w)) ≡ firstTrue (afterFold from h) (zipWith (outInDomain h) (kindsAfterFold h) (drop (afterFold from h) w))
+  unfolding layout
+  outs-all =
       let test = outInDomain h in
-      let n = getD w 1 0 in
-      let s = getD w 5 0 in
-      let room = first-room w passed due ranged in
-      let rest = restLayout s (firstLevel h) (laterLevels h) in
-      sym (quiet test (replicate n message) (coin ∷ rest) w 12 n (length-replicate n message) (messages-quiet h n) (omega arith)
-      ∙ quiet test (coin ∷ []) rest w (12 + n) 1 refl (coin-quiet h, tt) (omega arith)
-      ∙ (λ i. firstTrue (12 + n + 1) (zipWith test (restLayout s (first-level w passed due i) (later-levels w passed due i)) (drop (12 + n + 1) w))))
+      let n = h .size in
+      let room = first-room from h w due in
+      quiet test (replicate n message) (coin ∷ kindsAfterFold h) w from n (length-replicate n message) (messages-quiet h n) (omega (arith, room))
+      ∙ quiet test (coin ∷ []) (kindsAfterFold h) w (from + n) 1 refl (coin-quiet h, tt) (omega (arith, room))
+
+  pub outs-first : outsFrom h w (firstStand from h) ≡ firstTrue from (zipWith (outInDomain h) (layout h) (drop from w))
+  outs-first = outs-rest ∙ sym outs-all
 
 -- ---- the scale of a level in the table of points
 
@@ -83,13 +84,13 @@ pub record Scaled (points : ℕ) (st : Stand) (scale : ℕ) : Type 0 where
   pub power : scale ≡ 2 ^ st .level
   pub size : st .size ≡ points / scale
 
-pub scaled-first : (points : ℕ) (w : List ℕ) → points ≡ getD w 1 0 → Scaled points (firstStand w) 1
+pub scaled-first : (points from : ℕ) (h : Sheet) → points ≡ h .size → Scaled points (firstStand from h) 1
 unfolding firstStand
-scaled-first points w e = record { power = refl; size = omega arith }
+scaled-first points from h e = record { power = refl; size = omega arith }
 
-pub scaled-next : (points : ℕ) (w : List ℕ) (st : Stand) (scale : ℕ) → Scaled points st scale → Scaled points (nextStand w st) (2 * scale)
+pub scaled-next : (points : ℕ) (h : Sheet) (st : Stand) (scale : ℕ) → Scaled points st scale → Scaled points (nextStand h st) (2 * scale)
 unfolding nextStand
-scaled-next points w st scale r =
+scaled-next points h st scale r =
     let e : scale * 2 ≡ 2 * scale = omega arith in
     record {
       power = scale-next scale (st .level) (r .power);
@@ -97,10 +98,10 @@ scaled-next points w st scale r =
     }
 
 -- the run of a round's out coins
-pub round-outs : (w pw : List ℕ) (st : Stand) (scale : ℕ) {v : Option ℕ} → Scaled (length pw) st scale → Powers (getD w 0 0) (rootOfUnity (sheetOf w)) pw →
-    FirstInside w pw (2 * scale) (outsAt st) (getD w 5 0) v →
-    v ≡ firstInside (getD w 0 0) (rootOfUnity (sheetOf w)) (levelOf w (nextStand w st)) w (outsAt st) (getD w 5 0)
+pub round-outs : (h : Sheet) (w pw : List ℕ) (st : Stand) (scale : ℕ) {v : Option ℕ} → Scaled (length pw) st scale → Powers (getD w 0 0) (rootOfUnity h) pw →
+    FirstInside w pw (2 * scale) (outsAt st) (h .outCoins) v →
+    v ≡ firstInside (getD w 0 0) (rootOfUnity h) (levelOf h (nextStand h st)) w (outsAt st) (h .outCoins)
 unfolding levelOf
-round-outs w pw st scale r p f =
-    let n = scaled-next (length pw) w st scale r in
-    f (getD w 0 0) (rootOfUnity (sheetOf w)) (levelOf w (nextStand w st)) p (sym (n .power)) (n .size)
+round-outs h w pw st scale r p f =
+    let n = scaled-next (length pw) h st scale r in
+    f (getD w 0 0) (rootOfUnity h) (levelOf h (nextStand h st)) p (sym (n .power)) (n .size)

@@ -1,5 +1,5 @@
 -- One step of the definition's deciding from a place: a clash, a round and what follows it, and the final comparison.
-use Prim.Native.Nat.{ℕ, _+_, _*_, _/_, _≤_, _<_}
+use Prim.Native.Nat.{ℕ, _+_, _*_, _≤_, _<_}
 use native.Mathlib.Numerals.{add-one}
 use native.Mathlib.Omega.{arith}
 use mathlib.Core.Path.{_≡_, refl, sym, ap, _∙_, subst}
@@ -8,13 +8,14 @@ use mathlib.Core.List.{List, _++_}
 use mathlib.Core.Option.{none, some}
 use lib.ListN.{length, getD, take, drop, length-drop, length-map}
 use lib.Seq.{length-take-le}
+use Rattle.completeness.specs.Numbered.{roundsOf}
 use Rattle.definition.specs.Deciding as definition
 use Rattle.definition.specs.Deciding.{Function, Place, answers, decideFinal, decideRest, differences, ownPlace, placesOf, readsOf, treated}
 use Rattle.definition.specs.Domain.{foldAt, shiftPoint}
 use Rattle.definition.specs.Field.{Field, fieldOf}
 use Rattle.definition.specs.Lists.{firstTrue}
 use Rattle.definition.specs.Polynomial.{Sample, clash, distinct, evaluate, pair}
-use Rattle.definition.specs.Sheet.{Level, shiftCount}
+use Rattle.definition.specs.Sheet.{Level, Sheet, shiftCount}
 use Rattle.definition.specs.Transcript.{Rest, Round, round}
 use Rattle.definition.specs.Verdict.{Verdict, accepted, refuseAt, refused}
 use Rattle.domain.specs.OutCoins.{first-below}
@@ -27,8 +28,8 @@ use Rattle.rounds.specs.Round.{Fits}
 use Rattle.rounds.specs.RoundLaws.{Serves}
 use Rattle.deciding.specs.declared.Stand.{Stand}
 use Rattle.deciding.specs.Divisors.{clear-next, outside-next}
-use Rattle.deciding.specs.Inside.{final-inside, round-inside}
-use Rattle.deciding.specs.Stand.{coefficientsOf, coinsAt, finalsOf, levelOf, nextFunction, nextStand, outsOf, repetitionsOf, repliesOf, restOf, roundOf, shiftsOf, tableOf}
+use Rattle.deciding.specs.Inside.{few-coins, final-there, words-there}
+use Rattle.deciding.specs.Stand.{coefficientsOf, combinationOf, finalsOf, foldCoinOf, foldOf, levelOf, nextFold, nextFunction, nextSize, nextStand, repetitionsOf, restOf, roundOf, shiftsOf, tableOf}
 use Rattle.deciding.specs.Standing.{Decided, Differing, Served, Sifted, Standing}
 use Rattle.deciding.specs.Words.{rest-end, rest-next}
 
@@ -58,131 +59,131 @@ part-length w at n h = length-take-le n (drop at w) (rw length-drop (omega arith
 
 -- ---- a round from a place
 
-module _ (w pw ac vg : List ℕ) (st : Stand) (how : how.Function) (ok : Standing w (length pw) (length ac) (length vg) st how) (more : st .level < getD w 4 0) where
-  shifts-length : length (shiftsOf w st) ≡ repetitionsOf w st
+module _ (h : Sheet) (w pw ac vg : List ℕ) (st : Stand) (r : ℕ) (how : how.Function) (ok : Standing h w (length pw) (length ac) (length vg) st how) (more : st .level < roundsOf h) where
+  shifts-length : length (shiftsOf h w st) ≡ repetitionsOf h st
   unfolding shiftsOf
-  shifts-length = part-length w _ (repetitionsOf w st) (round-inside w st (ok .place) more .there)
+  shifts-length = part-length w _ (repetitionsOf h st) (words-there h w st (ok .place) more)
 
-  reads-next : (used : List Place) → st .reads ≡ readsOf used → nextStand w st .reads ≡ readsOf (used ++ placesOf (levelOf w st) (ownPlace (levelOf w st)) (shiftsOf w st))
+  reads-next : (used : List Place) → st .reads ≡ readsOf used → nextStand h st .reads ≡ readsOf (used ++ placesOf (levelOf h st) (ownPlace (levelOf h st)) (shiftsOf h w st))
   unfolding nextStand levelOf
   reads-next used e =
-      sym (reads-add used _ ∙ (λ i. sym e i + (reads-are (levelOf w st) (levelOf w st) (shiftsOf w st) ∙ ap (λ (n : ℕ). n * getD w 3 0) shifts-length) i))
+      sym (reads-add used _ ∙ (λ i. sym e i + (reads-are (levelOf h st) (levelOf h st) (shiftsOf h w st) ∙ ap (λ (n : ℕ). n * foldOf h st) shifts-length) i))
 
-  pub clash-step : Sifted w pw ac vg st how none → Decided w pw ac vg st how (record { outcome = refused 8 (nextStand w st .level); reads = nextStand w st .reads })
+  pub clash-step : Sifted h w pw ac vg st r how none → Decided h w pw ac vg st r how (record { outcome = refused 8 (nextStand h st .level); reads = nextStand h st .reads })
   unfolding roundOf levelOf
   clash-step a = λ ω f used sv e.
       let field = getD w 0 0 in
       let F = fieldOf field in
-      let b = levelOf w st in
-      let ρ = roundOf w st in
+      let b = levelOf h st in
+      let ρ = roundOf h w st in
       let fn : Function ℕ = record { value = f; places = ownPlace b } in
-      let c = sifted-none field (answers F ω b f (st .fold) ρ) (a ω b f ρ refl refl refl sv) in
-      sym (ap (decideRest F ω b fn (st .fold) used) (rest-next w st (ok .place .sheet .long) (ok .place .sheet .rounds) more)
-      ∙ round-clash F ω b fn (st .fold) used ρ (restOf w (nextStand w st)) c
-      ∙ (λ i. record { outcome = refused 8 (nextStand w st .level); reads = sym (reads-next used e) i }))
+      let c = sifted-none field (answers F ω b f r ρ) (a ω b f ρ refl refl refl sv) in
+      sym (ap (decideRest F ω b fn r used) (rest-next h w st (ok .place .sheet .law .paired) more)
+      ∙ round-clash F ω b fn r used ρ (restOf h w (nextStand h st)) c
+      ∙ (λ i. record { outcome = refused 8 (nextStand h st .level); reads = sym (reads-next used e) i }))
 
-  serves-after : (px py pa pv : List ℕ) (j words ω : ℕ) (f : ℕ → ℕ) → Standing w (length pw) (length pa) (length pv) (nextStand w st) (nextFunction w st (how .scale) words) →
-      Sifted w pw ac vg st how (some (pair (drop j px) (drop j py))) → 0 < words →
-      Correcting (getD w 0 0) (pair (drop j px) (drop j py)) (getD w (coinsAt w st) 0) words pa pv →
-      Serves (getD w 0 0) ω (levelOf w st) f pw (tableOf w st) ac vg how (getD w 3 0) →
-      Serves (getD w 0 0) ω (levelOf w (nextStand w st))
-      (definition.nextFunction (fieldOf (getD w 0 0)) ω (distinct (fieldOf (getD w 0 0)) (answers (fieldOf (getD w 0 0)) ω (levelOf w st) f (st .fold) (roundOf w st))) (roundOf w st) .value)
-      pw (tableOf w (nextStand w st)) pa pv (nextFunction w st (how .scale) words) (getD w 3 0)
+  serves-after : (px py pa pv : List ℕ) (j words ω : ℕ) (f : ℕ → ℕ) → Standing h w (length pw) (length pa) (length pv) (nextStand h st) (nextFunction h st (how .scale) words) →
+      Sifted h w pw ac vg st r how (some (pair (drop j px) (drop j py))) → 0 < words →
+      Correcting (getD w 0 0) (pair (drop j px) (drop j py)) (combinationOf h w st) words pa pv →
+      Serves (getD w 0 0) ω (levelOf h st) f pw (tableOf w st) ac vg how (foldOf h st) →
+      Serves (getD w 0 0) ω (levelOf h (nextStand h st))
+      (definition.nextFunction (fieldOf (getD w 0 0)) ω (distinct (fieldOf (getD w 0 0)) (answers (fieldOf (getD w 0 0)) ω (levelOf h st) f r (roundOf h w st))) (roundOf h w st) .value)
+      pw (tableOf w (nextStand h st)) pa pv (nextFunction h st (how .scale) words) (foldOf h (nextStand h st))
   unfolding roundOf levelOf nextStand nextFunction tableOf shiftCount
   serves-after px py pa pv j words ω f next a more-words given sv =
       let field = getD w 0 0 in
       let F = fieldOf field in
-      let b = levelOf w st in
-      let ρ = roundOf w st in
+      let b = levelOf h st in
+      let ρ = roundOf h w st in
       let e = a ω b f ρ refl refl refl sv in
-      let g = sifted-some field (answers F ω b f (st .fold) ρ) (pair (drop j px) (drop j py)) e .1 in
-      let there = round-inside w st (ok .place) more .there in
-      let n = part-length w (st .at) (st .size / 2) (omega arith) in
-      serves-next field ω ρ pw pa pv (nextFunction w st (how .scale) words) more-words (subst (λ (t : List (Sample ℕ)). Correcting field t (getD w (coinsAt w st) 0) words pa pv) g given)
-      (sv .powers) (next .scale) (getD w 3 0) refl refl (subst (λ (m : ℕ). Fits (length pw) m (nextFunction w st (how .scale) words) (getD w 3 0)) (sym n) (next .fits))
+      let g = sifted-some field (answers F ω b f r ρ) (pair (drop j px) (drop j py)) e .1 in
+      let there = words-there h w st (ok .place) more in
+      let n = part-length w (st .at) (nextSize st) (omega arith) in
+      serves-next field ω ρ pw pa pv (nextFunction h st (how .scale) words) more-words (subst (λ (t : List (Sample ℕ)). Correcting field t (combinationOf h w st) words pa pv) g given)
+      (sv .powers) (next .scale) (nextFold h st) refl refl (subst (λ (m : ℕ). Fits (length pw) m (nextFunction h st (how .scale) words) (nextFold h st)) (sym n) (next .fits))
 
-  module _ (px py pa pv : List ℕ) (j words : ℕ) (next : Standing w (length pw) (length pa) (length pv) (nextStand w st) (nextFunction w st (how .scale) words))
-      (a : Sifted w pw ac vg st how (some (pair (drop j px) (drop j py)))) (more-words : 0 < words)
-      (given : Correcting (getD w 0 0) (pair (drop j px) (drop j py)) (getD w (coinsAt w st) 0) words pa pv) where
-    pub served-next : length py ≡ length px → Served w pw ac vg st how → Served w pw pa pv (nextStand w st) (nextFunction w st (how .scale) words)
+  module _ (px py pa pv : List ℕ) (j words : ℕ) (next : Standing h w (length pw) (length pa) (length pv) (nextStand h st) (nextFunction h st (how .scale) words))
+      (a : Sifted h w pw ac vg st r how (some (pair (drop j px) (drop j py)))) (more-words : 0 < words)
+      (given : Correcting (getD w 0 0) (pair (drop j px) (drop j py)) (combinationOf h w st) words pa pv) where
+    pub served-next : length py ≡ length px → Served h w pw ac vg st how → Served h w pw pa pv (nextStand h st) (nextFunction h st (how .scale) words)
     served-next long s = record {
       ω = s .ω;
       f = _;
+      prime = s .prime;
       serves = serves-after px py pa pv j words (s .ω) (s .f) next a more-words given (s .serves);
       root = s .root;
-      clear = clear-next w pw ac vg st how ok more s px py j long a _ words pa pv next given;
-      outside = outside-next w pw ac vg st how ok more s;
+      clear = clear-next h w pw ac vg st how ok more s r px py j long a _ words pa pv next given;
+      outside = outside-next h w pw ac vg st how ok more s;
     }
 
-    pub next-step : {v : Verdict} → Decided w pw pa pv (nextStand w st) (nextFunction w st (how .scale) words) v → Decided w pw ac vg st how v
+    pub next-step : {v : Verdict} → Decided h w pw pa pv (nextStand h st) (foldCoinOf h w st) (nextFunction h st (how .scale) words) v → Decided h w pw ac vg st r how v
     unfolding roundOf levelOf nextStand
     next-step d = λ ω f used sv e.
         let field = getD w 0 0 in
         let F = fieldOf field in
-        let b = levelOf w st in
-        let ρ = roundOf w st in
+        let b = levelOf h st in
+        let ρ = roundOf h w st in
         let fn : Function ℕ = record { value = f; places = ownPlace b } in
-        let g = distinct F (answers F ω b f (st .fold) ρ) in
-        let now = used ++ placesOf b (ownPlace b) (shiftsOf w st) in
-        let c = sifted-some field (answers F ω b f (st .fold) ρ) (pair (drop j px) (drop j py)) (a ω b f ρ refl refl refl sv) in
+        let g = distinct F (answers F ω b f r ρ) in
+        let now = used ++ placesOf b (ownPlace b) (shiftsOf h w st) in
+        let c = sifted-some field (answers F ω b f r ρ) (pair (drop j px) (drop j py)) (a ω b f ρ refl refl refl sv) in
         d ω (definition.nextFunction F ω g ρ .value) now (serves-after px py pa pv j words ω f next a more-words given sv) (reads-next used e)
-        ∙ ap (λ (h : Function ℕ). decideRest F ω (levelOf w (nextStand w st)) h (nextStand w st .fold) now (restOf w (nextStand w st))) (next-places F ω g ρ)
-        ∙ sym (ap (decideRest F ω b fn (st .fold) used) (rest-next w st (ok .place .sheet .long) (ok .place .sheet .rounds) more)
-        ∙ round-on F ω b fn (st .fold) used ρ (restOf w (nextStand w st)) (c .0))
+        ∙ ap (λ (fn′ : Function ℕ). decideRest F ω (levelOf h (nextStand h st)) fn′ (foldCoinOf h w st) now (restOf h w (nextStand h st))) (next-places F ω g ρ)
+        ∙ sym (ap (decideRest F ω b fn r used) (rest-next h w st (ok .place .sheet .law .paired) more)
+        ∙ round-on F ω b fn r used ρ (restOf h w (nextStand h st)) (c .0))
 
 -- ---- the final comparison from a place
 
-module _ (w pw ac vg : List ℕ) (st : Stand) (how : how.Function) (ok : Standing w (length pw) (length ac) (length vg) st how) (end : st .level ≡ getD w 4 0) where
-  finals-length : length (finalsOf w st) ≡ repetitionsOf w st
+module _ (h : Sheet) (w pw ac vg : List ℕ) (st : Stand) (r : ℕ) (how : how.Function) (ok : Standing h w (length pw) (length ac) (length vg) st how) (end : st .level ≡ roundsOf h) where
+  finals-length : length (finalsOf h w st) ≡ repetitionsOf h st
   unfolding finalsOf
-  finals-length = part-length w _ (repetitionsOf w st) (final-inside w st (ok .place) end .there)
+  finals-length = part-length w _ (repetitionsOf h st) (final-there h w st (ok .place) end)
 
   -- the place of a difference is that of a final index
-  pub place-few : (place : ℕ) → Differing w pw ac vg st how (some place) →
-      Served w pw ac vg st how → place < 48
+  pub place-few : (place : ℕ) → Differing h w pw ac vg st r how (some place) →
+      Served h w pw ac vg st how → place < 48
   unfolding differences
   place-few place a s =
       let F = fieldOf (getD w 0 0) in
-      let b = levelOf w st in
-      let i = final-inside w st (ok .place) end in
+      let b = levelOf h st in
       omega (
         arith,
-        i .few,
+        few-coins h w st (ok .place),
         finals-length,
-        first-below 0 (differences F (s .ω) b (s .f) (st .fold) (coefficientsOf w st) (finalsOf w st)) place (sym (a (s .ω) b (s .f) (s .serves))),
-        length-map (finalsOf w st) (λ j. not (F .equal (evaluate F (coefficientsOf w st) (shiftPoint F (s .ω) b j)) (foldAt F (s .ω) b (s .f) (st .fold) j))),
+        first-below 0 (differences F (s .ω) b (s .f) r (coefficientsOf h w st) (finalsOf h w st)) place (sym (a (s .ω) b (s .f) (s .serves))),
+        length-map (finalsOf h w st) (λ j. not (F .equal (evaluate F (coefficientsOf h w st) (shiftPoint F (s .ω) b j)) (foldAt F (s .ω) b (s .f) r j))),
       )
 
   -- the reads of the final comparison are k for each index treated
-  pub same-step : Differing w pw ac vg st how none →
-      Decided w pw ac vg st how (record { outcome = accepted; reads = st .reads + repetitionsOf w st * getD w 3 0 })
+  pub same-step : Differing h w pw ac vg st r how none →
+      Decided h w pw ac vg st r how (record { outcome = accepted; reads = st .reads + repetitionsOf h st * foldOf h st })
   unfolding decideRest decideFinal levelOf refuseAt
   same-step a = λ ω f used sv e.
       let F = fieldOf (getD w 0 0) in
-      let b = levelOf w st in
-      let js = finalsOf w st in
+      let b = levelOf h st in
+      let js = finalsOf h w st in
       let fn : Function ℕ = record { value = f; places = ownPlace b } in
-      let fault = firstTrue 0 (differences F ω b f (st .fold) (coefficientsOf w st) js) in
+      let fault = firstTrue 0 (differences F ω b f r (coefficientsOf h w st) js) in
       let z : none ≡ fault = a ω b f sv in
-      let reads : readsOf (used ++ placesOf b (ownPlace b) (treated js none)) ≡ st .reads + repetitionsOf w st * getD w 3 0 =
-      reads-add used _ ∙ (λ i. sym e i + (reads-all b b js ∙ ap (λ (n : ℕ). n * getD w 3 0) finals-length) i) in
-      sym (ap (decideRest F ω b fn (st .fold) used) (rest-end w st end)
+      let reads : readsOf (used ++ placesOf b (ownPlace b) (treated js none)) ≡ st .reads + repetitionsOf h st * foldOf h st =
+      reads-add used _ ∙ (λ i. sym e i + (reads-all b b js ∙ ap (λ (n : ℕ). n * foldOf h st) finals-length) i) in
+      sym (ap (decideRest F ω b fn r used) (rest-end h w st (ok .place .sheet .law .paired) end)
       ∙ (λ i. record { outcome = refuseAt 9 (sym z i); reads = readsOf (used ++ placesOf b (ownPlace b) (treated js (sym z i))) })
       ∙ (λ i. record { outcome = accepted; reads = reads i }))
 
-  pub differ-step : (place : ℕ) → Differing w pw ac vg st how (some place) →
-      Decided w pw ac vg st how (record { outcome = refused 9 place; reads = st .reads + (place + 1) * getD w 3 0 })
+  pub differ-step : (place : ℕ) → Differing h w pw ac vg st r how (some place) →
+      Decided h w pw ac vg st r how (record { outcome = refused 9 place; reads = st .reads + (place + 1) * foldOf h st })
   unfolding decideRest decideFinal levelOf refuseAt
   differ-step place a = λ ω f used sv e.
       let F = fieldOf (getD w 0 0) in
-      let b = levelOf w st in
-      let js = finalsOf w st in
+      let b = levelOf h st in
+      let js = finalsOf h w st in
       let fn : Function ℕ = record { value = f; places = ownPlace b } in
-      let fault = firstTrue 0 (differences F ω b f (st .fold) (coefficientsOf w st) js) in
+      let fault = firstTrue 0 (differences F ω b f r (coefficientsOf h w st) js) in
       let z : some place ≡ fault = a ω b f sv in
-      let reads : readsOf (used ++ placesOf b (ownPlace b) (treated js (some place))) ≡ st .reads + (place + 1) * getD w 3 0 =
+      let reads : readsOf (used ++ placesOf b (ownPlace b) (treated js (some place))) ≡ st .reads + (place + 1) * foldOf h st =
       reads-add used _
-      ∙ (λ i. sym e i + (reads-until b b js F ω f (st .fold) (coefficientsOf w st) place (sym z) ∙ ap (λ (n : ℕ). n * getD w 3 0) (sym (add-one place))) i) in
-      sym (ap (decideRest F ω b fn (st .fold) used) (rest-end w st end)
+      ∙ (λ i. sym e i + (reads-until b b js F ω f r (coefficientsOf h w st) place (sym z) ∙ ap (λ (n : ℕ). n * foldOf h st) (sym (add-one place))) i) in
+      sym (ap (decideRest F ω b fn r used) (rest-end h w st (ok .place .sheet .law .paired) end)
       ∙ (λ i. record { outcome = refuseAt 9 (sym z i); reads = readsOf (used ++ placesOf b (ownPlace b) (treated js (sym z i))) })
       ∙ (λ i. record { outcome = refused 9 place; reads = reads i }))

@@ -1,16 +1,18 @@
 -- The words from a place on are the definition's rest of the transcript: a round and the rest after it, or the final coefficients and indices.
-use Prim.Native.Nat.{ℕ, suc, _+_, _-_, _/_, _≤_, _<_}
+use Prim.Native.Nat.{ℕ, suc, _+_, _/_, _<_}
 use native.Mathlib.Omega.{arith}
 use mathlib.Core.Path.{_≡_, ap, _∙_}
 use mathlib.Core.List.{List, [], _∷_}
-use lib.ListN.{length, getD, take, drop}
+use lib.ListN.{getD, take, drop, drop-of-length-le}
 use lib.Seq.{drop-cons, drop-drop, getD-take, getD-drop}
+use Rattle.completeness.specs.LevelsByNumber.{Paired}
 use Rattle.completeness.specs.ListLaws.{drop-take}
+use Rattle.completeness.specs.Numbered.{roundsOf}
 use Rattle.definition.specs.Layout.{laterCount, readRest, roundCoins}
-use Rattle.definition.specs.Sheet.{Level, finalCount, levelsFrom}
+use Rattle.definition.specs.Sheet.{Level, Sheet, finalCount, levelsFrom}
 use Rattle.definition.specs.Transcript.{final, round}
 use Rattle.deciding.specs.declared.Stand.{Stand}
-use Rattle.deciding.specs.Stand.{coefficientsOf, finalsOf, levelOf, levelsOf, nextSize, nextStand, outsOf, repliesOf, repetitionsOf, restOf, roundOf, shiftsOf, tableOf}
+use Rattle.deciding.specs.Stand.{coefficientsOf, finalsOf, levelOf, levelsOf, nextDegree, nextFold, nextSize, nextStand, outsOf, repliesOf, repetitionsOf, restOf, roundOf, shiftsOf, tableOf}
 
 -- a round read from word number `at` on: n words of the table, s out coins, s replies, two coins, t shift indices
 module _ (w : List ℕ) (at n s t : ℕ) where
@@ -44,47 +46,46 @@ module _ (w : List ℕ) (at n s t : ℕ) where
       drop-take 2 t (drop s (drop s (drop n (drop at w))))
       ∙ ap (λ (l : List ℕ). take t (drop 2 l)) third-drop ∙ ap (take t) (drop-drop 2 (at + n + s + s) w)
 
-module _ (w : List ℕ) (st : Stand) where
+module _ (h : Sheet) (st : Stand) where
   -- the levels after this one begin with that of the next round
-  pub levels-next : 12 ≤ length w → getD w 4 0 ≤ 5 → st .level < getD w 4 0 → levelsOf w st ≡ levelOf w (nextStand w st) ∷ levelsOf w (nextStand w st)
+  pub levels-next : Paired h → st .level < roundsOf h → levelsOf h st ≡ levelOf h (nextStand h st) ∷ levelsOf h (nextStand h st)
   unfolding levelsOf levelOf nextStand levelsFrom
-  levels-next long most more =
-      let e : getD w 4 0 - st .level ≡ suc (getD w 4 0 - (st .level + 1)) = omega arith in
-      let here : 7 + st .level ≡ 6 + (st .level + 1) = omega arith in
-      let after : suc (6 + (st .level + 1)) ≡ 7 + (st .level + 1) = omega arith in
-      let number : suc (st .level + 1) ≡ st .level + 1 + 1 = omega arith in
-      rw (e, drop-cons w (7 + st .level) 0 (omega arith), here, after, number)
+  levels-next p more =
+      let n = st .level + 1 in
+      let number : suc n ≡ n + 1 = omega arith in
+      (λ i. levelsFrom n (nextSize st) (nextDegree h st) (drop-cons (h .folds) n 0 (omega (arith, p .some)) i) (drop-cons (h .repetitions) n 0 (omega (arith, p .some, p .same)) i))
+      ∙ (λ i. levelOf h (nextStand h st) ∷ levelsFrom (number i) (nextSize st / 2) (nextDegree h st / nextFold h st) (drop (number i) (h .folds)) (drop (number i) (h .repetitions)))
 
-  pub levels-end : st .level ≡ getD w 4 0 → levelsOf w st ≡ []
+  pub levels-end : Paired h → st .level ≡ roundsOf h → levelsOf h st ≡ []
   unfolding levelsOf levelsFrom
-  levels-end e = let z : getD w 4 0 - st .level ≡ 0 = omega arith in rw z
+  levels-end p e = rw (drop-of-length-le (h .folds) {i = st .level + 1} (omega (arith, p .some)))
 
-  round-read : readRest (getD w 5 0) (levelOf w st) (levelOf w (nextStand w st) ∷ levelsOf w (nextStand w st)) (drop (st .at) w) ≡ round (roundOf w st) (restOf w (nextStand w st))
+module _ (h : Sheet) (w : List ℕ) (st : Stand) (p : Paired h) where
+  round-read : readRest (h .outCoins) (levelOf h st) (levelOf h (nextStand h st) ∷ levelsOf h (nextStand h st)) (drop (st .at) w) ≡ round (roundOf h w st) (restOf h w (nextStand h st))
   unfolding readRest roundOf restOf levelOf nextStand roundCoins laterCount outsOf repliesOf shiftsOf tableOf
   round-read =
       let at = st .at in
       let n = nextSize st in
-      let s = getD w 5 0 in
-      let t = repetitionsOf w st in
+      let s = h .outCoins in
+      let t = repetitionsOf h st in
       λ i. round (record {
         table = take n (drop at w);
         coins = record {
-          level = levelOf w (nextStand w st);
+          level = levelOf h (nextStand h st);
           outs = take s (first-drop w at n s t i);
           combination = first-coin w at n s t i;
           fold = second-coin w at n s t i;
           shifts = indices w at n s t i;
         };
         replies = take s (second-drop w at n s t i);
-      }) (readRest s (levelOf w (nextStand w st)) (levelsOf w (nextStand w st)) (last-drop w at n s t i))
+      }) (readRest s (levelOf h (nextStand h st)) (levelsOf h (nextStand h st)) (last-drop w at n s t i))
 
-  pub rest-next : 12 ≤ length w → getD w 4 0 ≤ 5 → st .level < getD w 4 0 → restOf w st ≡ round (roundOf w st) (restOf w (nextStand w st))
+  pub rest-next : st .level < roundsOf h → restOf h w st ≡ round (roundOf h w st) (restOf h w (nextStand h st))
   unfolding restOf
-  rest-next long most more =
-      ap (λ (ls : List Level). readRest (getD w 5 0) (levelOf w st) ls (drop (st .at) w)) (levels-next long most more) ∙ round-read
+  rest-next more = ap (λ (ls : List Level). readRest (h .outCoins) (levelOf h st) ls (drop (st .at) w)) (levels-next h st p more) ∙ round-read
 
-  pub rest-end : st .level ≡ getD w 4 0 → restOf w st ≡ final (coefficientsOf w st) (finalsOf w st)
+  pub rest-end : st .level ≡ roundsOf h → restOf h w st ≡ final (coefficientsOf h w st) (finalsOf h w st)
   unfolding restOf readRest coefficientsOf finalsOf levelOf finalCount
   rest-end e =
-      ap (λ (ls : List Level). readRest (getD w 5 0) (levelOf w st) ls (drop (st .at) w)) (levels-end e)
-      ∙ ap (λ (l : List ℕ). final (take (st .degree / getD w 3 0) (drop (st .at) w)) (take (repetitionsOf w st) l)) (drop-drop (st .degree / getD w 3 0) (st .at) w)
+      ap (λ (ls : List Level). readRest (h .outCoins) (levelOf h st) ls (drop (st .at) w)) (levels-end h st p e)
+      ∙ ap (λ (l : List ℕ). final (take (nextDegree h st) (drop (st .at) w)) (take (repetitionsOf h st) l)) (drop-drop (nextDegree h st) (st .at) w)

@@ -1,4 +1,5 @@
-// Deciding, of the words w of a stream that passes reading: refusals 7 to 9, and the reads. pw is the table of the points of domain 0.
+// Deciding, of the words w of a stream of edition e that passes reading: refusals 7 to 9, and the reads. pw is the table of the points of domain 0.
+use edition::Edition;
 use outcome::Found;
 use outcome::Outcome;
 use outcome::Verdict;
@@ -12,29 +13,31 @@ ghost use Rattle.definition.specs.Deciding.{decide as decideBy, deciding as dec
 ghost use Rattle.definition.specs.Field.{primeField, fieldOf};
 ghost use Rattle.definition.specs.Polynomial.{pair};
 ghost use Rattle.algebra.specs.Different.{Apart};
+ghost use Rattle.completeness.specs.Numbered.{roundsOf};
 ghost use Rattle.lists.specs.Correcting.{Columned, Correcting};
 ghost use Rattle.definition.specs.Layout.{layout, readTranscript, wordsDue};
 ghost use Rattle.definition.specs.Lists.{firstTrue};
 ghost use Rattle.definition.specs.Reading.{rangeTest, sheetTest};
-ghost use Rattle.definition.specs.Sheet.{firstLevel, rootOfUnity, sheetOf};
+ghost use Rattle.definition.specs.Sheet.{firstLevel, rootOfUnity, sheetLength, sheetOf};
 ghost use Rattle.definition.specs.Verdict.{accepted};
 ghost use Rattle.domain.specs.Powers.{Powers};
+ghost use Rattle.edition.specs.Meaning.{editionOf};
 ghost use Rattle.outcome.specs.Meaning.{placeOf, verdictOf};
 ghost use Rattle.rounds.specs.Round.{Fits, Below, Clear};
 ghost use Rattle.rounds.specs.RoundLaws.{Answered, Compared};
 ghost use Rattle.samples.specs.Samples.{kept, Room};
-ghost use Rattle.deciding.specs.Stand.{coinsAt, firstFunction, firstStand, nextFunction, nextStand, outsFrom};
-ghost use Rattle.deciding.specs.Standing.{Decided, Differing, Placed, RoundInside, Served, Shaped, Sifted, Standing};
+ghost use Rattle.deciding.specs.Stand.{afterFold, combinationOf, firstFunction, firstStand, foldCoinOf, kindsAfterFold, nextFold, nextFunction, nextStand, outsFrom};
+ghost use Rattle.deciding.specs.Standing.{Decided, Differing, FinalInside, Placed, RoundInside, Served, Shaped, Sifted, Standing, Written};
 ghost use Rattle.deciding.specs.Outs.{Scaled};
 
-// A place: the level's number, domain size and degree bound, where its table and the words after its fold coin begin, the fold coin, the reads so far.
+// A place: the level's number, domain size and degree bound, where its table and the words after its fold coin begin, and the reads so far. It holds no
+// element: the level's fold coin is handed on beside it.
 pub struct Stand {
     pub level: usize,
     pub size: usize,
     pub degree: usize,
     pub table: usize,
     pub at: usize,
-    pub fold: u32,
     pub reads: usize,
 }
 
@@ -53,68 +56,77 @@ fn roots() -> [u32; 16]
 }
 
 // The first place: at level 0, after fold coin 0.
-fn first_stand(w: &[u32]) -> Stand
-    requires { ⌜ (Shaped (now w)) × (12 + getD (now w) 1 0 + 1 ≤ length (now w)) ⌝ }
-    ensures { λ r. ⌜ r ≡ firstStand (now (w .entry)) ⌝ }
+fn first_stand(e: Edition, w: &[u32]) -> Stand
+    requires { ⌜ (Written (editionOf e) (sheetOf (editionOf e) (now w)) (now w)) × (Shaped (sheetOf (editionOf e) (now w))) ⌝ }
+    ensures { λ r. ⌜ r ≡ firstStand (sheetLength (editionOf e)) (sheetOf (editionOf e) (now (w .entry))) ⌝ }
 {
+    let from = edition::sheet_words(e);
     let size = w[1] as usize;
     Stand {
         level: 0,
         size: size,
         degree: w[2] as usize,
-        table: 12,
-        at: 12 + size + 1,
-        fold: w[12 + size],
+        table: from,
+        at: from + size + 1,
         reads: 0,
     }
 }
 
 // How table 0 is read: as it is, with no samples.
-fn first_function(w: &[u32]) -> Function
-    requires { ⌜ Shaped (now w) ⌝ }
-    ensures { λ r. ⌜ r ≡ firstFunction (now (w .entry)) ⌝ }
+fn first_function(e: Edition, w: &[u32]) -> Function
+    requires { ⌜ (Written (editionOf e) (sheetOf (editionOf e) (now w)) (now w)) × (Shaped (sheetOf (editionOf e) (now w))) ⌝ }
+    ensures { λ r. ⌜ r ≡ firstFunction (sheetOf (editionOf e) (now (w .entry))) ⌝ }
 {
     Function {
         scale: 1,
-        step: w[1] as usize / w[3] as usize,
+        step: w[1] as usize / edition::fold(e, w, 0),
         words: 0,
     }
 }
 
 // The place after the next round: table, out coins, replies, combination coin, fold coin and shift indices are behind it.
-fn next_stand(w: &[u32], stand: Stand) -> Stand
-    requires { ⌜ RoundInside (now w) stand ⌝ }
-    ensures { λ r. ⌜ r ≡ nextStand (now (w .entry)) stand ⌝ }
+fn next_stand(e: Edition, w: &[u32], stand: Stand) -> Stand
+    requires { ⌜ RoundInside (editionOf e) (sheetOf (editionOf e) (now w)) (now w) stand ⌝ }
+    ensures { λ r. ⌜ r ≡ nextStand (sheetOf (editionOf e) (now (w .entry))) stand ⌝ }
 {
-    let k = w[3] as usize;
+    let k = edition::fold(e, w, stand.level);
     let s = w[5] as usize;
     let t = w[6 + stand.level] as usize;
-    let coins = stand.at + stand.size / 2 + s + s;
     Stand {
         level: stand.level + 1,
         size: stand.size / 2,
         degree: stand.degree / k,
         table: stand.at,
-        at: coins + 2 + t,
-        fold: w[coins + 1],
+        at: stand.at + stand.size / 2 + s + s + 2 + t,
         reads: stand.reads + t * k,
     }
 }
 
+// The fold coin of the next round.
+fn next_coin(e: Edition, w: &[u32], stand: Stand) -> u32
+    requires { ⌜ RoundInside (editionOf e) (sheetOf (editionOf e) (now w)) (now w) stand ⌝ }
+    ensures { λ r. ⌜ r ≡ foldCoinOf (sheetOf (editionOf e) (now (w .entry))) (now (w .entry)) stand ⌝ }
+{
+    let s = w[5] as usize;
+    w[stand.at + stand.size / 2 + s + s + 1]
+}
+
 // How the function of the next level is worked out, with so many words of coefficients.
-fn next_function(w: &[u32], stand: Stand, scale: usize, words: usize) -> Function
-    requires { ⌜ (RoundInside (now w) stand) × (scale ≤ 4096) ⌝ }
-    ensures { λ r. ⌜ r ≡ nextFunction (now (w .entry)) stand scale words ⌝ }
+fn next_function(e: Edition, w: &[u32], stand: Stand, scale: usize, words: usize) -> Function
+    requires { ⌜ (RoundInside (editionOf e) (sheetOf (editionOf e) (now w)) (now w) stand) × (scale ≤ 4096) ⌝ }
+    ensures { λ r. ⌜ r ≡ nextFunction (sheetOf (editionOf e) (now (w .entry))) stand scale words ⌝ }
 {
     Function {
         scale: 2 * scale,
-        step: stand.size / 2 / w[3] as usize,
+        step: stand.size / 2 / edition::fold(e, w, stand.level + 1),
         words: words,
     }
 }
 
-// What the next table is corrected by, from the round's samples, which stand from number `from` on. Answers how many words of coefficients are in use.
+// What the next table is corrected by, from the round's samples, which stand from number `from` on. Answers how many words of coefficients are in use,
+// which goes by the next level's folding number.
 fn correction(
+    e: Edition,
     w: &[u32],
     stand: Stand,
     px: &[u32],
@@ -123,14 +135,14 @@ fn correction(
     ac: &mut [u32],
     vg: &mut [u32],
 ) -> usize
-    requires { ⌜ RoundInside (now w) stand ⌝ }
+    requires { ⌜ RoundInside (editionOf e) (sheetOf (editionOf e) (now w)) (now w) stand ⌝ }
     requires { ⌜ (from ≤ length (now px)) × ((length (now px) ≡ 50) × (length (now py) ≡ 50)) ⌝ }
     requires { ⌜ (length (now ac) ≡ 66) × (length (now vg) ≡ 132) ⌝ }
     requires { ⌜ Apart (fieldOf (getD (now w) 0 0)) (drop from (now px)) ⌝ }
-    ensures { λ n. ⌜ Columned (getD (now (w .entry)) 3 0) n ⌝ }
-    ensures { λ n. ⌜ Correcting (getD (now (w .entry)) 0 0) (pair (drop from (now (px .entry))) (drop from (now (py .entry)))) (getD (now (w .entry)) (coinsAt (now (w .entry)) stand) 0) n (now (ac .exit)) (now (vg .exit)) ⌝ }
+    ensures { λ n. ⌜ Columned (nextFold (sheetOf (editionOf e) (now (w .entry))) stand) n ⌝ }
+    ensures { λ n. ⌜ Correcting (getD (now (w .entry)) 0 0) (pair (drop from (now (px .entry))) (drop from (now (py .entry)))) (combinationOf (sheetOf (editionOf e) (now (w .entry))) (now (w .entry)) stand) n (now (ac .exit)) (now (vg .exit)) ⌝ }
 {
-    let k = w[3] as usize;
+    let k = edition::fold(e, w, stand.level + 1);
     let s = w[5] as usize;
     lists::correction(
         w[0],
@@ -275,22 +287,24 @@ fn answer(
     )
 }
 
-// G of the next round, from the words.
+// G of the next round, from the words, with the level's fold coin.
 fn round_at(
+    e: Edition,
     w: &[u32],
     pw: &[u32],
     stand: Stand,
+    r: u32,
     how: Function,
     ac: &[u32],
     vg: &[u32],
     px: &mut [u32],
     py: &mut [u32],
 ) -> Gathered
-    requires { ⌜ Standing (now w) (length (now pw)) (length (now ac)) (length (now vg)) stand how ⌝ }
-    requires { ⌜ stand .level < getD (now w) 4 0 ⌝ }
+    requires { ⌜ Standing (sheetOf (editionOf e) (now w)) (now w) (length (now pw)) (length (now ac)) (length (now vg)) stand how ⌝ }
+    requires { ⌜ RoundInside (editionOf e) (sheetOf (editionOf e) (now w)) (now w) stand ⌝ }
     requires { ⌜ (length (now px) ≡ 50) × (length (now py) ≡ 50) ⌝ }
     requires { ⌜ Clear (getD (now w) 0 0) (now pw) (stand .size) (now vg) how ⌝ }
-    ensures { λ v. ⌜ Sifted (now (w .entry)) (now (pw .entry)) (now (ac .entry)) (now (vg .entry)) stand how (kept v (now (px .exit)) (now (py .exit))) ⌝ }
+    ensures { λ v. ⌜ Sifted (sheetOf (editionOf e) (now (w .entry))) (now (w .entry)) (now (pw .entry)) (now (ac .entry)) (now (vg .entry)) stand r how (kept v (now (px .exit)) (now (py .exit))) ⌝ }
     ensures { λ v. ⌜ Room 50 50 v ⌝ }
 {
     let s = w[5] as usize;
@@ -304,8 +318,8 @@ fn round_at(
         ac,
         vg,
         how,
-        w[3] as usize,
-        stand.fold,
+        edition::fold(e, w, stand.level),
+        r,
         lists::part(w, replies + s + 2, t),
         lists::part(w, outs, s),
         lists::part(w, replies, s),
@@ -413,13 +427,22 @@ fn difference(
 }
 
 // The first final index at which the final polynomial differs, from the words.
-fn final_at(w: &[u32], pw: &[u32], stand: Stand, how: Function, ac: &[u32], vg: &[u32]) -> Found
-    requires { ⌜ Standing (now w) (length (now pw)) (length (now ac)) (length (now vg)) stand how ⌝ }
-    requires { ⌜ stand .level ≡ getD (now w) 4 0 ⌝ }
+fn final_at(
+    e: Edition,
+    w: &[u32],
+    pw: &[u32],
+    stand: Stand,
+    r: u32,
+    how: Function,
+    ac: &[u32],
+    vg: &[u32],
+) -> Found
+    requires { ⌜ Standing (sheetOf (editionOf e) (now w)) (now w) (length (now pw)) (length (now ac)) (length (now vg)) stand how ⌝ }
+    requires { ⌜ FinalInside (editionOf e) (sheetOf (editionOf e) (now w)) (now w) stand ⌝ }
     requires { ⌜ Clear (getD (now w) 0 0) (now pw) (stand .size) (now vg) how ⌝ }
-    ensures { λ v. ⌜ Differing (now (w .entry)) (now (pw .entry)) (now (ac .entry)) (now (vg .entry)) stand how (placeOf v) ⌝ }
+    ensures { λ v. ⌜ Differing (sheetOf (editionOf e) (now (w .entry))) (now (w .entry)) (now (pw .entry)) (now (ac .entry)) (now (vg .entry)) stand r how (placeOf v) ⌝ }
 {
-    let k = w[3] as usize;
+    let k = edition::fold(e, w, stand.level);
     let t = w[6 + stand.level] as usize;
     let d = stand.degree / k;
     difference(
@@ -430,21 +453,30 @@ fn final_at(w: &[u32], pw: &[u32], stand: Stand, how: Function, ac: &[u32], vg: 
         vg,
         how,
         k,
-        stand.fold,
+        r,
         lists::part(w, stand.at, d),
         lists::part(w, stand.at + d, t),
     )
 }
 
 // The final comparison. All final coins are treated, or those up to and with the failing one.
-fn last(w: &[u32], pw: &[u32], stand: Stand, how: Function, ac: &[u32], vg: &[u32]) -> Verdict
-    requires { ⌜ Standing (now w) (length (now pw)) (length (now ac)) (length (now vg)) stand how ⌝ }
-    requires { ⌜ Served (now w) (now pw) (now ac) (now vg) stand how ⌝ }
-    requires { ⌜ stand .level ≡ getD (now w) 4 0 ⌝ }
-    ensures { λ v. ⌜ Decided (now (w .entry)) (now (pw .entry)) (now (ac .entry)) (now (vg .entry)) stand how (verdictOf v) ⌝ }
+fn last(
+    e: Edition,
+    w: &[u32],
+    pw: &[u32],
+    stand: Stand,
+    r: u32,
+    how: Function,
+    ac: &[u32],
+    vg: &[u32],
+) -> Verdict
+    requires { ⌜ Standing (sheetOf (editionOf e) (now w)) (now w) (length (now pw)) (length (now ac)) (length (now vg)) stand how ⌝ }
+    requires { ⌜ Served (sheetOf (editionOf e) (now w)) (now w) (now pw) (now ac) (now vg) stand how ⌝ }
+    requires { ⌜ (stand .level ≡ roundsOf (sheetOf (editionOf e) (now w))) × (FinalInside (editionOf e) (sheetOf (editionOf e) (now w)) (now w) stand) ⌝ }
+    ensures { λ v. ⌜ Decided (sheetOf (editionOf e) (now (w .entry))) (now (w .entry)) (now (pw .entry)) (now (ac .entry)) (now (vg .entry)) stand r how (verdictOf v) ⌝ }
 {
-    let f = final_at(w, pw, stand, how, ac, vg);
-    let k = w[3] as usize;
+    let f = final_at(e, w, pw, stand, r, how, ac, vg);
+    let k = edition::fold(e, w, stand.level);
     if let Found::At(i) = f {
         return Verdict {
             outcome: Outcome::Refused(9, i),
@@ -458,18 +490,28 @@ fn last(w: &[u32], pw: &[u32], stand: Stand, how: Function, ac: &[u32], vg: &[u3
 }
 
 // The rounds after a place and the final comparison. The first round whose samples clash refuses.
-fn rest(w: &[u32], pw: &[u32], stand: Stand, how: Function, ac: &[u32], vg: &[u32]) -> Verdict
-    requires { ⌜ Standing (now w) (length (now pw)) (length (now ac)) (length (now vg)) stand how ⌝ }
-    requires { ⌜ Served (now w) (now pw) (now ac) (now vg) stand how ⌝ }
-    ensures { λ v. ⌜ Decided (now (w .entry)) (now (pw .entry)) (now (ac .entry)) (now (vg .entry)) stand how (verdictOf v) ⌝ }
+fn rest(
+    e: Edition,
+    w: &[u32],
+    pw: &[u32],
+    stand: Stand,
+    r: u32,
+    how: Function,
+    ac: &[u32],
+    vg: &[u32],
+) -> Verdict
+    requires { ⌜ Written (editionOf e) (sheetOf (editionOf e) (now w)) (now w) ⌝ }
+    requires { ⌜ Standing (sheetOf (editionOf e) (now w)) (now w) (length (now pw)) (length (now ac)) (length (now vg)) stand how ⌝ }
+    requires { ⌜ Served (sheetOf (editionOf e) (now w)) (now w) (now pw) (now ac) (now vg) stand how ⌝ }
+    ensures { λ v. ⌜ Decided (sheetOf (editionOf e) (now (w .entry))) (now (w .entry)) (now (pw .entry)) (now (ac .entry)) (now (vg .entry)) stand r how (verdictOf v) ⌝ }
 {
     if stand.level == w[4] as usize {
-        return last(w, pw, stand, how, ac, vg);
+        return last(e, w, pw, stand, r, how, ac, vg);
     }
-    let next = next_stand(w, stand);
+    let next = next_stand(e, w, stand);
     let mut px = room();
     let mut py = room();
-    let g = round_at(w, pw, stand, how, ac, vg, &mut px, &mut py);
+    let g = round_at(e, w, pw, stand, r, how, ac, vg, &mut px, &mut py);
     let Gathered::From(j) = g else {
         return Verdict {
             outcome: Outcome::Refused(8, next.level),
@@ -478,36 +520,49 @@ fn rest(w: &[u32], pw: &[u32], stand: Stand, how: Function, ac: &[u32], vg: &[u3
     };
     let mut pa = lists::places();
     let mut pv = lists::double_places();
-    let words = correction(w, stand, &px, &py, j, &mut pa, &mut pv);
+    let words = correction(e, w, stand, &px, &py, j, &mut pa, &mut pv);
     rest(
+        e,
         w,
         pw,
         next,
-        next_function(w, stand, how.scale, words),
+        next_coin(e, w, stand),
+        next_function(e, w, stand, how.scale, words),
         &pa,
         &pv,
     )
 }
 
-// Deciding from table 0 on, by the table of points: refusals 8 and 9. Past refusal 7 no out coin lies in its round's domain, and so nothing is divided by 0.
-pub fn decide(w: &[u32], pw: &[u32]) -> Verdict
-    requires { ⌜ (sheetTest (now w) ≡ accepted) × (rangeTest (sheetOf (now w)) (now w) ≡ accepted) ⌝ }
-    requires { ⌜ wordsDue (sheetOf (now w)) ≤ length (now w) ⌝ }
-    requires { ⌜ (Powers (getD (now w) 0 0) (rootOfUnity (sheetOf (now w))) (now pw)) × (length (now pw) ≡ getD (now w) 1 0) ⌝ }
-    requires { ⌜ outTest (sheetOf (now w)) (now w) ≡ accepted ⌝ }
+// Deciding from table 0 on, by the table of points: refusals 8 and 9. Only the words after fold coin 0 need be in range. Past refusal 7 no out coin lies in its
+// round's domain, and so nothing is divided by 0.
+pub fn decide(e: Edition, w: &[u32], pw: &[u32]) -> Verdict
+    requires { ⌜ (sheetTest (editionOf e) (now w) ≡ accepted) × (rangeTest (sheetOf (editionOf e) (now w)) (afterFold (sheetLength (editionOf e)) (sheetOf (editionOf e) (now w))) (kindsAfterFold (sheetOf (editionOf e) (now w))) (now w) ≡ accepted) ⌝ }
+    requires { ⌜ wordsDue (editionOf e) (sheetOf (editionOf e) (now w)) ≤ length (now w) ⌝ }
+    requires { ⌜ (Powers (getD (now w) 0 0) (rootOfUnity (sheetOf (editionOf e) (now w))) (now pw)) × (length (now pw) ≡ getD (now w) 1 0) ⌝ }
+    requires { ⌜ outTest (sheetOf (editionOf e) (now w)) (sheetLength (editionOf e)) (layout (sheetOf (editionOf e) (now w))) (now w) ≡ accepted ⌝ }
     ensures { λ v.
-        ⌜ verdictOf v ≡ decideBy (primeField (sheetOf (now (w .entry)) .prime)) (rootOfUnity (sheetOf (now (w .entry)))) (firstLevel (sheetOf (now (w .entry)))) (readTranscript (sheetOf (now (w .entry))) (drop 12 (now (w .entry)))) ⌝ }
+        ⌜ verdictOf v ≡ decideBy (primeField ((sheetOf (editionOf e) (now (w .entry))) .prime)) (rootOfUnity (sheetOf (editionOf e) (now (w .entry)))) (firstLevel (sheetOf (editionOf e) (now (w .entry)))) (readTranscript (sheetOf (editionOf e) (now (w .entry))) (drop (sheetLength (editionOf e)) (now (w .entry)))) ⌝ }
 {
     let ac = lists::places();
     let vg = lists::double_places();
-    rest(w, pw, first_stand(w), first_function(w), &ac, &vg)
+    rest(
+        e,
+        w,
+        pw,
+        first_stand(e, w),
+        w[edition::sheet_words(e) + w[1] as usize],
+        first_function(e, w),
+        &ac,
+        &vg,
+    )
 }
 
 // The first out coin after a place that lies in the domain of its round.
-fn outs(w: &[u32], pw: &[u32], stand: Stand, scale: usize) -> Found
-    requires { ⌜ (Placed (now w) stand) × (Scaled (length (now pw)) stand scale) ⌝ }
-    requires { ⌜ Powers (getD (now w) 0 0) (rootOfUnity (sheetOf (now w))) (now pw) ⌝ }
-    ensures { λ r. ⌜ placeOf r ≡ outsFrom (now (w .entry)) stand ⌝ }
+fn outs(e: Edition, w: &[u32], pw: &[u32], stand: Stand, scale: usize) -> Found
+    requires { ⌜ Written (editionOf e) (sheetOf (editionOf e) (now w)) (now w) ⌝ }
+    requires { ⌜ (Placed (sheetOf (editionOf e) (now w)) (now w) stand) × (Scaled (length (now pw)) stand scale) ⌝ }
+    requires { ⌜ Powers (getD (now w) 0 0) (rootOfUnity (sheetOf (editionOf e) (now w))) (now pw) ⌝ }
+    ensures { λ r. ⌜ placeOf r ≡ outsFrom (sheetOf (editionOf e) (now (w .entry))) (now (w .entry)) stand ⌝ }
 {
     if stand.level == w[4] as usize {
         return Found::Nothing;
@@ -516,48 +571,48 @@ fn outs(w: &[u32], pw: &[u32], stand: Stand, scale: usize) -> Found
     if let Found::At(i) = f {
         return Found::At(i);
     }
-    outs(w, pw, next_stand(w, stand), 2 * scale)
+    outs(e, w, pw, next_stand(e, w, stand), 2 * scale)
 }
 
 // Refusal 7: the first out coin of a round that lies in the round's domain, by its number in the stream. All rounds are tested before any refusal 8.
-pub fn out_in_domain(w: &[u32], pw: &[u32]) -> Found
-    requires { ⌜ (sheetTest (now w) ≡ accepted) × (rangeTest (sheetOf (now w)) (now w) ≡ accepted) ⌝ }
-    requires { ⌜ wordsDue (sheetOf (now w)) ≤ length (now w) ⌝ }
-    requires { ⌜ (Powers (getD (now w) 0 0) (rootOfUnity (sheetOf (now w))) (now pw)) × (length (now pw) ≡ getD (now w) 1 0) ⌝ }
-    ensures { λ r. ⌜ placeOf r ≡ firstTrue 12 (zipWith (outInDomain (sheetOf (now (w .entry)))) (layout (sheetOf (now (w .entry)))) (drop 12 (now (w .entry)))) ⌝ }
+pub fn out_in_domain(e: Edition, w: &[u32], pw: &[u32]) -> Found
+    requires { ⌜ (sheetTest (editionOf e) (now w) ≡ accepted) × (rangeTest (sheetOf (editionOf e) (now w)) (sheetLength (editionOf e)) (layout (sheetOf (editionOf e) (now w))) (now w) ≡ accepted) ⌝ }
+    requires { ⌜ wordsDue (editionOf e) (sheetOf (editionOf e) (now w)) ≤ length (now w) ⌝ }
+    requires { ⌜ (Powers (getD (now w) 0 0) (rootOfUnity (sheetOf (editionOf e) (now w))) (now pw)) × (length (now pw) ≡ getD (now w) 1 0) ⌝ }
+    ensures { λ r. ⌜ placeOf r ≡ firstTrue (sheetLength (editionOf e)) (zipWith (outInDomain (sheetOf (editionOf e) (now (w .entry)))) (layout (sheetOf (editionOf e) (now (w .entry)))) (drop (sheetLength (editionOf e)) (now (w .entry)))) ⌝ }
 {
-    outs(w, pw, first_stand(w), 1)
+    outs(e, w, pw, first_stand(e, w), 1)
 }
 
 // Refusal 7, then 8 and 9, by the table of points.
-fn decide_by(w: &[u32], pw: &[u32]) -> Verdict
-    requires { ⌜ (sheetTest (now w) ≡ accepted) × (rangeTest (sheetOf (now w)) (now w) ≡ accepted) ⌝ }
-    requires { ⌜ wordsDue (sheetOf (now w)) ≤ length (now w) ⌝ }
-    requires { ⌜ (Powers (getD (now w) 0 0) (rootOfUnity (sheetOf (now w))) (now pw)) × (length (now pw) ≡ getD (now w) 1 0) ⌝ }
-    ensures { λ v. ⌜ verdictOf v ≡ decidingOf (now (w .entry)) ⌝ }
+fn decide_by(e: Edition, w: &[u32], pw: &[u32]) -> Verdict
+    requires { ⌜ (sheetTest (editionOf e) (now w) ≡ accepted) × (rangeTest (sheetOf (editionOf e) (now w)) (sheetLength (editionOf e)) (layout (sheetOf (editionOf e) (now w))) (now w) ≡ accepted) ⌝ }
+    requires { ⌜ wordsDue (editionOf e) (sheetOf (editionOf e) (now w)) ≤ length (now w) ⌝ }
+    requires { ⌜ (Powers (getD (now w) 0 0) (rootOfUnity (sheetOf (editionOf e) (now w))) (now pw)) × (length (now pw) ≡ getD (now w) 1 0) ⌝ }
+    ensures { λ v. ⌜ verdictOf v ≡ decidingOf (editionOf e) (now (w .entry)) ⌝ }
 {
-    let f = out_in_domain(w, pw);
+    let f = out_in_domain(e, w, pw);
     if let Found::At(i) = f {
         return Verdict {
             outcome: Outcome::Refused(7, i),
             reads: 0,
         };
     }
-    decide(w, pw)
+    decide(e, w, pw)
 }
 
 // Deciding, of the words of a stream that passes reading. A small sheet is spared the clearing of many places.
-pub fn deciding(w: &[u32]) -> Verdict
-    requires { ⌜ (sheetTest (now w) ≡ accepted) × (rangeTest (sheetOf (now w)) (now w) ≡ accepted) ⌝ }
-    requires { ⌜ wordsDue (sheetOf (now w)) ≤ length (now w) ⌝ }
-    ensures { λ v. ⌜ verdictOf v ≡ decidingOf (now (w .entry)) ⌝ }
+pub fn deciding(e: Edition, w: &[u32]) -> Verdict
+    requires { ⌜ (sheetTest (editionOf e) (now w) ≡ accepted) × (rangeTest (sheetOf (editionOf e) (now w)) (sheetLength (editionOf e)) (layout (sheetOf (editionOf e) (now w))) (now w) ≡ accepted) ⌝ }
+    requires { ⌜ wordsDue (editionOf e) (sheetOf (editionOf e) (now w)) ≤ length (now w) ⌝ }
+    ensures { λ v. ⌜ verdictOf v ≡ decidingOf (editionOf e) (now (w .entry)) ⌝ }
 {
     if w[1] <= 256 {
         let mut few = domain::few_points_room();
         let count = domain::of_sheet_within(w, &mut few);
-        return decide_by(w, &few[..count]);
+        return decide_by(e, w, &few[..count]);
     }
     let mut pw = domain::points_room();
     let size = domain::of_sheet(w, &mut pw);
-    decide_by(w, &pw[..size])
+    decide_by(e, w, &pw[..size])
 }

@@ -6,7 +6,7 @@ use mathlib.Core.Option.{Option, none, some}
 use lib.ListN.{length, getD, take, drop}
 use Rattle.definition.specs.Lists.{firstTrue}
 use Rattle.definition.specs.Field.{Field, primeField}
-use Rattle.definition.specs.Sheet.{Sheet, Level, sheetOf, sheetLength, firstLevel, rootOfUnity}
+use Rattle.definition.specs.Sheet.{Edition, Sheet, Level, sheetOf, sheetLength, firstLevel, rootOfUnity}
 use Rattle.definition.specs.Polynomial.{Sample, pair, evaluate, clash, distinct, correctedValue}
 use Rattle.definition.specs.Domain.{point, inDomain, shiftPoint, foldAt, rootNumbers}
 use Rattle.definition.specs.Transcript.{Round, RoundCoins, Rest, final, round, Transcript}
@@ -20,9 +20,10 @@ outInDomain h coin x = false
 outInDomain h (out l) x = inDomain (primeField (h .prime)) (rootOfUnity h) l x
 outInDomain h (index n) x = false
 
--- 7: an out coin of round i lies in domain i, at the word number of the first; all rounds are tested before any test 8
-unfoldable pub outTest : Sheet → List ℕ → Outcome
-outTest h w = refuseAt 7 (firstTrue sheetLength (zipWith (outInDomain h) (layout h) (drop sheetLength w)))
+-- 7: of the words from a number on, whose kinds are given, an out coin of round i that lies in domain i, at the word number of the first; all
+-- rounds are tested before any test 8
+unfoldable pub outTest : Sheet → ℕ → List Kind → List ℕ → Outcome
+outTest h from kinds w = refuseAt 7 (firstTrue from (zipWith (outInDomain h) kinds (drop from w)))
 
 -- A place: the table's number and the point's.
 pub record Place : Type 0 where
@@ -100,7 +101,8 @@ module _ {A : Type 0} (F : Field A) (ω : A) where
   decide first τ = decideRest first (tableFunction first (τ .table)) (τ .fold) [] (τ .rest)
 
 -- Deciding, of a stream that passes reading.
-unfoldable pub deciding : List ℕ → Verdict
-deciding w =
-    thenVerdict (outTest (sheetOf w) w)
-    (decide (primeField (sheetOf w .prime)) (rootOfUnity (sheetOf w)) (firstLevel (sheetOf w)) (readTranscript (sheetOf w) (drop sheetLength w)))
+unfoldable pub deciding : Edition → List ℕ → Verdict
+deciding e w =
+    let h = sheetOf e w in
+    thenVerdict (outTest h (sheetLength e) (layout h) w)
+    (decide (primeField (h .prime)) (rootOfUnity h) (firstLevel h) (readTranscript h (drop (sheetLength e) w)))

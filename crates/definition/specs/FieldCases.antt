@@ -3,7 +3,7 @@ use Prim.Native.Nat.{ℕ}
 use mathlib.Core.Path.{_≡_, refl}
 use mathlib.Core.List.{[], _∷_}
 use Rattle.definition.specs.Field.{element, noField, powered, inNoField, found, noInverse, unknownField, binaryDigits, primeOf, generatorOf, sum, difference, product, powerOf, powerTurnsOf, inverseOf}
-use Rattle.definition.specs.Sheet.{sheetOf, firstLevel, laterLevels, rootOfUnity}
+use Rattle.definition.specs.Sheet.{edition1, sheetOf, firstLevel, laterLevels, rootOfUnity}
 use Rattle.definition.specs.Domain.{rootNumbers, domain, shiftPoint}
 use Rattle.definition.specs.Layout.{wordsDue}
 use Rattle.definition.specs.WorkedTranscript.{F₁₇, level0, level1, sheetWords, definitions}
@@ -90,21 +90,21 @@ pub record FieldCases : Type 0 where
   pub inverse·3·of·0 : inverseOf 3 0 ≡ unknownField
   pub sum·largest : sum 4294967295 1 1 ≡ noField
   -- ω of n0: in field 0 for 4, 8 and 16; in field 1 for 4096, 64 and 32; in field 2 for 4096 and 4
-  pub root·0·4 : rootOfUnity (sheetOf (0 ∷ 4 ∷ [])) ≡ 13
-  pub root·0·8 : rootOfUnity (sheetOf (0 ∷ 8 ∷ [])) ≡ 9
-  pub root·0·16 : rootOfUnity (sheetOf (0 ∷ 16 ∷ [])) ≡ 3
-  pub root·1·4096 : rootOfUnity (sheetOf (1 ∷ 4096 ∷ [])) ≡ 54449
-  pub root·1·64 : rootOfUnity (sheetOf (1 ∷ 64 ∷ [])) ≡ 8224
-  pub root·1·32 : rootOfUnity (sheetOf (1 ∷ 32 ∷ [])) ≡ 65529
-  pub root·2·4096 : rootOfUnity (sheetOf (2 ∷ 4096 ∷ [])) ≡ 1282623253
-  pub root·2·4 : rootOfUnity (sheetOf (2 ∷ 4 ∷ [])) ≡ 1728404513
+  pub root·0·4 : rootOfUnity (sheetOf edition1 (0 ∷ 4 ∷ [])) ≡ 13
+  pub root·0·8 : rootOfUnity (sheetOf edition1 (0 ∷ 8 ∷ [])) ≡ 9
+  pub root·0·16 : rootOfUnity (sheetOf edition1 (0 ∷ 16 ∷ [])) ≡ 3
+  pub root·1·4096 : rootOfUnity (sheetOf edition1 (1 ∷ 4096 ∷ [])) ≡ 54449
+  pub root·1·64 : rootOfUnity (sheetOf edition1 (1 ∷ 64 ∷ [])) ≡ 8224
+  pub root·1·32 : rootOfUnity (sheetOf edition1 (1 ∷ 32 ∷ [])) ≡ 65529
+  pub root·2·4096 : rootOfUnity (sheetOf edition1 (2 ∷ 4096 ∷ [])) ≡ 1282623253
+  pub root·2·4 : rootOfUnity (sheetOf edition1 (2 ∷ 4 ∷ [])) ≡ 1728404513
   -- the levels of the sheet of the transcript by hand, and those of a sheet with k = 4 and M = 2
-  pub level·0 : firstLevel (sheetOf sheetWords) ≡ level0
-  pub level·1 : laterLevels (sheetOf sheetWords) ≡ level1 ∷ []
-  pub levels·later : laterLevels (sheetOf (1 ∷ 128 ∷ 64 ∷ 4 ∷ 2 ∷ 1 ∷ 3 ∷ 2 ∷ 5 ∷ 0 ∷ 0 ∷ 0 ∷ []))
+  pub level·0 : firstLevel (sheetOf edition1 sheetWords) ≡ level0
+  pub level·1 : laterLevels (sheetOf edition1 sheetWords) ≡ level1 ∷ []
+  pub levels·later : laterLevels (sheetOf edition1 (1 ∷ 128 ∷ 64 ∷ 4 ∷ 2 ∷ 1 ∷ 3 ∷ 2 ∷ 5 ∷ 0 ∷ 0 ∷ 0 ∷ []))
       ≡ record { number = 1; size = 64; degree = 16; fold = 4; repetitions = 2 }
       ∷ record { number = 2; size = 32; degree = 4; fold = 4; repetitions = 5 } ∷ []
-  pub words·due : wordsDue (sheetOf (1 ∷ 128 ∷ 64 ∷ 4 ∷ 2 ∷ 1 ∷ 3 ∷ 2 ∷ 5 ∷ 0 ∷ 0 ∷ 0 ∷ [])) ≡ 256
+  pub words·due : wordsDue edition1 (sheetOf edition1 (1 ∷ 128 ∷ 64 ∷ 4 ∷ 2 ∷ 1 ∷ 3 ∷ 2 ∷ 5 ∷ 0 ∷ 0 ∷ 0 ∷ [])) ≡ 256
   -- domain 0 is the whole subgroup, ω first and 1 last; domain 2 of n0 = 16 has the exponents 1, 5, 9 and 13
   pub domain·0 : domain F₁₇ 3 level0 ≡ 3 ∷ 9 ∷ 10 ∷ 13 ∷ 5 ∷ 15 ∷ 11 ∷ 16 ∷ 14 ∷ 8 ∷ 7 ∷ 4 ∷ 12 ∷ 2 ∷ 6 ∷ 1 ∷ []
   pub domain·2 : domain F₁₇ 3 (record { number = 2; size = 4; degree = 2; fold = 2; repetitions = 1 }) ≡ 3 ∷ 5 ∷ 14 ∷ 12 ∷ []

@@ -3,6 +3,7 @@ use Prim.Native.Nat.{ℕ}
 use mathlib.Core.Path.{_≡_, refl}
 use mathlib.Core.List.{List, [], _∷_}
 use lib.ListN.{set}
+use Rattle.definition.specs.Sheet.{edition1}
 use Rattle.definition.specs.Block.{fileOf}
 use Rattle.definition.specs.Verify.{verify}
 use Rattle.definition.specs.Prover.{honestStream}
@@ -56,11 +57,11 @@ stream₂ =
 
 pub record LargeFieldCases : Type 0 where
   -- the prover's stream is accepted with all reads; a wrong final coefficient, and a wrong word of table 0 that a shift coin reads, are refused
-  pub stream·1 : honestStream sheet₁ coefficients₁ coins₁ ≡ stream₁
+  pub stream·1 : honestStream edition1 sheet₁ coefficients₁ coins₁ ≡ stream₁
   pub accepts·1 : verify (fileOf stream₁) ≡ accept 8
   pub final·wrong·1 : verify (fileOf (set stream₁ 43 32412)) ≡ refuse 9 0 6
   pub table·0·wrong·1 : verify (fileOf (set stream₁ 15 22287)) ≡ refuse 9 0 6
-  pub stream·2 : honestStream sheet₂ coefficients₂ coins₂ ≡ stream₂
+  pub stream·2 : honestStream edition1 sheet₂ coefficients₂ coins₂ ≡ stream₂
   pub accepts·2 : verify (fileOf stream₂) ≡ accept 16
   pub final·wrong·2 : verify (fileOf (set stream₂ 67 1507071306)) ≡ refuse 9 0 12
   pub table·0·wrong·2 : verify (fileOf (set stream₂ 15 1827330068)) ≡ refuse 9 0 12

@@ -1,5 +1,5 @@
 -- Lists and tests: the few functions that the library lacks.
-use Prim.Native.Nat.{ℕ, zero, suc}
+use Prim.Native.Nat.{ℕ, zero, suc, _*_}
 use mathlib.Core.Bool.{Bool, true, false, _||_}
 use mathlib.Core.List.{List, [], _∷_}
 use mathlib.Core.Option.{Option, none, some}
@@ -26,3 +26,15 @@ unfoldable pub firstTrue : ℕ → List Bool → Option ℕ
 firstTrue from [] = none
 firstTrue from (true ∷ bs) = some from
 firstTrue from (false ∷ bs) = firstTrue (suc from) bs
+
+-- the first of some numbers whose test is true
+unfoldable pub firstOf : List ℕ → List Bool → Option ℕ
+firstOf [] bs = none
+firstOf (n ∷ ns) [] = none
+firstOf (n ∷ ns) (true ∷ bs) = some n
+firstOf (n ∷ ns) (false ∷ bs) = firstOf ns bs
+
+-- the product of a list
+unfoldable pub productOf : List ℕ → ℕ
+productOf [] = 1
+productOf (x ∷ xs) = x * productOf xs

@@ -1,4 +1,4 @@
--- The load: a thousand runs that a seed fixes (02, CR 2).
+-- The load: a thousand runs that a seed fixes (02, CR 2), with sheets of edition 1.
 use Prim.Native.Nat.{ℕ, zero, suc, _+_, _*_, _/_, _%_, _^_}
 use mathlib.Core.Bool.{Bool, true, false, cond}
 use mathlib.Core.List.{List, [], _∷_, _++_, map, flatMap}
@@ -7,7 +7,7 @@ use lib.Dec.{eqb}
 use lib.ListN.{length, getD, take, replicate}
 use Rattle.definition.specs.Lists.{range}
 use Rattle.definition.specs.Field.{knownField}
-use Rattle.definition.specs.Sheet.{Sheet, sheetOf, sheetRules, sheetLength}
+use Rattle.definition.specs.Sheet.{edition1, Sheet, sheetOf, sheetRules, sheetLength}
 use Rattle.definition.specs.Layout.{Kind, message, coin, out, index, layout, coinKinds, limit}
 use Rattle.definition.specs.Block.{wordOf, fileOf}
 use Rattle.definition.specs.Verdict.{refused, Verdict}
@@ -40,7 +40,7 @@ keep test (x ∷ xs) = cond (test x) (x ∷ keep test xs) (keep test xs)
 -- Does the rule of the next sheet word permit x, given the words before it? The field is one of 0, 1 and 2.
 unfoldable pub permits : List ℕ → ℕ → Bool
 permits [] x = knownField x
-permits (a ∷ w) x = getD (sheetRules (a ∷ w ++ (x ∷ []))) (length (a ∷ w)) false
+permits (a ∷ w) x = getD (sheetRules edition1 (a ∷ w ++ (x ∷ []))) (length (a ∷ w)) false
 
 -- 0 to 48 and 64, 128, .., 4096: no rule of a sheet word permits another value
 unfoldable pub candidates : List ℕ
@@ -65,7 +65,7 @@ drawWords (suc count) w v =
     (drawWords count (w ++ (getD xs (step v % length xs) 0 ∷ [])) (step v))
 
 unfoldable pub drawSheet : ℕ → Drawn (List ℕ)
-drawSheet v = drawWords sheetLength [] v
+drawSheet v = drawWords (sheetLength edition1) [] v
 
 -- An out coin, picked among all elements: inside its domain it is drawn again, at most so many times, then taken as 0.
 unfoldable pub drawOut : Sheet → Kind → ℕ → ℕ → Drawn ℕ
@@ -97,7 +97,7 @@ pub record Order : Type 0 where
 unfoldable pub drawOrder : ℕ → Drawn Order
 drawOrder v =
     let w = drawSheet v in
-    let h = sheetOf (w .value) in
+    let h = sheetOf edition1 (w .value) in
     let f = drawKinds h (replicate (h .degree) message) (w .next) in
     let c = drawKinds h (coinKinds (layout h)) (f .next) in
     record { value = record { sheet = w .value; coefficients = f .value; coins = c .value }; next = c .next }
@@ -109,7 +109,7 @@ orders (suc count) v = drawOrder v .value ∷ orders count (drawOrder v .next)
 
 -- the verdict on a run's honest file
 unfoldable pub verdictOn : Order → Verdict
-verdictOn o = verify (fileOf (honestStream (o .sheet) (o .coefficients) (o .coins)))
+verdictOn o = verify (fileOf (honestStream edition1 (o .sheet) (o .coefficients) (o .coins)))
 
 -- the number of runs
 abbrev pub loadRuns : ℕ

@@ -4,7 +4,7 @@ use mathlib.Core.List.{[], _∷_, map}
 use Rattle.definition.specs.Line.{decimalWithin, decimal, outcomeText, lineOf, refusalLine}
 use Rattle.definition.specs.Load.{step, drawBelow, keep, permits, candidates, permitted, workedSheet, drawWords, drawSheet, drawOut, drawKind, drawKinds, drawOrder, orders, verdictOn, loadLines, seedOf, loadOutput}
 use Rattle.definition.specs.Layout.{out}
-use Rattle.definition.specs.Sheet.{Level, sheetOf}
+use Rattle.definition.specs.Sheet.{edition1, Level, sheetOf}
 use Rattle.definition.specs.WorkedTranscript.{definitions, accept, refuse, sheetWords}
 
 unfoldable pub loadDefinitions : Unit {0}
@@ -44,8 +44,8 @@ pub record LoadCases : Type 0 where
   -- the worked sheet, that of the transcript by hand
   pub sheet·worked : workedSheet ≡ sheetWords
   -- an out coin of the worked sheet's round 1: the first draw, 3, lies in domain 1, and the second, 8, does not; with no draw left it is 0
-  pub again : drawKind (sheetOf sheetWords) (out round) 3 ≡ record { value = 8; next = 201886211 }
-  pub again·none·left : drawOut (sheetOf sheetWords) (out round) 0 3 ≡ record { value = 0; next = 811107 }
+  pub again : drawKind (sheetOf edition1 sheetWords) (out round) 3 ≡ record { value = 8; next = 201886211 }
+  pub again·none·left : drawOut (sheetOf edition1 sheetWords) (out round) 0 3 ≡ record { value = 0; next = 811107 }
   -- modulo 1 every draw is a point of the domain: one draw and 64 more, which is 65 steps
   pub again·64 : drawKind (record { prime = 1; generator = 1; size = 2; degree = 2; folds = []; outCoins = 1; repetitions = [] }) (out round) 1
       ≡ record { value = 0; next = 244103520 }

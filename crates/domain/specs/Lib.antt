@@ -4,3 +4,4 @@ pub mod Points
 pub mod OutCoins
 pub mod Filled
 pub mod Parts
+pub mod OfSheet

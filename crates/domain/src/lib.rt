@@ -4,9 +4,6 @@ ghost use mathlib.Core.Path.{_≡_};
 ghost use Prim.Native.Nat.{ℕ, _+_, _-_, _*_, _≤_, _<_};
 ghost use lib.ListN.{length, getD, take};
 ghost use Rattle.definition.specs.Field.{Field, generatorOf, fieldOf, power};
-ghost use Rattle.definition.specs.Reading.{sheetTest};
-ghost use Rattle.definition.specs.Sheet.{rootOfUnity, sheetOf};
-ghost use Rattle.definition.specs.Verdict.{accepted};
 ghost use Rattle.outcome.specs.Meaning.{placeOf};
 ghost use Rattle.powers.specs.Root.{root};
 ghost use Rattle.domain.specs.OutCoins.{FirstInside};
@@ -88,13 +85,13 @@ pub fn points(field: u32, size: usize, out: &mut [u32])
     }
 }
 
-// The points of domain 0 of a sheet w that passes, in the first of the places lent, which are enough. The answer is their number.
+// The points of domain 0 of a sheet w of either edition, which go by its words 0 and 1, in the first of the places lent, which are enough. The answer is their number.
 pub fn of_sheet_within(w: &[u32], pw: &mut [u32]) -> usize
-    requires { ⌜ (12 ≤ length (now w)) × (sheetTest (now w) ≡ accepted) ⌝ }
+    requires { ⌜ (12 ≤ length (now w)) × (Fitting (getD (now w) 0 0) (getD (now w) 1 0)) ⌝ }
     requires { ⌜ getD (now w) 1 0 ≤ length (now pw) ⌝ }
     ensures { λ r. ⌜ (r ≡ getD (now (w .entry)) 1 0) × (r ≤ 4096) ⌝ }
     ensures { λ r.
-        ⌜ (Powers (getD (now (w .entry)) 0 0) (rootOfUnity (sheetOf (now (w .entry)))) (take r (now (pw .exit)))) × (length (take r (now (pw .exit))) ≡ getD (now (w .entry)) 1 0) ⌝ }
+        ⌜ (Powers (getD (now (w .entry)) 0 0) (root (getD (now (w .entry)) 0 0) (getD (now (w .entry)) 1 0)) (take r (now (pw .exit)))) × (length (take r (now (pw .exit))) ≡ getD (now (w .entry)) 1 0) ⌝ }
 {
     let size = w[1] as usize;
     points(w[0], size, &mut pw[..size]);
@@ -103,11 +100,11 @@ pub fn of_sheet_within(w: &[u32], pw: &mut [u32]) -> usize
 
 // The same, with places for the points of every sheet.
 pub fn of_sheet(w: &[u32], pw: &mut [u32]) -> usize
-    requires { ⌜ (12 ≤ length (now w)) × (sheetTest (now w) ≡ accepted) ⌝ }
+    requires { ⌜ (12 ≤ length (now w)) × (Fitting (getD (now w) 0 0) (getD (now w) 1 0)) ⌝ }
     requires { ⌜ length (now pw) ≡ 4096 ⌝ }
     ensures { λ r. ⌜ (r ≡ getD (now (w .entry)) 1 0) × (r ≤ 4096) ⌝ }
     ensures { λ r.
-        ⌜ (Powers (getD (now (w .entry)) 0 0) (rootOfUnity (sheetOf (now (w .entry)))) (take r (now (pw .exit)))) × (length (take r (now (pw .exit))) ≡ getD (now (w .entry)) 1 0) ⌝ }
+        ⌜ (Powers (getD (now (w .entry)) 0 0) (root (getD (now (w .entry)) 0 0) (getD (now (w .entry)) 1 0)) (take r (now (pw .exit)))) × (length (take r (now (pw .exit))) ≡ getD (now (w .entry)) 1 0) ⌝ }
 {
     of_sheet_within(w, pw)
 }

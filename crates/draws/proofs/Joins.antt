@@ -8,12 +8,13 @@ use lib.ListN.{length, getD, replicate, length-replicate}
 use Rattle.definition.specs.Field.{primeOf}
 use Rattle.definition.specs.Layout.{Kind, coin, coinKinds, index, layout, message, out}
 use Rattle.definition.specs.Load.{Drawn, drawKinds}
-use Rattle.definition.specs.Sheet.{Sheet, sheetOf, shiftCount}
+use Rattle.definition.specs.Sheet.{Sheet, edition1, sheetOf, shiftCount}
 use Rattle.completeness.specs.CoinsAfter.{kinds-all, kinds-count, kinds-last, kinds-next, kindsAfter, laterKinds, outKinds}
-use Rattle.completeness.specs.Numbered.{levelOf, outsOf, roundsOf}
-use Rattle.completeness.specs.SheetLevels.{enough-words}
+use Rattle.completeness.specs.Lawful.{lawful}
+use Rattle.completeness.specs.LevelsByNumber.{Paired}
+use Rattle.completeness.specs.Numbered.{levelOf}
 use Rattle.generator.specs.Draws.{drawMany, indices-drawn, messages-drawn}
-use Rattle.draws.specs.AtLevel.{AtLevel}
+use Rattle.draws.specs.AtLevel.{AtLevel, rounds-are, times-are}
 use Rattle.draws.specs.Kinds.{drawn-both, one-coin, two-coins}
 
 -- what is drawn and the generator as it then is, against what the definition draws
@@ -41,56 +42,68 @@ module _ (field v : ℕ) {p : ℕ} (ep : p ≡ primeOf field) (h : Sheet) (eh : 
       drawn-both h (coin ∷ coin ∷ []) (replicate count (index limit)) v e (two-elements en first)
       (second ∙ ap (λ (j : ℕ). drawMany limit j next) em ∙ sym (indices-drawn h limit count next))
 
-module _ (w : List ℕ) (i v : ℕ) where
+module _ {w pw : List ℕ} {i scale : ℕ} (a : AtLevel w pw i scale) (v : ℕ) where
+  abbrev h : Sheet
+  h = sheetOf edition1 w
+
   -- the coins of round i + 1
-  pub round-coins : {n m all limit : ℕ} {words front back : List ℕ} {next last : ℕ} → words ≡ front ++ back → all ≡ outsOf w + 2 + getD w (6 + i) 0 →
-      n ≡ outsOf w → m ≡ all - outsOf w → limit ≡ shiftCount (levelOf w i) →
-      Is front next (drawKinds (sheetOf w) (replicate n (out (levelOf w (i + 1)))) v) →
-      Is back last (drawKinds (sheetOf w) (coin ∷ coin ∷ replicate (m - 2) (index limit)) next) →
-      Is words last (drawKinds (sheetOf w) (outKinds w i ++ laterKinds w i) v)
+  pub round-coins : {n m all limit : ℕ} {words front back : List ℕ} {next last : ℕ} → words ≡ front ++ back → all ≡ getD w 5 0 + 2 + getD w (6 + i) 0 →
+      n ≡ getD w 5 0 → m ≡ all - getD w 5 0 → limit ≡ shiftCount (levelOf (sheetOf edition1 w) i) →
+      Is front next (drawKinds (sheetOf edition1 w) (replicate n (out (levelOf (sheetOf edition1 w) (i + 1)))) v) →
+      Is back last (drawKinds (sheetOf edition1 w) (coin ∷ coin ∷ replicate (m - 2) (index limit)) next) →
+      Is words last (drawKinds (sheetOf edition1 w) (outKinds (sheetOf edition1 w) i ++ laterKinds (sheetOf edition1 w) i) v)
+  unfolding sheetOf
   round-coins {m = m} {next = next} e ea en em el first second =
-      let et : m - 2 ≡ getD w (6 + i) 0 = omega arith in
-      drawn-both (sheetOf w) (outKinds w i) (laterKinds w i) v e
-      (first ∙ ap (λ (j : ℕ). drawKinds (sheetOf w) (replicate j (out (levelOf w (i + 1)))) v) en)
-      (second ∙ (λ x. drawKinds (sheetOf w) (coin ∷ coin ∷ replicate (et x) (index (el x))) next))
+      let et : m - 2 ≡ levelOf h i .repetitions = omega (arith, times-are a) in
+      drawn-both h (outKinds h i) (laterKinds h i) v e
+      (first ∙ ap (λ (j : ℕ). drawKinds h (replicate j (out (levelOf h (i + 1)))) v) en)
+      (second ∙ (λ x. drawKinds h (coin ∷ coin ∷ replicate (et x) (index (el x))) next))
 
   -- those after fold coin i: a round's and those after it,
-  pub coins-more : {words front back : List ℕ} {next last : ℕ} → i < roundsOf w → words ≡ front ++ back →
-      Is front next (drawKinds (sheetOf w) (outKinds w i ++ laterKinds w i) v) → Is back last (drawKinds (sheetOf w) (kindsAfter w (i + 1)) next) →
-      Is words last (drawKinds (sheetOf w) (kindsAfter w i) v)
+  pub coins-more : {words front back : List ℕ} {next last : ℕ} → i < getD w 4 0 → words ≡ front ++ back →
+      Is front next (drawKinds (sheetOf edition1 w) (outKinds (sheetOf edition1 w) i ++ laterKinds (sheetOf edition1 w) i) v) →
+      Is back last (drawKinds (sheetOf edition1 w) (kindsAfter (sheetOf edition1 w) (i + 1)) next) → Is words last (drawKinds (sheetOf edition1 w) (kindsAfter (sheetOf edition1 w) i) v)
   coins-more more e first second =
-      drawn-both (sheetOf w) (outKinds w i ++ laterKinds w i) (kindsAfter w (i + 1)) v e first second
-      ∙ ap (λ (ks : List Kind). drawKinds (sheetOf w) ks v) (append-assoc (outKinds w i) (laterKinds w i) (kindsAfter w (i + 1)) ∙ sym (kinds-next w i more))
+      drawn-both h (outKinds h i ++ laterKinds h i) (kindsAfter h (i + 1)) v e first second
+      ∙ ap (λ (ks : List Kind). drawKinds h ks v) (append-assoc (outKinds h i) (laterKinds h i) (kindsAfter h (i + 1)) ∙ sym (kinds-next h i (omega (arith, rounds-are a))))
 
   -- or the final indices
-  pub coins-last : {n limit : ℕ} {words : List ℕ} {last : ℕ} → i ≡ roundsOf w → n ≡ length (kindsAfter w i) → limit ≡ shiftCount (levelOf w i) →
-      Is words last (drawMany limit n v) → Is words last (drawKinds (sheetOf w) (kindsAfter w i) v)
+  pub coins-last : {n limit : ℕ} {words : List ℕ} {last : ℕ} → i ≡ getD w 4 0 → n ≡ length (kindsAfter (sheetOf edition1 w) i) → limit ≡ shiftCount (levelOf (sheetOf edition1 w) i) →
+      Is words last (drawMany limit n v) → Is words last (drawKinds (sheetOf edition1 w) (kindsAfter (sheetOf edition1 w) i) v)
   coins-last {n} {limit} e en el d =
-      let t = getD w (6 + i) 0 in
-      let c = shiftCount (levelOf w i) in
-      let k = kinds-last w i (omega arith) in
+      let t = levelOf h i .repetitions in
+      let c = shiftCount (levelOf h i) in
+      let k = kinds-last h i (omega (arith, rounds-are a)) in
       let et : n ≡ t = en ∙ ap length k ∙ length-replicate t (index c) in
-      d ∙ (λ x. drawMany (el x) (et x) v) ∙ sym (indices-drawn (sheetOf w) c t v) ∙ ap (λ (ks : List Kind). drawKinds (sheetOf w) ks v) (sym k)
+      d ∙ (λ x. drawMany (el x) (et x) v) ∙ sym (indices-drawn h c t v) ∙ ap (λ (ks : List Kind). drawKinds h ks v) (sym k)
 
 -- before round i + 1, which has `count` of the n coins still to be drawn
 pub record Onward (w : List ℕ) (i n count : ℕ) : Type 0 where
-  pub more : i < roundsOf w
+  pub more : i < getD w 4 0
   pub within : count ≤ n
-  pub left : n - count ≡ length (kindsAfter w (i + 1))
+  pub left : n - count ≡ length (kindsAfter (sheetOf edition1 w) (i + 1))
 
 pub not-last : (i m : ℕ) → i ≤ m → (i ≡ m → ⊥) → i < m
 not-last i m h e = omega arith
 
-pub onward : (w : List ℕ) (i : ℕ) {n count : ℕ} → i < roundsOf w → n ≡ length (kindsAfter w i) → count ≡ outsOf w + 2 + getD w (6 + i) 0 → Onward w i n count
-onward w i more en ec = let c = kinds-count w i more in record { more = more; within = omega (arith, c); left = omega (arith, c) }
+pub onward : {w pw : List ℕ} {i scale n count : ℕ} → AtLevel w pw i scale → i < getD w 4 0 → n ≡ length (kindsAfter (sheetOf edition1 w) i) → count ≡ getD w 5 0 + 2 + getD w (6 + i) 0 →
+    Onward w i n count
+unfolding sheetOf
+onward {w} {i = i} a more en ec =
+    let c = kinds-count (sheetOf edition1 w) i (omega (arith, rounds-are a)) in
+    record { more = more; within = omega (arith, c, times-are a); left = omega (arith, c, times-are a) }
 
 -- all coins: fold coin 0, and those after it
-pub all-counted : {w pw : List ℕ} {n : ℕ} → AtLevel w pw 0 1 → n ≡ length (coinKinds (layout (sheetOf w))) → n ≡ 1 + length (kindsAfter w 0)
-all-counted {w} a e = omega (arith, ap length (kinds-all w (enough-words w (a .long) (a .passed))))
+paired : {w pw : List ℕ} → AtLevel w pw 0 1 → Paired (sheetOf edition1 w)
+paired {w} a = lawful edition1 w (omega (arith, a .long)) (a .passed) .paired
+
+pub all-counted : {w pw : List ℕ} {n : ℕ} → AtLevel w pw 0 1 → n ≡ length (coinKinds (layout (sheetOf edition1 w))) → n ≡ 1 + length (kindsAfter (sheetOf edition1 w) 0)
+all-counted {w} a e = omega (arith, ap length (kinds-all (sheetOf edition1 w) (paired a)))
 
 pub coins-all : (w pw : List ℕ) (v : ℕ) {words front back : List ℕ} {next last : ℕ} → AtLevel w pw 0 1 → words ≡ front ++ back →
-    Is front next (drawKinds (sheetOf w) (coin ∷ []) v) → Is back last (drawKinds (sheetOf w) (kindsAfter w 0) next) →
-    Is words last (drawKinds (sheetOf w) (coinKinds (layout (sheetOf w))) v)
+    Is front next (drawKinds (sheetOf edition1 w) (coin ∷ []) v) → Is back last (drawKinds (sheetOf edition1 w) (kindsAfter (sheetOf edition1 w) 0) next) →
+    Is words last (drawKinds (sheetOf edition1 w) (coinKinds (layout (sheetOf edition1 w))) v)
 coins-all w pw v a e first second =
-    drawn-both (sheetOf w) (coin ∷ []) (kindsAfter w 0) v e first second
-    ∙ ap (λ (ks : List Kind). drawKinds (sheetOf w) ks v) (sym (kinds-all w (enough-words w (a .long) (a .passed))))
+    let h = sheetOf edition1 w in
+    drawn-both h (coin ∷ []) (kindsAfter h 0) v e first second
+    ∙ ap (λ (ks : List Kind). drawKinds h ks v) (sym (kinds-all h (paired a)))

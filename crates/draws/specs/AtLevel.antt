@@ -1,4 +1,4 @@
--- Where the draws of the coins stand: at level i of a sheet w that passes, with the table of the points of its domain 0.
+-- Where the draws of the coins stand: at level i of a sheet w of edition 1 that passes, with the table of the points of its domain 0.
 use Prim.Native.Nat.{ℕ, _+_, _*_, _/_, _^_, _≤_, _<_}
 use native.Mathlib.Nat.{mul-comm, pow-suc}
 use native.Mathlib.Numerals.{add-one}
@@ -10,31 +10,34 @@ use lib.Pow.{pow-mono, pow-pos}
 use Rattle.definition.specs.Layout.{out}
 use Rattle.definition.specs.Load.{Drawn, drawOut}
 use Rattle.definition.specs.Reading.{sheetTest}
-use Rattle.definition.specs.Sheet.{rootOfUnity, sheetOf, shiftCount}
+use Rattle.definition.specs.Sheet.{Level, edition1, rootOfUnity, sheetOf, shiftCount}
 use Rattle.definition.specs.Verdict.{accepted}
+use Rattle.completeness.specs.EditionOne.{level-is}
+use Rattle.completeness.specs.Lawful.{lawful, rounds-word, times-word}
 use Rattle.completeness.specs.LevelSizes.{positive-sizes}
-use Rattle.completeness.specs.Numbered.{levelOf, outsOf, roundsOf}
+use Rattle.completeness.specs.Numbered.{levelOf, roundsOf}
+use Rattle.completeness.specs.PlainSheet.{fold-one}
 use Rattle.completeness.specs.SheetLevels.{sized}
+use Rattle.completeness.specs.SheetRules.{first-fold, folding-large, front-words, rounds-most, small-repetitions}
 use Rattle.domain.specs.Powers.{Powers}
-use Rattle.sheet.specs.Bounds.{ranges}
 use Rattle.draws.specs.OutCoin.{OutDrawn}
 
 -- pw is the table of points, and scale is 2^i
 pub record AtLevel (w pw : List ℕ) (i scale : ℕ) : Type 0 where
   pub long : length w ≡ 12
-  pub passed : sheetTest w ≡ accepted
-  pub powers : Powers (getD w 0 0) (rootOfUnity (sheetOf w)) pw
+  pub passed : sheetTest edition1 w ≡ accepted
+  pub powers : Powers (getD w 0 0) (rootOfUnity (sheetOf edition1 w)) pw
   pub points : length pw ≡ getD w 1 0
-  pub level : i ≤ roundsOf w
+  pub level : i ≤ getD w 4 0
   pub scaled : scale ≡ 2 ^ i
 
-pub first-level : (w pw : List ℕ) → length w ≡ 12 → sheetTest w ≡ accepted → Powers (getD w 0 0) (rootOfUnity (sheetOf w)) pw → length pw ≡ getD w 1 0 → AtLevel w pw 0 1
+pub first-level : (w pw : List ℕ) → length w ≡ 12 → sheetTest edition1 w ≡ accepted → Powers (getD w 0 0) (rootOfUnity (sheetOf edition1 w)) pw → length pw ≡ getD w 1 0 → AtLevel w pw 0 1
 first-level w pw long passed powers points = record { long = long; passed = passed; powers = powers; points = points; level = omega arith; scaled = refl }
 
 -- what the words of the sheet are at most, and what is not 0
 pub record Bounded (w : List ℕ) (i scale points : ℕ) : Type 0 where
-  pub rounds : roundsOf w ≤ 5
-  pub outs : outsOf w ≤ 2
+  pub rounds : getD w 4 0 ≤ 5
+  pub outs : getD w 5 0 ≤ 2
   pub repetitions : getD w (6 + i) 0 ≤ 48
   pub points-most : points ≤ 4096
   pub fold : 0 < getD w 3 0
@@ -43,28 +46,44 @@ pub record Bounded (w : List ℕ) (i scale points : ℕ) : Type 0 where
   pub shifts : 0 < points / scale / getD w 3 0
 
 module _ {w pw : List ℕ} {i scale : ℕ} (a : AtLevel w pw i scale) where
+  long-enough : 12 ≤ length w
+  long-enough = omega (arith, a .long)
+
+  -- M is word 4, and t_i word 6 + i
+  pub rounds-are : roundsOf (sheetOf edition1 w) ≡ getD w 4 0
+  rounds-are = rounds-word edition1 w long-enough (a .passed)
+
+  pub times-are : levelOf (sheetOf edition1 w) i .repetitions ≡ getD w (6 + i) 0
+  times-are = times-word edition1 w long-enough (a .passed) i (a .level)
+
+  few : i < 6
+  few = omega (arith, a .level, rounds-most edition1 w (a .passed))
+
   -- n_i/k by the table
-  pub shifts-are : length pw / scale / getD w 3 0 ≡ shiftCount (levelOf w i)
-  unfolding shiftCount
-  shifts-are = λ x. a .points x / a .scaled x / getD w 3 0
+  pub shifts-are : length pw / scale / getD w 3 0 ≡ shiftCount (levelOf (sheetOf edition1 w) i)
+  unfolding shiftCount sheetOf
+  shifts-are =
+      let k = level-is edition1 w long-enough (a .passed) i (a .level) in
+      (λ x. a .points x / a .scaled x / sym (fold-one w i few) x) ∙ sym (ap (λ (l : Level). l .size / l .fold) k)
 
   pub bounded : Bounded w i scale (length pw)
   unfolding shiftCount
   bounded =
-      let r = ranges w (a .passed) in
-      let l : i ≤ 5 = omega (arith, a .level, r .rounds) in
+      let f = front-words edition1 w (a .passed) in
+      let l : i ≤ 5 = omega arith in
+      let z = positive-sizes _ (levelOf (sheetOf edition1 w) i) (sized (sheetOf edition1 w) (lawful edition1 w long-enough (a .passed)) i (omega (arith, a .level, rounds-are))) in
       record {
-        rounds = r .rounds;
-        outs = r .outCoins;
-        repetitions = r .repetitions i (omega arith);
-        points-most = omega (arith, a .points, r .size);
-        fold = omega (arith, r .fold);
+        rounds = rounds-most edition1 w (a .passed);
+        outs = f .5;
+        repetitions = small-repetitions edition1 w (a .passed) i few;
+        points-most = omega (arith, a .points, f .1);
+        fold = omega (arith, folding-large w (getD w 3 0) (first-fold edition1 w (a .passed)));
         some = omega (arith, a .scaled, pow-pos i);
         small = omega (arith, a .scaled, pow-mono l);
-        shifts = omega (arith, shifts-are, positive-sizes _ (levelOf w i) (sized w (a .long) (a .passed) i (a .level)) .0);
+        shifts = omega (arith, shifts-are, z .0);
       }
 
-  pub next-level : i < roundsOf w → AtLevel w pw (i + 1) (2 * scale)
+  pub next-level : i < getD w 4 0 → AtLevel w pw (i + 1) (2 * scale)
   next-level more = record {
     long = a .long;
     passed = a .passed;
@@ -75,6 +94,6 @@ module _ {w pw : List ℕ} {i scale : ℕ} (a : AtLevel w pw i scale) where
   }
 
   -- an out coin of the level is the definition's
-  pub out-drawn : (v : ℕ) {d : Drawn ℕ} → OutDrawn (getD w 0 0) pw scale v d → d ≡ drawOut (sheetOf w) (out (levelOf w i)) 64 v
+  pub out-drawn : (v : ℕ) {d : Drawn ℕ} → OutDrawn (getD w 0 0) pw scale v d → d ≡ drawOut (sheetOf edition1 w) (out (levelOf (sheetOf edition1 w) i)) 64 v
   unfolding sheetOf
-  out-drawn v drawn = drawn (sheetOf w) (levelOf w i) refl (a .powers) (sym (a .scaled)) (λ x. sym (a .points) x / sym (a .scaled) x)
+  out-drawn v drawn = drawn (sheetOf edition1 w) (levelOf (sheetOf edition1 w) i) refl (a .powers) (sym (a .scaled)) (λ x. sym (a .points) x / sym (a .scaled) x)

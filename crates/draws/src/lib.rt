@@ -10,10 +10,10 @@ ghost use Rattle.definition.specs.Field.{primeOf};
 ghost use Rattle.definition.specs.Layout.{coin, coinKinds, index, layout, message, out as outOf};
 ghost use Rattle.definition.specs.Load.{drawKinds};
 ghost use Rattle.definition.specs.Reading.{sheetTest};
-ghost use Rattle.definition.specs.Sheet.{Sheet, sheetOf};
+ghost use Rattle.definition.specs.Sheet.{Sheet, edition1, sheetOf};
 ghost use Rattle.definition.specs.Verdict.{accepted};
 ghost use Rattle.completeness.specs.CoinsAfter.{kindsAfter, laterKinds, outKinds};
-ghost use Rattle.completeness.specs.Numbered.{levelOf, outsOf, roundsOf};
+ghost use Rattle.completeness.specs.Numbered.{levelOf};
 ghost use Rattle.draws.specs.AtLevel.{AtLevel};
 ghost use Rattle.draws.specs.OutCoin.{OutDrawn};
 
@@ -63,7 +63,7 @@ fn out_coins(
 ) -> Generator
     requires { ⌜ AtLevel (now w) (now pw) level scale ⌝ }
     ensures { λ r.
-        ⌜ record { value = now (out .exit); next = r .v } ≡ drawKinds (sheetOf (now (w .entry))) (replicate (length (now (out .entry))) (outOf (levelOf (now (w .entry)) level))) (generator .v) ⌝ }
+        ⌜ record { value = now (out .exit); next = r .v } ≡ drawKinds (sheetOf edition1 (now (w .entry))) (replicate (length (now (out .entry))) (outOf (levelOf (sheetOf edition1 (now (w .entry))) level))) (generator .v) ⌝ }
 {
     let field = w[0];
     let mut current = generator;
@@ -104,10 +104,10 @@ fn round(
     generator: Generator,
     out: &mut [u32],
 ) -> Generator
-    requires { ⌜ (AtLevel (now w) (now pw) level scale) × (level < roundsOf (now w)) ⌝ }
-    requires { ⌜ length (now out) ≡ outsOf (now w) + 2 + getD (now w) (6 + level) 0 ⌝ }
+    requires { ⌜ (AtLevel (now w) (now pw) level scale) × (level < getD (now w) 4 0) ⌝ }
+    requires { ⌜ length (now out) ≡ getD (now w) 5 0 + 2 + getD (now w) (6 + level) 0 ⌝ }
     ensures { λ r.
-        ⌜ record { value = now (out .exit); next = r .v } ≡ drawKinds (sheetOf (now (w .entry))) (outKinds (now (w .entry)) level ++ laterKinds (now (w .entry)) level) (generator .v) ⌝ }
+        ⌜ record { value = now (out .exit); next = r .v } ≡ drawKinds (sheetOf edition1 (now (w .entry))) (outKinds (sheetOf edition1 (now (w .entry))) level ++ laterKinds (sheetOf edition1 (now (w .entry))) level) (generator .v) ⌝ }
 {
     let field = w[0];
     let s = w[5] as usize;
@@ -135,9 +135,9 @@ fn rest(
     out: &mut [u32],
 ) -> Generator
     requires { ⌜ AtLevel (now w) (now pw) level scale ⌝ }
-    requires { ⌜ length (now out) ≡ length (kindsAfter (now w) level) ⌝ }
+    requires { ⌜ length (now out) ≡ length (kindsAfter (sheetOf edition1 (now w)) level) ⌝ }
     ensures { λ r.
-        ⌜ record { value = now (out .exit); next = r .v } ≡ drawKinds (sheetOf (now (w .entry))) (kindsAfter (now (w .entry)) level) (generator .v) ⌝ }
+        ⌜ record { value = now (out .exit); next = r .v } ≡ drawKinds (sheetOf edition1 (now (w .entry))) (kindsAfter (sheetOf edition1 (now (w .entry))) level) (generator .v) ⌝ }
 {
     if level == w[4] as usize {
         return generator.fill(shift_points(pw.len(), scale, w[3]), out);
@@ -150,9 +150,9 @@ fn rest(
 // Fold coin 0, and the coins after it.
 fn from_first(w: &[u32], pw: &[u32], generator: Generator, out: &mut [u32]) -> Generator
     requires { ⌜ AtLevel (now w) (now pw) 0 1 ⌝ }
-    requires { ⌜ length (now out) ≡ length (coinKinds (layout (sheetOf (now w)))) ⌝ }
+    requires { ⌜ length (now out) ≡ length (coinKinds (layout (sheetOf edition1 (now w)))) ⌝ }
     ensures { λ r.
-        ⌜ record { value = now (out .exit); next = r .v } ≡ drawKinds (sheetOf (now (w .entry))) (coinKinds (layout (sheetOf (now (w .entry))))) (generator .v) ⌝ }
+        ⌜ record { value = now (out .exit); next = r .v } ≡ drawKinds (sheetOf edition1 (now (w .entry))) (coinKinds (layout (sheetOf edition1 (now (w .entry))))) (generator .v) ⌝ }
 {
     let next = generator.fill(field::modulus(w[0]), &mut out[..1]);
     rest(w, pw, 0, 1, next, &mut out[1..])
@@ -160,10 +160,10 @@ fn from_first(w: &[u32], pw: &[u32], generator: Generator, out: &mut [u32]) -> G
 
 // The coins of a run in file order, with the table of points made for them.
 pub fn coins(w: &[u32], generator: Generator, out: &mut [u32]) -> Generator
-    requires { ⌜ (length (now w) ≡ 12) × (sheetTest (now w) ≡ accepted) ⌝ }
-    requires { ⌜ length (now out) ≡ length (coinKinds (layout (sheetOf (now w)))) ⌝ }
+    requires { ⌜ (length (now w) ≡ 12) × (sheetTest edition1 (now w) ≡ accepted) ⌝ }
+    requires { ⌜ length (now out) ≡ length (coinKinds (layout (sheetOf edition1 (now w)))) ⌝ }
     ensures { λ r.
-        ⌜ record { value = now (out .exit); next = r .v } ≡ drawKinds (sheetOf (now (w .entry))) (coinKinds (layout (sheetOf (now (w .entry))))) (generator .v) ⌝ }
+        ⌜ record { value = now (out .exit); next = r .v } ≡ drawKinds (sheetOf edition1 (now (w .entry))) (coinKinds (layout (sheetOf edition1 (now (w .entry))))) (generator .v) ⌝ }
 {
     let mut pw = domain::points_room();
     let size = domain::of_sheet(w, &mut pw);

@@ -8,15 +8,15 @@ ghost use Rattle.definition.specs.Field.{primeField};
 ghost use Rattle.definition.specs.Prove.{encode};
 ghost use Rattle.definition.specs.Prover.{tableOf};
 ghost use Rattle.definition.specs.Reading.{sheetTest};
-ghost use Rattle.definition.specs.Sheet.{firstLevel, rootOfUnity, sheetOf};
+ghost use Rattle.definition.specs.Sheet.{edition1, firstLevel, rootOfUnity, sheetOf};
 ghost use Rattle.definition.specs.Verdict.{accepted};
 ghost use Rattle.outcome.specs.Meaning.{answerOf};
 
 // Table 0 of the coefficients f, for a sheet w that passes. A small one is spared the clearing of many places.
 fn first_table(w: &[u32], f: &[u32], out: &mut [u32])
-    requires { ⌜ (12 ≤ length (now w)) × (sheetTest (now w) ≡ accepted) ⌝ }
+    requires { ⌜ (12 ≤ length (now w)) × (sheetTest edition1 (now w) ≡ accepted) ⌝ }
     requires { ⌜ (length (now f) ≡ getD (now w) 2 0) × (length (now out) ≡ getD (now w) 1 0) ⌝ }
-    ensures { λ _. ⌜ now (out .exit) ≡ tableOf (primeField (sheetOf (now (w .entry)) .prime)) (rootOfUnity (sheetOf (now (w .entry)))) (firstLevel (sheetOf (now (w .entry)))) (now (f .entry)) ⌝ }
+    ensures { λ _. ⌜ now (out .exit) ≡ tableOf (primeField (sheetOf edition1 (now (w .entry)) .prime)) (rootOfUnity (sheetOf edition1 (now (w .entry)))) (firstLevel (sheetOf edition1 (now (w .entry)))) (now (f .entry)) ⌝ }
 {
     if w[1] <= 256 {
         let mut few = domain::few_points_room();

@@ -7,87 +7,106 @@ use mathlib.Core.List.{List, _++_}
 use mathlib.Core.Path.{_≡_, sym, ap, _∙_, subst}
 use lib.ListN.{length, getD, take, drop, length-drop}
 use lib.Seq.{take-all}
-use Rattle.completeness.specs.Numbered.{levelOf, outsOf, roundsOf}
+use Rattle.definition.specs.Sheet.{Edition, Sheet, sheetOf}
+use Rattle.completeness.specs.Numbered.{degreeOf, outsOf, roundsOf}
 use Rattle.honest_words.specs.Levels.{count-more, count-none, dealt-more, dealt-none, rest-more, rest-none}
-use Rattle.honest_words.specs.Sizes.{next-size, next-standing, one-fold, sizes}
-use Rattle.honest_words.specs.Standing.{DealtFrom, RestAfter, RoundDealt, Standing, correctedFrom, foldFrom, repetitionsOf, restCount, restFrom, roundCount, roundFrom}
-
-pub not-last : (i m : ℕ) → i ≤ m → (i ≡ m → ⊥) → i < m
-not-last i m h e = omega arith
+use Rattle.honest_words.specs.Sizes.{divided, multiplied, next-place, next-size, next-standing, numbers, sizes}
+use Rattle.honest_words.specs.Standing.{AtLevel, DealtFrom, RestAfter, RoundDealt, Standing, correctedFrom, foldAfter, foldOf, repetitionsOf, restCount, restFrom, roundCount, roundFrom}
 
 -- all that is left of a list
 pub all-left : (n : ℕ) (l : List ℕ) → take (length l - n) (drop n l) ≡ drop n l
 all-left n l = take-all (length l - n) (drop n l) (omega (arith, length-drop n l))
 
--- table 0's polynomial has a fold, and places for it
-pub first-fold : (w pw : List ℕ) (count d room : ℕ) → Standing w pw 0 1 count → count ≤ 2 * room → d ≡ count / getD w 3 0 → (count ≡ getD w 3 0 * d) × (d ≤ room)
-first-fold w pw count d room st h e =
-    let k = getD w 3 0 in
-    let z = sizes w pw 0 1 count st in
-    (z .divides ∙ ap (λ (m : ℕ). k * m) (sym e), omega (arith, div-mul-le-self count k, mul-le-mul-left (count / k) (z .fold)))
+-- table 0's polynomial has a fold, of d_1 coefficients, and places for it
+pub record FirstFold (h : Sheet) (count d room : ℕ) : Type 0 where
+  pub degree : d ≡ degreeOf h (0 + 1)
+  pub fold : count ≡ foldOf h 0 * d
+  pub within : d ≤ room
 
--- at the last level the words left are the final coefficients and the final indices
-pub words-last : (w pw : List ℕ) (i scale d : ℕ) (coins : List ℕ) (n : ℕ) → Standing w pw i scale (getD w 3 0 * d) → DealtFrom w i coins →
-    n ≡ restCount w i → i ≡ roundsOf w → n ≡ d + length coins
-words-last w pw i scale d coins n st dealt words last =
-    let k = getD w 3 0 in
-    let e : levelOf w i .degree / k ≡ d = ap (λ (m : ℕ). m / k) (sym (st .degree)) ∙ one-fold w pw i scale d st in
-    omega (arith, words, count-none w i last, dealt-none w i coins last dealt, e)
+pub first-fold : {ed : Edition} {w : List ℕ} {count d room : ℕ} → AtLevel ed w 0 → count ≡ degreeOf (sheetOf ed w) 0 → count ≤ 2 * room → d ≡ count / foldOf (sheetOf ed w) 0 →
+    FirstFold (sheetOf ed w) count d room
+first-fold {ed} {w} {count} {d} {room} p ec most e =
+    let k = foldOf (sheetOf ed w) 0 in
+    let degree : d ≡ degreeOf (sheetOf ed w) (0 + 1) = e ∙ ap (λ (m : ℕ). m / k) ec ∙ divided p in
+    record {
+      degree = degree;
+      fold = ec ∙ multiplied p ∙ ap (λ (m : ℕ). k * m) (sym degree);
+      within = omega (arith, e, most, div-mul-le-self count k, mul-le-mul-left (count / k) (numbers p .least-fold));
+    }
 
-pub words-end : (w : List ℕ) (i : ℕ) (g coins : List ℕ) {words : List ℕ} → i ≡ roundsOf w → words ≡ g ++ coins → RestAfter w i g coins words
-words-end w i g coins last e = λ f r fold. e ∙ ap (λ (l : List ℕ). l ++ coins) (sym fold) ∙ sym (rest-none w i f r coins last)
+module _ {ed : Edition} {w : List ℕ} {i : ℕ} (p : AtLevel ed w i) where
+  -- the level's number against word 4 tells whether it is the last
+  pub last-level : i ≡ getD w 4 0 → i ≡ roundsOf (sheetOf ed w)
+  last-level e = e ∙ sym (numbers p .rounds)
+
+  pub not-last : (i ≡ getD w 4 0 → ⊥) → i < roundsOf (sheetOf ed w)
+  not-last e = omega (arith, p .level, numbers p .rounds)
+
+  -- at the last level the words left are the final coefficients and the final indices
+  pub words-last : {d n : ℕ} (coins : List ℕ) → d ≡ degreeOf (sheetOf ed w) (i + 1) → DealtFrom (sheetOf ed w) i coins →
+      n ≡ restCount (sheetOf ed w) i → i ≡ roundsOf (sheetOf ed w) → n ≡ d + length coins
+  words-last coins e dealt words last =
+      omega (arith, e, words, count-none (sheetOf ed w) i last, dealt-none (sheetOf ed w) i coins last dealt, divided p)
+
+pub words-end : (h : Sheet) (i : ℕ) (g coins : List ℕ) {words : List ℕ} → i ≡ roundsOf h → words ≡ g ++ coins → RestAfter h i g coins words
+words-end h i g coins last e = λ f r fold. e ∙ ap (λ (l : List ℕ). l ++ coins) (sym fold) ∙ sym (rest-none h i f r coins last)
 
 -- before round i + 1: the next fold has `folded` coefficients, the round has `used` coins and `written` words, and n words are still to be written
-pub record Onward (w pw : List ℕ) (i scale d : ℕ) (coins : List ℕ) (n folded used written : ℕ) : Type 0 where
-  pub more : i < roundsOf w
-  pub fold : d ≡ getD w 3 0 * folded
+pub record Onward (ed : Edition) (w pw : List ℕ) (i scale d : ℕ) (coins : List ℕ) (n folded used written : ℕ) : Type 0 where
+  pub more : i < roundsOf (sheetOf ed w)
+  pub degree : folded ≡ degreeOf (sheetOf ed w) (i + 1 + 1)
   pub fewer : folded ≤ d
-  pub round : RoundDealt w i coins
+  pub round : RoundDealt (sheetOf ed w) i coins
+  pub coins-are : used ≡ outsOf (sheetOf ed w) + 2 + repetitionsOf (sheetOf ed w) i
   pub inside : used ≤ length coins
-  pub few : used ≤ 68
-  pub short : written ≤ 4166
-  pub words : written ≡ roundCount w i
+  pub few : used ≤ 52
+  pub short : written ≤ 4150
+  pub words : written ≡ roundCount (sheetOf ed w) i
   pub within : written ≤ n
-  pub next : Standing w pw (i + 1) (2 * scale) (getD w 3 0 * folded)
-  pub dealt : DealtFrom w (i + 1) (drop used coins)
-  pub left : n - written ≡ restCount w (i + 1)
+  pub next : Standing ed w pw (i + 1) (2 * scale)
+  pub dealt : DealtFrom (sheetOf ed w) (i + 1) (drop used coins)
+  pub left : n - written ≡ restCount (sheetOf ed w) (i + 1)
 
-pub onward : (w pw : List ℕ) (i scale d : ℕ) (coins : List ℕ) (n folded used written : ℕ) →
-    Standing w pw i scale (getD w 3 0 * d) → DealtFrom w i coins → n ≡ restCount w i → i < roundsOf w →
-    folded ≡ d / getD w 3 0 → used ≡ outsOf w + 2 + repetitionsOf w i → written ≡ length pw / (2 * scale) + outsOf w + outsOf w + 2 + repetitionsOf w i →
-    Onward w pw i scale d coins n folded used written
-onward w pw i scale d coins n folded used written st dealt words more ed eu ew =
-    let k = getD w 3 0 in
-    let z = sizes w pw i scale (k * d) st in
-    let next = next-standing w pw i scale d st more in
-    let fold : d ≡ k * folded = sizes w pw (i + 1) (2 * scale) d next .divides ∙ ap (λ (m : ℕ). k * m) (sym ed) in
-    let q = dealt-more w i coins more dealt in
-    let e = next-size w pw i scale d st in
-    let c = count-more w i more in
+pub onward : {ed : Edition} {w pw : List ℕ} {i scale d : ℕ} {coins : List ℕ} {n folded used written : ℕ} →
+    Standing ed w pw i scale → d ≡ degreeOf (sheetOf ed w) (i + 1) → DealtFrom (sheetOf ed w) i coins → n ≡ restCount (sheetOf ed w) i → i < roundsOf (sheetOf ed w) →
+    folded ≡ d / foldOf (sheetOf ed w) (i + 1) → used ≡ getD w 5 0 + 2 + getD w (6 + i) 0 →
+    written ≡ length pw / (2 * scale) + getD w 5 0 + getD w 5 0 + 2 + getD w (6 + i) 0 →
+    Onward ed w pw i scale d coins n folded used written
+onward {ed} {w} {pw} {i} {scale} {d} {coins} {n} {folded} {used} {written} st edeg dealt words more ef eu ew =
+    let h = sheetOf ed w in
+    let z = sizes st in
+    let v = numbers (st .place) in
+    let k = foldOf h (i + 1) in
+    let q = dealt-more h i coins more dealt in
+    let e = next-size st in
+    let c = count-more h i more in
+    let u : used ≡ outsOf h + 2 + repetitionsOf h i = omega (arith, eu, v .outs, v .repetitions) in
+    let s : written ≡ roundCount h i = omega (arith, ew, e, v .outs, v .repetitions) in
     record {
       more = more;
-      fold = fold;
-      fewer = omega (arith, div-le-self d k);
+      degree = ef ∙ ap (λ (m : ℕ). m / k) edeg ∙ divided (next-place st more);
+      fewer = omega (arith, ef, div-le-self d k);
       round = q .0;
-      inside = omega (arith, q .0 .there);
-      few = omega (arith, z .outs, z .repetitions);
-      short = omega (arith, z .outs, z .repetitions, z .points-most, div-le-self (length pw) (2 * scale));
-      words = omega (arith, e);
-      within = omega (arith, e, c);
-      next = subst (Standing w pw (i + 1) (2 * scale)) fold next;
-      dealt = subst (λ (m : ℕ). DealtFrom w (i + 1) (drop m coins)) (sym eu) (q .1);
-      left = omega (arith, e, c);
+      coins-are = u;
+      inside = omega (arith, u, q .0 .there);
+      few = omega (arith, u, v .most-outs, v .most-repetitions);
+      short = omega (arith, s, e, v .most-outs, v .most-repetitions, z .points-most, div-le-self (length pw) (2 * scale));
+      words = s;
+      within = omega (arith, s, words, c);
+      next = next-standing st more;
+      dealt = subst (λ (m : ℕ). DealtFrom h (i + 1) (drop m coins)) (sym u) (q .1);
+      left = omega (arith, s, words, c);
     }
 
 -- the round's words and those after its fold coin
-pub words-join : (w : List ℕ) (i : ℕ) (g coins : List ℕ) (used : ℕ) {words front back g₁ left : List ℕ} →
-    i < roundsOf w → words ≡ front ++ back →
-    front ≡ roundFrom w i g coins → g₁ ≡ foldFrom w (getD coins (outsOf w + 1) 0) (correctedFrom w i g coins) →
-    left ≡ drop used coins → used ≡ outsOf w + 2 + repetitionsOf w i → RestAfter w (i + 1) g₁ left back →
-    RestAfter w i g coins words
-words-join w i g coins used more e ef eg el eu rest = λ f r fold.
-    let coin = getD coins (outsOf w + 1) 0 in
-    let back = rest (correctedFrom w i g coins) coin (sym eg) ∙ ap (restFrom w (i + 1) (correctedFrom w i g coins) coin) (el ∙ ap (λ (n : ℕ). drop n coins) eu) in
+pub words-join : (h : Sheet) (i : ℕ) (g coins : List ℕ) (used : ℕ) {words front back g₁ left : List ℕ} →
+    i < roundsOf h → words ≡ front ++ back →
+    front ≡ roundFrom h i g coins → g₁ ≡ foldAfter h i g coins →
+    left ≡ drop used coins → used ≡ outsOf h + 2 + repetitionsOf h i → RestAfter h (i + 1) g₁ left back →
+    RestAfter h i g coins words
+words-join h i g coins used more e ef eg el eu rest = λ f r fold.
+    let coin = getD coins (outsOf h + 1) 0 in
+    let back = rest (correctedFrom h i g coins) coin (sym eg) ∙ ap (restFrom h (i + 1) (correctedFrom h i g coins) coin) (el ∙ ap (λ (n : ℕ). drop n coins) eu) in
     e ∙ (λ x. ef x ++ back x)
-    ∙ ap (λ (h : List ℕ). roundFrom w i h coins ++ restFrom w (i + 1) (correctedFrom w i h coins) coin (drop (outsOf w + 2 + repetitionsOf w i) coins)) (sym fold)
-    ∙ sym (rest-more w i f r coins more)
+    ∙ ap (λ (b : List ℕ). roundFrom h i b coins ++ restFrom h (i + 1) (correctedFrom h i b coins) coin (drop (outsOf h + 2 + repetitionsOf h i) coins)) (sym fold)
+    ∙ sym (rest-more h i f r coins more)

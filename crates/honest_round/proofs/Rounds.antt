@@ -1,106 +1,109 @@
 -- The corrected polynomial, as the code has it, is the definition's; and so is its fold. Assumes nothing.
 use Prim.Native.Nat.{ℕ, _+_, _-_, _*_, _/_, _≤_, _<_}
-use native.Mathlib.Nat.{div-le-self, mul-le-mul-left, mul-le-mul-right}
+use native.Mathlib.Nat.{div-le-self, mul-le-mul-left}
 use native.Mathlib.Omega.{arith}
 use mathlib.Core.List.{List, [], _∷_, _++_, map}
 use mathlib.Core.Path.{_≡_, refl, sym, ap, _∙_, subst}
 use lib.ListN.{length, getD, take, drop, length-drop}
 use lib.Seq.{getD-drop, getD-take, length-take-le}
 use Rattle.definition.specs.Domain.{shiftPoint}
-use Rattle.definition.specs.Sheet.{shiftCount}
+use Rattle.definition.specs.Field.{Field, fieldOf}
+use Rattle.definition.specs.Sheet.{Edition, Sheet, sheetOf, shiftCount}
 use Rattle.algebra.specs.ListFacts.{All}
 use Rattle.completeness.specs.ByPlace.{at-place}
 use Rattle.definition.specs.Layout.{laterCount, roundCoins}
 use Rattle.definition.specs.Polynomial.{correctedPoly, distinct, points}
 use Rattle.definition.specs.Prover.{honestAnswers, nextPoly}
-use Rattle.completeness.specs.Numbered.{levelOf, outsOf}
+use Rattle.completeness.specs.Numbered.{degreeOf, levelOf, outsOf, roundsOf, sheetField, sheetRoot}
 use Rattle.correction.specs.Corrected.{Corrected}
 use Rattle.rounds.specs.PointsIn.{shiftIn, shift-in}
 use Rattle.honest_words.specs.Levels.{shifts-are}
 use Rattle.distinct.specs.Points.{InTable, differentPoints, distinct-points}
-use Rattle.honest_words.specs.Sizes.{Sizes, sizes}
+use Rattle.honest_words.specs.Sizes.{Sizes, falls, field-word, next-place, numbers, sizes}
 use Rattle.domain.specs.Parts.{begun, front-stays}
-use Rattle.honest_words.specs.Standing.{RoundDealt, Standing, coinsNext, correctedFrom, fieldAt, foldAfter, foldFrom, repetitionsOf, rootAt, shiftsNext}
+use Rattle.honest_words.specs.Standing.{RoundDealt, Standing, coinsNext, correctedFrom, foldAfter, foldFrom, foldOf, repetitionsOf, shiftsNext}
 
 -- the place in the table of each shift index
-shifts-inside : (w : List ℕ) (i scale count points : ℕ) (js : List ℕ) → Sizes w i scale count points → All (λ j. j < shiftCount (levelOf w i)) js →
-    InTable points scale js
+shifts-inside : (h : Sheet) (i scale points : ℕ) (js : List ℕ) → Sizes h i scale points → All (λ j. j < shiftCount (levelOf h i)) js → InTable points scale js
 unfolding shiftCount
-shifts-inside w i scale count points js z below = λ m l.
-    inside (getD js m 0) (levelOf w i .size) (at-place (λ j. j < levelOf w i .size / getD w 3 0) js 0 below m l) (z .whole)
+shifts-inside h i scale points js z below = λ m l.
+    inside (getD js m 0) (levelOf h i .size) (at-place (λ j. j < levelOf h i .size / foldOf h i) js 0 below m l) (z .whole)
   where
-    inside : (j n : ℕ) → j < n / getD w 3 0 → scale * n ≡ points → scale * j < points
-    inside j n h e =
-        let g : j + 1 ≤ n = omega (arith, div-le-self n (getD w 3 0)) in
+    inside : (j n : ℕ) → j < n / foldOf h i → scale * n ≡ points → scale * j < points
+    inside j n l e =
+        let g : j + 1 ≤ n = omega (arith, div-le-self n (foldOf h i)) in
         omega (arith, mul-le-mul-left scale g, z .scaled)
 
-module _ (w : List ℕ) (i : ℕ) (coins : List ℕ) (dealt : RoundDealt w i coins) where
-  abbrev s : ℕ
-  s = outsOf w
+map-agree : {A B : Type 0} (f h : A → B) (xs : List A) → ((x : A) → f x ≡ h x) → map f xs ≡ map h xs
+map-agree f h [] e = refl
+map-agree f h (x ∷ xs) e = λ j. e x j ∷ map-agree f h xs e j
 
-  abbrev t : ℕ
-  t = repetitionsOf w i
-
-  -- the length of the shift indices, as the code cuts them
+module _ {h : Sheet} {i : ℕ} {coins : List ℕ} (dealt : RoundDealt h i coins) {s t : ℕ} (es : outsOf h ≡ s) (et : repetitionsOf h i ≡ t) where
+  -- the shift indices, as the code cuts them
   pub shifts-long : length (take (s + 2 + t - (s + 2)) (drop (s + 2) coins)) ≡ t
   shifts-long = length-take-le (s + 2 + t - (s + 2)) (drop (s + 2) coins) (omega (arith, dealt .there, length-drop (s + 2) coins)) ∙ omega arith
 
-  shifts-is : take (s + 2 + t - (s + 2)) (drop (s + 2) coins) ≡ shiftsNext w i coins
+  shifts-is : take (s + 2 + t - (s + 2)) (drop (s + 2) coins) ≡ shiftsNext h i coins
   unfolding shiftsNext
-  shifts-is = let e : s + 2 + t - (s + 2) ≡ t = omega arith in ap (λ (n : ℕ). take n (drop (s + 2) coins)) e
+  shifts-is =
+      let e : s + 2 + t - (s + 2) ≡ repetitionsOf h i = omega (arith, et) in
+      let f : s + 2 ≡ outsOf h + 2 = omega (arith, es) in
+      λ x. take (e x) (drop (f x) coins)
 
-  -- ---- the corrected polynomial
-
-  combination-is : getD coins s 0 ≡ getD (take (2 + t) (drop s coins)) 0 0
+  combination-is : getD coins s 0 ≡ getD (take (2 + repetitionsOf h i) (drop (outsOf h) coins)) 0 0
   combination-is =
-      let e : s + 0 ≡ s = omega arith in
-      sym (getD-take (2 + t) (drop s coins) 0 0 (omega arith) ∙ getD-drop s coins 0 0 ∙ ap (λ (n : ℕ). getD coins n 0) e)
+      let e : outsOf h + 0 ≡ s = omega (arith, es) in
+      sym (getD-take (2 + repetitionsOf h i) (drop (outsOf h) coins) 0 0 (omega arith) ∙ getD-drop (outsOf h) coins 0 0 ∙ ap (λ (n : ℕ). getD coins n 0) e)
 
-  map-agree : (f h : ℕ → ℕ) (xs : List ℕ) → ((x : ℕ) → f x ≡ h x) → map f xs ≡ map h xs
-  map-agree f h [] e = refl
-  map-agree f h (x ∷ xs) e = λ j. e x j ∷ map-agree f h xs e j
+-- ---- the corrected polynomial
 
-  module _ (pw : List ℕ) (scale count : ℕ) (st : Standing w pw i scale count) where
-    -- the points of G by the table of points
-    points-are : (g : List ℕ) →
-        points (distinct (fieldAt w) (honestAnswers (fieldAt w) (rootAt w) (levelOf w i) g (coinsNext w i coins)))
-        ≡ differentPoints (take s coins ++ map (shiftIn pw scale (getD w 3 0)) (take (s + 2 + t - (s + 2)) (drop (s + 2) coins)))
-    unfolding honestAnswers coinsNext roundCoins laterCount
-    points-are g =
-        let z = sizes w pw i scale count st in
-        let S = shiftPoint (fieldAt w) (rootAt w) (levelOf w i) in
-        distinct-points (getD w 0 0) (rootAt w) g (take s coins ++ map S (drop 2 (take (2 + t) (drop s coins))))
-        ∙ ap (λ (js : List ℕ). differentPoints (take s coins ++ map S js)) (shifts-are w i coins ∙ sym shifts-is)
-        ∙ ap (λ (xs : List ℕ). differentPoints (take s coins ++ xs)) (map-agree S (shiftIn pw scale (getD w 3 0)) (take (s + 2 + t - (s + 2)) (drop (s + 2) coins))
-        (λ j. sym (shift-in (st .powers) (levelOf w i) (st .scaled) {k = getD w 3 0} refl j (omega (arith, z .fold)) (z .some-points))))
+module _ {ed : Edition} {w pw : List ℕ} {i scale : ℕ} (st : Standing ed w pw i scale) {coins : List ℕ} (dealt : RoundDealt (sheetOf ed w) i coins)
+    {s t k : ℕ} (es : outsOf (sheetOf ed w) ≡ s) (et : repetitionsOf (sheetOf ed w) i ≡ t) (ek : k ≡ foldOf (sheetOf ed w) i) where
+  abbrev h : Sheet
+  h = sheetOf ed w
 
-    -- each shift point stands in it
-    pub shifts-in : InTable (length pw) scale (take (s + 2 + t - (s + 2)) (drop (s + 2) coins))
-    shifts-in =
-        subst (InTable (length pw) scale) (sym shifts-is)
-        (shifts-inside w i scale count (length pw) (shiftsNext w i coins) (sizes w pw i scale count st) (dealt .below))
+  abbrev js : List ℕ
+  js = take (s + 2 + t - (s + 2)) (drop (s + 2) coins)
 
-    pub corrected-is : (g xs out : List ℕ) →
-        xs ≡ differentPoints (take s coins ++ map (shiftIn pw scale (getD w 3 0)) (take (s + 2 + t - (s + 2)) (drop (s + 2) coins))) →
-        Corrected (getD w 0 0) xs (getD coins s 0) g out → out ≡ correctedFrom w i g coins
-    unfolding correctedFrom nextPoly coinsNext roundCoins laterCount
-    corrected-is g xs out e c =
-        let G = distinct (fieldAt w) (honestAnswers (fieldAt w) (rootAt w) (levelOf w i) g (coinsNext w i coins)) in
-        c G (points-are g ∙ sym e) ∙ ap (λ (x : ℕ). correctedPoly (fieldAt w) G x g) combination-is
+  -- the points of G by the table of points
+  points-are : (g : List ℕ) →
+      points (distinct (sheetField h) (honestAnswers (sheetField h) (sheetRoot h) (levelOf h i) g (coinsNext h i coins)))
+      ≡ differentPoints (take s coins ++ map (shiftIn pw scale k) js)
+  unfolding honestAnswers coinsNext roundCoins laterCount
+  points-are g =
+      let z = sizes st in
+      let S = shiftPoint (fieldOf (getD w 0 0)) (sheetRoot h) (levelOf h i) in
+      ap (λ (F : Field ℕ). points (distinct F (honestAnswers F (sheetRoot h) (levelOf h i) g (coinsNext h i coins)))) (sym (field-word ed w))
+      ∙ distinct-points (getD w 0 0) (sheetRoot h) g (take (outsOf h) coins ++ map S (drop 2 (take (2 + repetitionsOf h i) (drop (outsOf h) coins))))
+      ∙ (λ x. differentPoints (take (es x) coins ++ map S ((shifts-are h i coins ∙ sym (shifts-is dealt es et)) x)))
+      ∙ ap (λ (xs : List ℕ). differentPoints (take s coins ++ xs)) (map-agree S (shiftIn pw scale k) js
+      (λ j. sym (shift-in (st .powers) (levelOf h i) (st .scaled) {k = k} ek j (omega (arith, ek, numbers (st .place) .least-fold)) (z .some-points))))
+
+  -- each shift point stands in it
+  pub shifts-in : InTable (length pw) scale (take (s + 2 + t - (s + 2)) (drop (s + 2) coins))
+  shifts-in =
+      subst (InTable (length pw) scale) (sym (shifts-is dealt es et))
+      (shifts-inside h i scale (length pw) (shiftsNext h i coins) (sizes st) (dealt .below))
+
+  pub corrected-is : (g xs out : List ℕ) →
+      xs ≡ differentPoints (take s coins ++ map (shiftIn pw scale k) (take (s + 2 + t - (s + 2)) (drop (s + 2) coins))) →
+      Corrected (getD w 0 0) xs (getD coins s 0) g out → out ≡ correctedFrom (sheetOf ed w) i g coins
+  unfolding correctedFrom nextPoly coinsNext roundCoins laterCount
+  corrected-is g xs out e c =
+      let G = distinct (sheetField h) (honestAnswers (sheetField h) (sheetRoot h) (levelOf h i) g (coinsNext h i coins)) in
+      c G (points-are g ∙ sym e) ∙ (λ x. correctedPoly (field-word ed w x) G (combination-is dealt es et x) g)
 
 -- what a round leaves: the fold of the corrected polynomial, which stood in the first d places of next
-pub folded-next : (w : List ℕ) (i d folded : ℕ) (coins g g₁ next front back : List ℕ) {r : ℕ} → d ≤ length next → length front ≡ length (take d next) →
-    front ≡ correctedFrom w i (take (length (take d next)) g) coins → r ≡ getD coins (outsOf w + 1) 0 →
-    folded ≤ length g₁ → length back ≡ length (take folded g₁) → back ≡ foldFrom w r (take d (begun next front d)) →
-    take folded (begun g₁ back folded) ≡ foldAfter w i (take d g) coins
-folded-next w i d folded coins g g₁ next front back fits same is coin room long fold =
+pub folded-next : (h : Sheet) (i d folded : ℕ) (coins g g₁ next front back : List ℕ) {r : ℕ} → d ≤ length next → length front ≡ length (take d next) →
+    front ≡ correctedFrom h i (take (length (take d next)) g) coins → r ≡ getD coins (outsOf h + 1) 0 →
+    folded ≤ length g₁ → length back ≡ length (take folded g₁) → back ≡ foldFrom h (i + 1) r (take d (begun next front d)) →
+    take folded (begun g₁ back folded) ≡ foldAfter h i (take d g) coins
+folded-next h i d folded coins g g₁ next front back fits same is coin room long fold =
     let n = length-take-le d next fits in
-    let f = front-stays next front d fits same ∙ is ∙ ap (λ (m : ℕ). correctedFrom w i (take m g) coins) n in
-    front-stays g₁ back folded room long ∙ fold ∙ (λ x. foldFrom w (coin x) (f x))
+    let f = front-stays next front d fits same ∙ is ∙ ap (λ (m : ℕ). correctedFrom h i (take m g) coins) n in
+    front-stays g₁ back folded room long ∙ fold ∙ (λ x. foldFrom h (i + 1) (coin x) (f x))
 
--- the parts that a round lends: all are of d words, or of a k-th of them
-pub lent : (w pw : List ℕ) (i scale d : ℕ) {n : ℕ} → Standing w pw i scale (getD w 3 0 * d) → n ≡ d → Standing w pw i scale (getD w 3 0 * n)
-lent w pw i scale d st e = subst (λ (m : ℕ). Standing w pw i scale (getD w 3 0 * m)) (sym e) st
-
-pub fewer : (k d folded n : ℕ) → 0 < k → d ≡ k * folded → d ≤ n → folded ≤ n
-fewer k d folded n h e l = let m : 1 * folded ≤ k * folded = mul-le-mul-right folded h in omega (arith, m)
+-- the places of one fold are enough for the next
+pub room : {ed : Edition} {w pw : List ℕ} {i scale d folded n : ℕ} → Standing ed w pw i scale → i < roundsOf (sheetOf ed w) →
+    d ≡ degreeOf (sheetOf ed w) (i + 1) → folded ≡ degreeOf (sheetOf ed w) (i + 1 + 1) → d ≤ n → folded ≤ n
+room st l e f h = omega (arith, falls (next-place st l))

@@ -1,10 +1,13 @@
 // One round of the honest prover: its words, the corrected polynomial of the next level, and that polynomial's fold. pw is the table of the points of domain
 // 0: point j of level i stands at scale·j in it, where scale is 2^i.
+use edition::Edition;
 ghost use mathlib.Core.Path.{_≡_};
 ghost use Prim.Native.Nat.{_+_, _*_, _/_, _≤_, _<_};
 ghost use lib.ListN.{length, getD, take};
-ghost use Rattle.completeness.specs.Numbered.{roundsOf};
-ghost use Rattle.honest_words.specs.Standing.{RoundDealt, Standing, correctedFrom, foldAfter, foldFrom, roundCount, roundFrom};
+ghost use Rattle.definition.specs.Sheet.{sheetOf};
+ghost use Rattle.completeness.specs.Numbered.{degreeOf, roundsOf};
+ghost use Rattle.edition.specs.Meaning.{editionOf};
+ghost use Rattle.honest_words.specs.Standing.{AtLevel, RoundDealt, Standing, correctedFrom, foldAfter, foldFrom, foldOf, roundCount, roundFrom};
 
 // Places for the points of a round, at most 2 + 48.
 fn points_room() -> [u32; 50]
@@ -13,8 +16,17 @@ fn points_room() -> [u32; 50]
     [0u32; 50]
 }
 
+// The folding number of a level.
+fn folding_number(e: Edition, w: &[u32], level: usize) -> usize
+    requires { ⌜ AtLevel (editionOf e) (now w) level ⌝ }
+    ensures { λ r. ⌜ r ≡ foldOf (sheetOf (editionOf e) (now (w .entry))) level ⌝ }
+{
+    edition::fold(e, w, level)
+}
+
 // The corrected polynomial of the next level, where g holds the round's polynomial. What g holds afterwards is of no use.
 fn correct(
+    e: Edition,
     w: &[u32],
     pw: &[u32],
     level: usize,
@@ -23,45 +35,39 @@ fn correct(
     g: &mut [u32],
     next: &mut [u32],
 )
-    requires { ⌜ (Standing (now w) (now pw) level scale (getD (now w) 3 0 * length (now next))) × (level < roundsOf (now w)) ⌝ }
-    requires { ⌜ (RoundDealt (now w) level (now coins)) × (length (now next) ≤ length (now g)) ⌝ }
-    ensures { λ _. ⌜ now (next .exit) ≡ correctedFrom (now (w .entry)) level (take (length (now (next .entry))) (now (g .entry))) (now (coins .entry)) ⌝ }
+    requires { ⌜ (Standing (editionOf e) (now w) (now pw) level scale) × (level < roundsOf (sheetOf (editionOf e) (now w))) ⌝ }
+    requires { ⌜ length (now next) ≡ degreeOf (sheetOf (editionOf e) (now w)) (level + 1) ⌝ }
+    requires { ⌜ (RoundDealt (sheetOf (editionOf e) (now w)) level (now coins)) × (length (now next) ≤ length (now g)) ⌝ }
+    ensures { λ _. ⌜ now (next .exit) ≡ correctedFrom (sheetOf (editionOf e) (now (w .entry))) level (take (length (now (next .entry))) (now (g .entry))) (now (coins .entry)) ⌝ }
 {
     let s = w[5] as usize;
     let t = w[6 + level] as usize;
     let d = next.len();
+    let k = folding_number(e, w, level);
     let mut xs = points_room();
-    let from = distinct::points(
-        pw,
-        scale,
-        w[3] as usize,
-        &coins[..s],
-        &coins[s + 2..s + 2 + t],
-        &mut xs,
-    );
+    let from = distinct::points(pw, scale, k, &coins[..s], &coins[s + 2..s + 2 + t], &mut xs);
     correction::corrected(w[0], &xs, from, coins[s], g, d, next);
 }
 
-// The number of coefficients of the fold of n coefficients.
-pub fn fold_length(w: &[u32], n: usize) -> usize
-    requires { ⌜ (length (now w) ≡ 12) × ((0 < getD (now w) 3 0) × (getD (now w) 3 0 ≤ 16)) ⌝ }
-    ensures { λ r. ⌜ r ≡ n / getD (now (w .entry)) 3 0 ⌝ }
+// The number of coefficients of the fold of n coefficients at a level.
+pub fn fold_length(e: Edition, w: &[u32], level: usize, n: usize) -> usize
+    requires { ⌜ AtLevel (editionOf e) (now w) level ⌝ }
+    ensures { λ r. ⌜ r ≡ n / foldOf (sheetOf (editionOf e) (now (w .entry))) level ⌝ }
 {
-    n / w[3] as usize
+    n / folding_number(e, w, level)
 }
 
 // The fold of a level's polynomial at its fold coin.
-pub fn fold(w: &[u32], r: u32, f: &[u32], out: &mut [u32])
-    requires { ⌜ (length (now w) ≡ 12) × ((0 < getD (now w) 3 0) × (getD (now w) 3 0 ≤ 16)) ⌝ }
-    requires { ⌜ length (now f) ≡ getD (now w) 3 0 * length (now out) ⌝ }
-    ensures { λ _. ⌜ now (out .exit) ≡ foldFrom (now (w .entry)) r (now (f .entry)) ⌝ }
+pub fn fold(e: Edition, w: &[u32], level: usize, r: u32, f: &[u32], out: &mut [u32])
+    requires { ⌜ (AtLevel (editionOf e) (now w) level) × (length (now f) ≡ foldOf (sheetOf (editionOf e) (now w)) level * length (now out)) ⌝ }
+    ensures { λ _. ⌜ now (out .exit) ≡ foldFrom (sheetOf (editionOf e) (now (w .entry))) level r (now (f .entry)) ⌝ }
 {
-    correction::fold(w[0], w[3] as usize, r, f, out);
+    correction::fold(w[0], folding_number(e, w, level), r, f, out);
 }
 
 // The fold coin of the next round.
 fn fold_coin(w: &[u32], coins: &[u32]) -> u32
-    requires { ⌜ (length (now w) ≡ 12) × (getD (now w) 5 0 + 1 < length (now coins)) ⌝ }
+    requires { ⌜ (12 ≤ length (now w)) × (getD (now w) 5 0 + 1 < length (now coins)) ⌝ }
     ensures { λ r. ⌜ r ≡ getD (now (coins .entry)) (getD (now (w .entry)) 5 0 + 1) 0 ⌝ }
 {
     coins[w[5] as usize + 1]
@@ -70,6 +76,7 @@ fn fold_coin(w: &[u32], coins: &[u32]) -> u32
 // One round after a level whose polynomial's fold, of d coefficients, stands at the front of g: its words; the corrected polynomial of the next level, in
 // the first d places of next; and that polynomial's fold, of `folded` coefficients, at the front of g again.
 fn step_by(
+    e: Edition,
     w: &[u32],
     pw: &[u32],
     level: usize,
@@ -81,15 +88,23 @@ fn step_by(
     next: &mut [u32],
     out: &mut [u32],
 )
-    requires { ⌜ (Standing (now w) (now pw) level scale (getD (now w) 3 0 * d)) × ((level < roundsOf (now w)) × (d ≡ getD (now w) 3 0 * folded)) ⌝ }
-    requires { ⌜ (RoundDealt (now w) level (now coins)) × ((d ≤ length (now g)) × (d ≤ length (now next))) ⌝ }
-    requires { ⌜ length (now out) ≡ roundCount (now w) level ⌝ }
-    ensures { λ _. ⌜ now (out .exit) ≡ roundFrom (now (w .entry)) level (take d (now (g .entry))) (now (coins .entry)) ⌝ }
-    ensures { λ _. ⌜ take folded (now (g .exit)) ≡ foldAfter (now (w .entry)) level (take d (now (g .entry))) (now (coins .entry)) ⌝ }
+    requires { ⌜ (Standing (editionOf e) (now w) (now pw) level scale) × (level < roundsOf (sheetOf (editionOf e) (now w))) ⌝ }
+    requires { ⌜ (d ≡ degreeOf (sheetOf (editionOf e) (now w)) (level + 1)) × (folded ≡ degreeOf (sheetOf (editionOf e) (now w)) (level + 1 + 1)) ⌝ }
+    requires { ⌜ (RoundDealt (sheetOf (editionOf e) (now w)) level (now coins)) × ((d ≤ length (now g)) × (d ≤ length (now next))) ⌝ }
+    requires { ⌜ length (now out) ≡ roundCount (sheetOf (editionOf e) (now w)) level ⌝ }
+    ensures { λ _. ⌜ now (out .exit) ≡ roundFrom (sheetOf (editionOf e) (now (w .entry))) level (take d (now (g .entry))) (now (coins .entry)) ⌝ }
+    ensures { λ _. ⌜ take folded (now (g .exit)) ≡ foldAfter (sheetOf (editionOf e) (now (w .entry))) level (take d (now (g .entry))) (now (coins .entry)) ⌝ }
 {
-    honest_words::round(w, pw, level, scale, &g[..d], coins, out);
-    correct(w, pw, level, scale, coins, g, &mut next[..d]);
-    fold(w, fold_coin(w, coins), &next[..d], &mut g[..folded]);
+    honest_words::round(e, w, pw, level, scale, &g[..d], coins, out);
+    correct(e, w, pw, level, scale, coins, g, &mut next[..d]);
+    fold(
+        e,
+        w,
+        level + 1,
+        fold_coin(w, coins),
+        &next[..d],
+        &mut g[..folded],
+    );
 }
 
 // Places for the fold of a polynomial of at most 2,048 coefficients, or for the next polynomial.
@@ -108,6 +123,7 @@ pub fn few_fold_room() -> [u32; 64]
 
 // The round, with places of its own for the next polynomial. A small one is spared the clearing of many.
 pub fn step(
+    e: Edition,
     w: &[u32],
     pw: &[u32],
     level: usize,
@@ -118,17 +134,18 @@ pub fn step(
     g: &mut [u32],
     out: &mut [u32],
 )
-    requires { ⌜ (Standing (now w) (now pw) level scale (getD (now w) 3 0 * d)) × ((level < roundsOf (now w)) × (d ≡ getD (now w) 3 0 * folded)) ⌝ }
-    requires { ⌜ (RoundDealt (now w) level (now coins)) × (d ≤ length (now g)) ⌝ }
-    requires { ⌜ length (now out) ≡ roundCount (now w) level ⌝ }
-    ensures { λ _. ⌜ now (out .exit) ≡ roundFrom (now (w .entry)) level (take d (now (g .entry))) (now (coins .entry)) ⌝ }
-    ensures { λ _. ⌜ take folded (now (g .exit)) ≡ foldAfter (now (w .entry)) level (take d (now (g .entry))) (now (coins .entry)) ⌝ }
+    requires { ⌜ (Standing (editionOf e) (now w) (now pw) level scale) × (level < roundsOf (sheetOf (editionOf e) (now w))) ⌝ }
+    requires { ⌜ (d ≡ degreeOf (sheetOf (editionOf e) (now w)) (level + 1)) × (folded ≡ degreeOf (sheetOf (editionOf e) (now w)) (level + 1 + 1)) ⌝ }
+    requires { ⌜ (RoundDealt (sheetOf (editionOf e) (now w)) level (now coins)) × (d ≤ length (now g)) ⌝ }
+    requires { ⌜ length (now out) ≡ roundCount (sheetOf (editionOf e) (now w)) level ⌝ }
+    ensures { λ _. ⌜ now (out .exit) ≡ roundFrom (sheetOf (editionOf e) (now (w .entry))) level (take d (now (g .entry))) (now (coins .entry)) ⌝ }
+    ensures { λ _. ⌜ take folded (now (g .exit)) ≡ foldAfter (sheetOf (editionOf e) (now (w .entry))) level (take d (now (g .entry))) (now (coins .entry)) ⌝ }
 {
     if d <= 64 {
         let mut few = few_fold_room();
-        step_by(w, pw, level, scale, d, folded, coins, g, &mut few, out);
+        step_by(e, w, pw, level, scale, d, folded, coins, g, &mut few, out);
     } else {
         let mut next = fold_room();
-        step_by(w, pw, level, scale, d, folded, coins, g, &mut next, out);
+        step_by(e, w, pw, level, scale, d, folded, coins, g, &mut next, out);
     }
 }

@@ -2,15 +2,17 @@
 use Prim.Native.Nat.{ℕ, _+_, _-_, _≤_}
 use native.Mathlib.Omega.{arith}
 use mathlib.Core.List.{List, [], _∷_, _++_, map}
-use mathlib.Core.Path.{_≡_, refl, ap, _∙_}
+use mathlib.Core.Path.{_≡_, refl, sym, ap, _∙_}
 use lib.ListN.{length, getD, take, drop, length-drop}
 use lib.Seq.{length-take-le}
+use Rattle.definition.specs.Field.{Field}
 use Rattle.definition.specs.Layout.{laterCount, roundCoins}
 use Rattle.definition.specs.Polynomial.{evaluate}
 use Rattle.definition.specs.Prover.{honestRound, tableOf}
+use Rattle.definition.specs.Sheet.{Sheet}
 use Rattle.definition.specs.Transcript.{roundWords}
-use Rattle.completeness.specs.Numbered.{levelOf, outsOf}
-use Rattle.honest_words.specs.Standing.{RoundDealt, coinsNext, fieldAt, repetitionsOf, rootAt, roundFrom}
+use Rattle.completeness.specs.Numbered.{levelOf, outsOf, sheetField, sheetRoot}
+use Rattle.honest_words.specs.Standing.{RoundDealt, coinsNext, repetitionsOf, roundFrom}
 
 -- the coins after the replies are a combination coin, a fold coin and indices
 later-words : (v : List ℕ) → 2 ≤ length v → v ≡ getD v 0 0 ∷ getD v 1 0 ∷ drop 2 v
@@ -18,13 +20,7 @@ later-words [] h = absurd (omega arith)
 later-words (x ∷ []) h = absurd (omega arith)
 later-words (x ∷ y ∷ v) h = refl
 
-module _ (w : List ℕ) (i : ℕ) (coins : List ℕ) (dealt : RoundDealt w i coins) where
-  abbrev s : ℕ
-  s = outsOf w
-
-  abbrev t : ℕ
-  t = repetitionsOf w i
-
+module _ {h : Sheet} {i : ℕ} {coins : List ℕ} (dealt : RoundDealt h i coins) {s t : ℕ} (es : outsOf h ≡ s) (et : repetitionsOf h i ≡ t) where
   -- the lengths of the round's coins, as the code cuts them
   pub outs-long : length (take s coins) ≡ s
   outs-long = length-take-le s coins (omega (arith, dealt .there))
@@ -35,11 +31,21 @@ module _ (w : List ℕ) (i : ℕ) (coins : List ℕ) (dealt : RoundDealt w i coi
   later-is : take (s + 2 + t - s) (drop s coins) ≡ take (2 + t) (drop s coins)
   later-is = let e : s + 2 + t - s ≡ 2 + t = omega arith in ap (λ (n : ℕ). take n (drop s coins)) e
 
-  -- the words of the round
-  pub round-is : (g : List ℕ) →
-      tableOf (fieldAt w) (rootAt w) (levelOf w (i + 1)) g ++ (take s coins ++ (map (evaluate (fieldAt w) g) (take s coins) ++ take (s + 2 + t - s) (drop s coins)))
-      ≡ roundFrom w i g coins
+  -- the round's words by the numbers of its coins
+  words-are : (g : List ℕ) →
+      tableOf (sheetField h) (sheetRoot h) (levelOf h (i + 1)) g
+      ++ (take s coins ++ (map (evaluate (sheetField h) g) (take s coins) ++ (getD (take (2 + t) (drop s coins)) 0 0 ∷ getD (take (2 + t) (drop s coins)) 1 0 ∷ drop 2 (take (2 + t) (drop s coins)))))
+      ≡ roundFrom h i g coins
   unfolding roundFrom roundWords honestRound coinsNext roundCoins laterCount
-  round-is g =
-      ap (λ (v : List ℕ). tableOf (fieldAt w) (rootAt w) (levelOf w (i + 1)) g ++ (take s coins ++ (map (evaluate (fieldAt w) g) (take s coins) ++ v)))
-      (later-is ∙ later-words (take (2 + t) (drop s coins)) (omega (arith, later-long, ap length later-is)))
+  words-are g = sym (λ x. tableOf (sheetField h) (sheetRoot h) (levelOf h (i + 1)) g
+      ++ (take (es x) coins ++ (map (evaluate (sheetField h) g) (take (es x) coins) ++ (getD (take (2 + et x) (drop (es x) coins)) 0 0
+      ∷ getD (take (2 + et x) (drop (es x) coins)) 1 0 ∷ drop 2 (take (2 + et x) (drop (es x) coins))))))
+
+  -- the words of the round
+  pub round-is : {F : Field ℕ} → F ≡ sheetField h → (g : List ℕ) →
+      tableOf (sheetField h) (sheetRoot h) (levelOf h (i + 1)) g ++ (take s coins ++ (map (evaluate F g) (take s coins) ++ take (s + 2 + t - s) (drop s coins)))
+      ≡ roundFrom h i g coins
+  round-is ef g =
+      (λ x. tableOf (sheetField h) (sheetRoot h) (levelOf h (i + 1)) g ++ (take s coins ++ (map (evaluate (ef x) g) (take s coins)
+      ++ (later-is ∙ later-words (take (2 + t) (drop s coins)) (omega (arith, later-long, ap length later-is))) x)))
+      ∙ words-are g

@@ -8,7 +8,7 @@ use lib.Seq.{drop-drop, getD-take, getD-drop}
 use Rattle.definition.specs.Layout.{index, laterCount, limit, message, out, readFinals, readRounds, restLayout, roundCoins}
 use Rattle.definition.specs.Lists.{range}
 use Rattle.definition.specs.Prover.{honestRest}
-use Rattle.definition.specs.Sheet.{Level, sheetOf, shiftCount, finalCount}
+use Rattle.definition.specs.Sheet.{Level, Sheet, shiftCount, finalCount}
 use Rattle.definition.specs.Transcript.{restWords}
 use Rattle.algebra.specs.ListFacts.{All, all-map}
 use Rattle.completeness.specs.EachWord.{each-later, each-replicate}
@@ -16,104 +16,103 @@ use Rattle.completeness.specs.FairCoins.{Passes, in-range}
 use Rattle.completeness.specs.FileSize.{rest-length}
 use Rattle.completeness.specs.LayoutFacts.{Dealt}
 use Rattle.completeness.specs.ListLaws.{drop-take}
-use Rattle.completeness.specs.Numbered.{levelOf, outsOf, roundsOf}
-use Rattle.honest_words.specs.Standing.{DealtFrom, RoundDealt, coinsNext, correctedFrom, fieldAt, foldFrom, levelsAfter, repetitionsOf, restCount, restFrom, rootAt, roundCount, roundFrom, shiftsNext}
+use Rattle.completeness.specs.Numbered.{degreeOf, levelOf, outsOf, roundsOf, sheetField, sheetRoot}
+use Rattle.honest_words.specs.Standing.{DealtFrom, RoundDealt, coinsNext, correctedFrom, foldFrom, foldOf, levelsAfter, repetitionsOf, restCount, restFrom, roundCount, roundFrom, shiftsNext}
 
 -- the words of the rest over given levels
-abbrev restOver : List ℕ → ℕ → List Level → List ℕ → ℕ → List ℕ → List ℕ
-restOver w i ls f r coins =
-    restWords (honestRest (fieldAt w) (rootAt w) (levelOf w i) f r (readRounds (outsOf w) (levelOf w i) ls coins) (readFinals (outsOf w) (levelOf w i) ls coins))
+abbrev restOver : Sheet → ℕ → List Level → List ℕ → ℕ → List ℕ → List ℕ
+restOver h i ls f r coins =
+    restWords (honestRest (sheetField h) (sheetRoot h) (levelOf h i) f r (readRounds (outsOf h) (levelOf h i) ls coins) (readFinals (outsOf h) (levelOf h i) ls coins))
 
-module _ (w : List ℕ) (i : ℕ) where
-  pub levels-more : i < roundsOf w → levelsAfter w i ≡ levelOf w (i + 1) ∷ levelsAfter w (i + 1)
+module _ (h : Sheet) (i : ℕ) where
+  pub levels-more : i < roundsOf h → levelsAfter h i ≡ levelOf h (i + 1) ∷ levelsAfter h (i + 1)
   unfolding levelsAfter range
   levels-more l =
-      let e : roundsOf w - i ≡ suc (roundsOf w - (i + 1)) = omega arith in
+      let e : roundsOf h - i ≡ suc (roundsOf h - (i + 1)) = omega arith in
       let f : suc (i + 1) ≡ i + 1 + 1 = omega arith in
       rw (e, f)
 
-  pub levels-none : i ≡ roundsOf w → levelsAfter w i ≡ []
+  pub levels-none : i ≡ roundsOf h → levelsAfter h i ≡ []
   unfolding levelsAfter range
-  levels-none e = let z : roundsOf w - i ≡ 0 = omega arith in rw z
+  levels-none e = let z : roundsOf h - i ≡ 0 = omega arith in rw z
 
   -- ---- the words after fold coin i: round i + 1 and the words after its fold coin, or the final coefficients and indices
 
   rest-round : (f : List ℕ) (r : ℕ) (coins : List ℕ) (ls : List Level) →
-      restOver w i (levelOf w (i + 1) ∷ ls) f r coins
-      ≡ roundFrom w i (foldFrom w r f) coins
-      ++ restOver w (i + 1) ls (correctedFrom w i (foldFrom w r f) coins) (getD (take (2 + repetitionsOf w i) (drop (outsOf w) coins)) 1 0)
-      (drop (2 + repetitionsOf w i) (drop (outsOf w) coins))
+      restOver h i (levelOf h (i + 1) ∷ ls) f r coins
+      ≡ roundFrom h i (foldFrom h i r f) coins
+      ++ restOver h (i + 1) ls (correctedFrom h i (foldFrom h i r f) coins) (getD (take (2 + repetitionsOf h i) (drop (outsOf h) coins)) 1 0)
+      (drop (2 + repetitionsOf h i) (drop (outsOf h) coins))
   unfolding restWords honestRest readRounds readFinals roundFrom correctedFrom coinsNext roundCoins laterCount
   rest-round f r coins ls = refl
 
-  fold-coin : (coins : List ℕ) → getD (take (2 + repetitionsOf w i) (drop (outsOf w) coins)) 1 0 ≡ getD coins (outsOf w + 1) 0
-  fold-coin coins = getD-take (2 + repetitionsOf w i) (drop (outsOf w) coins) 1 0 (omega arith) ∙ getD-drop (outsOf w) coins 1 0
+  fold-coin : (coins : List ℕ) → getD (take (2 + repetitionsOf h i) (drop (outsOf h) coins)) 1 0 ≡ getD coins (outsOf h + 1) 0
+  fold-coin coins = getD-take (2 + repetitionsOf h i) (drop (outsOf h) coins) 1 0 (omega arith) ∙ getD-drop (outsOf h) coins 1 0
 
-  coins-left : (coins : List ℕ) → drop (2 + repetitionsOf w i) (drop (outsOf w) coins) ≡ drop (outsOf w + 2 + repetitionsOf w i) coins
+  coins-left : (coins : List ℕ) → drop (2 + repetitionsOf h i) (drop (outsOf h) coins) ≡ drop (outsOf h + 2 + repetitionsOf h i) coins
   coins-left coins =
-      let e : outsOf w + (2 + repetitionsOf w i) ≡ outsOf w + 2 + repetitionsOf w i = omega arith in
-      drop-drop (2 + repetitionsOf w i) (outsOf w) coins ∙ ap (λ (n : ℕ). drop n coins) e
+      let e : outsOf h + (2 + repetitionsOf h i) ≡ outsOf h + 2 + repetitionsOf h i = omega arith in
+      drop-drop (2 + repetitionsOf h i) (outsOf h) coins ∙ ap (λ (n : ℕ). drop n coins) e
 
-  pub rest-more : (f : List ℕ) (r : ℕ) (coins : List ℕ) → i < roundsOf w →
-      restFrom w i f r coins
-      ≡ roundFrom w i (foldFrom w r f) coins
-      ++ restFrom w (i + 1) (correctedFrom w i (foldFrom w r f) coins) (getD coins (outsOf w + 1) 0) (drop (outsOf w + 2 + repetitionsOf w i) coins)
+  pub rest-more : (f : List ℕ) (r : ℕ) (coins : List ℕ) → i < roundsOf h →
+      restFrom h i f r coins
+      ≡ roundFrom h i (foldFrom h i r f) coins
+      ++ restFrom h (i + 1) (correctedFrom h i (foldFrom h i r f) coins) (getD coins (outsOf h + 1) 0) (drop (outsOf h + 2 + repetitionsOf h i) coins)
   unfolding restFrom
   rest-more f r coins l =
-      let g = foldFrom w r f in
-      ap (λ (ls : List Level). restOver w i ls f r coins) (levels-more l)
-      ∙ rest-round f r coins (levelsAfter w (i + 1))
-      ∙ (λ x. roundFrom w i g coins ++ restOver w (i + 1) (levelsAfter w (i + 1)) (correctedFrom w i g coins) (fold-coin coins x) (coins-left coins x))
+      let g = foldFrom h i r f in
+      ap (λ (ls : List Level). restOver h i ls f r coins) (levels-more l)
+      ∙ rest-round f r coins (levelsAfter h (i + 1))
+      ∙ (λ x. roundFrom h i g coins ++ restOver h (i + 1) (levelsAfter h (i + 1)) (correctedFrom h i g coins) (fold-coin coins x) (coins-left coins x))
 
-  pub rest-none : (f : List ℕ) (r : ℕ) (coins : List ℕ) → i ≡ roundsOf w → restFrom w i f r coins ≡ foldFrom w r f ++ coins
+  pub rest-none : (f : List ℕ) (r : ℕ) (coins : List ℕ) → i ≡ roundsOf h → restFrom h i f r coins ≡ foldFrom h i r f ++ coins
   unfolding restFrom restWords honestRest readRounds readFinals
   rest-none f r coins e = rw (levels-none e)
 
   -- ---- their number
 
-  pub count-more : i < roundsOf w → restCount w i ≡ roundCount w i + restCount w (i + 1)
+  pub count-more : i < roundsOf h → restCount h i ≡ roundCount h i + restCount h (i + 1)
   unfolding restCount laterCount
   count-more l =
-      ap (λ (ls : List Level). length (restLayout (outsOf w) (levelOf w i) ls)) (levels-more l)
-      ∙ rest-length (outsOf w) (levelOf w i) (levelOf w (i + 1)) (levelsAfter w (i + 1)) ∙ omega arith
+      ap (λ (ls : List Level). length (restLayout (outsOf h) (levelOf h i) ls)) (levels-more l)
+      ∙ rest-length (outsOf h) (levelOf h i) (levelOf h (i + 1)) (levelsAfter h (i + 1)) ∙ omega arith
 
-  pub count-none : i ≡ roundsOf w → restCount w i ≡ levelOf w i .degree / getD w 3 0 + repetitionsOf w i
+  pub count-none : i ≡ roundsOf h → restCount h i ≡ degreeOf h i / foldOf h i + repetitionsOf h i
   unfolding restCount restLayout finalCount
   count-none e =
-      ap (λ (ls : List Level). length (restLayout (outsOf w) (levelOf w i) ls)) (levels-none e)
-      ∙ length-append (replicate (levelOf w i .degree / getD w 3 0) message) _
-      ∙ (λ x. length-replicate (levelOf w i .degree / getD w 3 0) message x + length-replicate (repetitionsOf w i) (index (shiftCount (levelOf w i))) x)
+      ap (λ (ls : List Level). length (restLayout (outsOf h) (levelOf h i) ls)) (levels-none e)
+      ∙ length-append (replicate (degreeOf h i / foldOf h i) message) _
+      ∙ (λ x. length-replicate (degreeOf h i / foldOf h i) message x + length-replicate (repetitionsOf h i) (index (shiftCount (levelOf h i))) x)
 
   -- ---- the coins still to come
 
-  pub shifts-are : (coins : List ℕ) → drop 2 (take (2 + repetitionsOf w i) (drop (outsOf w) coins)) ≡ shiftsNext w i coins
+  pub shifts-are : (coins : List ℕ) → drop 2 (take (2 + repetitionsOf h i) (drop (outsOf h) coins)) ≡ shiftsNext h i coins
   unfolding shiftsNext
-  shifts-are coins = drop-take 2 (repetitionsOf w i) (drop (outsOf w) coins) ∙ ap (take (repetitionsOf w i)) (drop-drop 2 (outsOf w) coins)
+  shifts-are coins = drop-take 2 (repetitionsOf h i) (drop (outsOf h) coins) ∙ ap (take (repetitionsOf h i)) (drop-drop 2 (outsOf h) coins)
 
-  pub dealt-more : (coins : List ℕ) → i < roundsOf w → DealtFrom w i coins →
-      RoundDealt w i coins × DealtFrom w (i + 1) (drop (outsOf w + 2 + repetitionsOf w i) coins)
+  pub dealt-more : (coins : List ℕ) → i < roundsOf h → DealtFrom h i coins →
+      RoundDealt h i coins × DealtFrom h (i + 1) (drop (outsOf h + 2 + repetitionsOf h i) coins)
   unfolding DealtFrom laterCount limit
   dealt-more coins l d =
-      let h = sheetOf w in
-      let s = outsOf w in
-      let t = repetitionsOf w i in
-      let b = levelOf w i in
+      let s = outsOf h in
+      let t = repetitionsOf h i in
+      let b = levelOf h i in
       let q = subst (λ (ls : List Level). Dealt (Passes h) s b ls coins) (levels-more l) d in
-      let o = each-replicate (Passes h) s (out (levelOf w (i + 1))) (take s coins) (q .0) in
+      let o = each-replicate (Passes h) s (out (levelOf h (i + 1))) (take s coins) (q .0) in
       let v = each-later (Passes h) t (shiftCount b) (take (2 + t) (drop s coins)) (q .1) in (
         record {
           there = there coins s t (o .0) (v .0);
           below = subst (All (λ j. j < shiftCount b)) (shifts-are coins)
               (all-map (drop 2 (take (2 + t) (drop s coins))) (v .1) (λ j p. in-range h (index (shiftCount b)) j p));
         },
-        subst (Dealt (Passes h) s (levelOf w (i + 1)) (levelsAfter w (i + 1))) (coins-left coins) (q .2),
+        subst (Dealt (Passes h) s (levelOf h (i + 1)) (levelsAfter h (i + 1))) (coins-left coins) (q .2),
       )
     where
       there : (l : List ℕ) (s t : ℕ) → length (take s l) ≡ s → length (take (2 + t) (drop s l)) ≡ 2 + t → s + 2 + t ≤ length l
       there l s t e f = omega (arith, length-take s l, length-take (2 + t) (drop s l), length-drop s l)
 
-  pub dealt-none : (coins : List ℕ) → i ≡ roundsOf w → DealtFrom w i coins → length coins ≡ repetitionsOf w i
+  pub dealt-none : (coins : List ℕ) → i ≡ roundsOf h → DealtFrom h i coins → length coins ≡ repetitionsOf h i
   unfolding DealtFrom
   dealt-none coins e d =
-      each-replicate (Passes (sheetOf w)) (repetitionsOf w i) (index (shiftCount (levelOf w i))) coins
-      (subst (λ (ls : List Level). Dealt (Passes (sheetOf w)) (outsOf w) (levelOf w i) ls coins) (levels-none e) d) .0
+      each-replicate (Passes h) (repetitionsOf h i) (index (shiftCount (levelOf h i))) coins
+      (subst (λ (ls : List Level). Dealt (Passes h) (outsOf h) (levelOf h i) ls coins) (levels-none e) d) .0

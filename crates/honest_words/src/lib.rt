@@ -1,11 +1,14 @@
 // The words of a round of the honest prover. pw is the table of the points of domain 0: point j of level i stands at scale·j in it, where scale is 2^i.
+use edition::Edition;
 ghost use mathlib.Core.Path.{_≡_};
 ghost use mathlib.Core.List.{_++_, map};
-ghost use Prim.Native.Nat.{_+_, _*_, _<_};
-ghost use lib.ListN.{length, getD};
+ghost use Prim.Native.Nat.{_+_, _<_};
+ghost use lib.ListN.{length};
 ghost use Rattle.definition.specs.Field.{fieldOf};
 ghost use Rattle.definition.specs.Polynomial.{evaluate};
-ghost use Rattle.completeness.specs.Numbered.{roundsOf};
+ghost use Rattle.definition.specs.Sheet.{sheetOf};
+ghost use Rattle.completeness.specs.Numbered.{degreeOf, roundsOf};
+ghost use Rattle.edition.specs.Meaning.{editionOf};
 ghost use Rattle.honest_words.specs.Tables.{LevelTable};
 ghost use Rattle.honest_words.specs.Standing.{OnLevel, RoundDealt, Standing, roundCount, roundFrom};
 
@@ -34,9 +37,9 @@ fn values(field: u32, g: &[u32], xs: &[u32], out: &mut [u32])
 }
 
 // The table of f over the domain of its level.
-pub fn table(w: &[u32], pw: &[u32], scale: usize, f: &[u32], out: &mut [u32])
-    requires { ⌜ OnLevel (now w) (now pw) scale (length (now f)) (length (now out)) ⌝ }
-    ensures { λ _. ⌜ LevelTable (now (w .entry)) (now (f .entry)) scale (length (now (out .entry))) (now (out .exit)) ⌝ }
+pub fn table(e: Edition, w: &[u32], pw: &[u32], scale: usize, f: &[u32], out: &mut [u32])
+    requires { ⌜ OnLevel (editionOf e) (now w) (now pw) scale (length (now f)) (length (now out)) ⌝ }
+    ensures { λ _. ⌜ LevelTable (sheetOf (editionOf e) (now (w .entry))) (now (f .entry)) scale (length (now (out .entry))) (now (out .exit)) ⌝ }
 {
     tables::on_domain(w[0], f, pw, scale, out);
 }
@@ -63,6 +66,7 @@ fn after_table(field: u32, g: &[u32], outs: &[u32], later: &[u32], out: &mut [u3
 
 // The words of the round after a level, where g is the round's polynomial.
 pub fn round(
+    e: Edition,
     w: &[u32],
     pw: &[u32],
     level: usize,
@@ -71,13 +75,14 @@ pub fn round(
     coins: &[u32],
     out: &mut [u32],
 )
-    requires { ⌜ (Standing (now w) (now pw) level scale (getD (now w) 3 0 * length (now g))) × (level < roundsOf (now w)) ⌝ }
-    requires { ⌜ (RoundDealt (now w) level (now coins)) × (length (now out) ≡ roundCount (now w) level) ⌝ }
-    ensures { λ _. ⌜ now (out .exit) ≡ roundFrom (now (w .entry)) level (now (g .entry)) (now (coins .entry)) ⌝ }
+    requires { ⌜ (Standing (editionOf e) (now w) (now pw) level scale) × (level < roundsOf (sheetOf (editionOf e) (now w))) ⌝ }
+    requires { ⌜ length (now g) ≡ degreeOf (sheetOf (editionOf e) (now w)) (level + 1) ⌝ }
+    requires { ⌜ (RoundDealt (sheetOf (editionOf e) (now w)) level (now coins)) × (length (now out) ≡ roundCount (sheetOf (editionOf e) (now w)) level) ⌝ }
+    ensures { λ _. ⌜ now (out .exit) ≡ roundFrom (sheetOf (editionOf e) (now (w .entry))) level (now (g .entry)) (now (coins .entry)) ⌝ }
 {
     let s = w[5] as usize;
     let t = w[6 + level] as usize;
     let n = pw.len() / (2 * scale);
-    table(w, pw, 2 * scale, g, &mut out[..n]);
+    table(e, w, pw, 2 * scale, g, &mut out[..n]);
     after_table(w[0], g, &coins[..s], &coins[s..s + 2 + t], &mut out[n..]);
 }

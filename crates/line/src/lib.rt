@@ -17,7 +17,7 @@ pub struct Line {
 }
 
 // The empty line.
-fn empty() -> Line
+pub fn empty() -> Line
     ensures { λ r. ⌜ r .length ≡ 0 ⌝ }
 {
     Line {
@@ -27,7 +27,7 @@ fn empty() -> Line
 }
 
 // One byte more.
-fn put(line: Line, b: u8) -> Line
+pub fn put(line: Line, b: u8) -> Line
     requires { ⌜ line .length < 64 ⌝ }
     ensures { λ r. ⌜ Extends line (b ∷ []) r ⌝ }
 {
@@ -39,7 +39,7 @@ fn put(line: Line, b: u8) -> Line
 }
 
 // More bytes.
-fn text(line: Line, bytes: &[u8]) -> Line
+pub fn text(line: Line, bytes: &[u8]) -> Line
     requires { ⌜ line .length + length (now bytes) ≤ 64 ⌝ }
     ensures { λ r. ⌜ Extends line (now (bytes .entry)) r ⌝ }
 {
@@ -53,7 +53,7 @@ fn text(line: Line, bytes: &[u8]) -> Line
 }
 
 // A number in base ten: the digits of its tenth, then its last digit.
-fn digits(line: Line, n: usize) -> Line
+pub fn digits(line: Line, n: usize) -> Line
     requires { ⌜ line .length + length (decimal n) ≤ 64 ⌝ }
     ensures { λ r. ⌜ Extends line (decimal n) r ⌝ }
 {

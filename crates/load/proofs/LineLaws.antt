@@ -4,18 +4,19 @@ use native.Mathlib.Nat.{mul-le-mul}
 use native.Mathlib.Omega.{arith}
 use mathlib.Core.List.{List, [], _∷_, _++_, append-assoc, append-nil, flatMap}
 use mathlib.Core.Path.{_≡_, refl, sym, ap, subst, _∙_}
-use lib.ListN.{length, getD, take, drop, length-append, length-take}
-use lib.Seq.{getD-drop, getD-take}
+use lib.ListN.{length, getD, length-append}
 use borrow.Author.Tests.{eq-eqb, ne-eqb}
 use Rattle.definition.specs.Block.{wordOf}
 use Rattle.definition.specs.Line.{decimal, lineOf, outcomeText}
 use Rattle.definition.specs.Load.{drawOrder, drawSheet, loadLines, loadRuns, orders, seedOf, verdictOn}
-use Rattle.definition.specs.Sheet.{sheetOf}
+use Rattle.definition.specs.Sheet.{edition1, sheetOf}
 use Rattle.definition.specs.Verdict.{Verdict, accepted, refused}
+use Rattle.completeness.specs.EditionOne.{reads-one}
+use Rattle.completeness.specs.Lawful.{lawful}
 use Rattle.completeness.specs.LoadAllowed.{draws-accepted, sheet-faultless}
 use Rattle.completeness.specs.Numbered.{readsDue, total}
+use Rattle.completeness.specs.SheetRules.{front-words}
 use Rattle.line.specs.Decimal.{long-64}
-use Rattle.sheet.specs.Bounds.{ranges}
 use Rattle.load.specs.Runs.{linesFrom}
 
 pub lines-none : (v : ℕ) → linesFrom zero v ≡ []
@@ -33,19 +34,17 @@ unfolding total
 total-most most [] h = omega arith
 total-most most (x ∷ xs) h = omega (arith, h 0 (omega arith), total-most most xs (λ i l. h (suc i) (omega arith)))
 
-few-small : (w : List ℕ) → ((i : ℕ) → i < 6 → getD w (6 + i) 0 ≤ 48) → (i : ℕ) → i < 6 → i < suc (getD w 4 0) → getD (take (suc (getD w 4 0)) (drop 6 w)) i 0 ≤ 48
-few-small w h i l k = subst (λ (n : ℕ). n ≤ 48) (sym (getD-take (suc (getD w 4 0)) (drop 6 w) i 0 k ∙ getD-drop 6 w i 0)) (h i l)
-
-reads-most : (v : ℕ) → readsDue (drawOrder v .value .sheet) ≤ 4608
-unfolding readsDue drawOrder sheetOf
+reads-most : (v : ℕ) → readsDue (sheetOf edition1 (drawOrder v .value .sheet)) ≤ 4608
+unfolding drawOrder
 reads-most v =
     let w = drawSheet v .value in
     let s = sheet-faultless v in
-    let r = ranges w (s .1) in
-    let few = take (suc (getD w 4 0)) (drop 6 w) in
-    let long : length few ≤ 6 = simp length-take (omega (arith, r .rounds)) in
-    let most : total few ≤ 288 = omega (arith, total-most 48 few (λ i l. few-small w (r .repetitions) i (omega arith) (omega (arith, length-take (suc (getD w 4 0)) (drop 6 w))))) in
-    mul-le-mul (r .folds) most
+    let long : 12 ≤ length w = omega (arith, s .0) in
+    let law = lawful edition1 w long (s .1) in
+    let times = sheetOf edition1 w .repetitions in
+    let few = total-most 48 times (λ i l. law .times i (omega (arith, law .paired .some, law .paired .same))) in
+    let most : total times ≤ 288 = omega (arith, few, law .most, law .paired .same) in
+    subst (λ (n : ℕ). n ≤ 4608) (sym (reads-one w long (s .1))) (mul-le-mul (front-words edition1 w (s .1) .3) most)
 
 line-accepted : (v : Verdict) (reads : ℕ) → reads < 2 ^ 64 → v ≡ record { outcome = accepted; reads = reads } → length (lineOf v) ≤ 34
 unfolding lineOf outcomeText

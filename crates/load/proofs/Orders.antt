@@ -10,25 +10,26 @@ use Rattle.definition.specs.Layout.{coinKinds, layout, message, wordsDue}
 use Rattle.definition.specs.Load.{Drawn, Order, drawKinds, drawOrder, drawSheet, verdictOn}
 use Rattle.definition.specs.Prove.{Answer, done, outputTest, prove}
 use Rattle.definition.specs.Reading.{sheetTest}
-use Rattle.definition.specs.Sheet.{sheetOf}
+use Rattle.definition.specs.Sheet.{edition1, sheetOf}
 use Rattle.definition.specs.Verdict.{Verdict, accepted}
+use Rattle.completeness.specs.DueSizes.{blocks-most, coins-most}
 use Rattle.completeness.specs.LoadAllowed.{draws-accepted, draws-allowed, sheet-faultless}
 use Rattle.completeness.specs.Numbered.{Allowed, Room, readsDue}
+use Rattle.completeness.specs.PlainSheet.{sheet-plain}
 use Rattle.completeness.specs.ProveAccepted.{done-exactly}
 use Rattle.completeness.specs.Tests.{if-false}
-use Rattle.sheet.specs.Bounds.{blocks-most, coins-most, ranges}
 
 -- ---- the drawn sheet
 
 module _ (v : ℕ) {next : ℕ} {w : List ℕ} (e : _≡_ {A = Drawn (List ℕ)} (record { value = w; next = next }) (drawSheet v)) where
-  pub drawn-sheet : (length w ≡ 12) × (sheetTest w ≡ accepted)
-  drawn-sheet = subst (λ (l : List ℕ). (length l ≡ 12) × (sheetTest l ≡ accepted)) (sym (ap (λ (d : Drawn (List ℕ)). d .value) e)) (sheet-faultless v)
+  pub drawn-sheet : (length w ≡ 12) × (sheetTest edition1 w ≡ accepted)
+  drawn-sheet = subst (λ (l : List ℕ). (length l ≡ 12) × (sheetTest edition1 l ≡ accepted)) (sym (ap (λ (d : Drawn (List ℕ)). d .value) e)) (sheet-faultless v)
 
   pub drawn-degree : getD w 2 0 ≤ 2048
-  drawn-degree = let r = ranges w (drawn-sheet .1) in omega (arith, r .degree, r .size)
+  drawn-degree = let r = sheet-plain edition1 w (drawn-sheet .1) .plain in omega (arith, r .degree·range .1, r .size·range .1)
 
-  pub drawn-coins : length (coinKinds (layout (sheetOf w))) ≤ 309
-  drawn-coins = coins-most w (omega (arith, drawn-sheet .0)) (drawn-sheet .1)
+  pub drawn-coins : length (coinKinds (layout (sheetOf edition1 w))) ≤ 309
+  drawn-coins = coins-most edition1 w (omega (arith, drawn-sheet .0)) (drawn-sheet .1)
 
 -- ---- the three parts
 
@@ -36,18 +37,18 @@ coinsAfter : List ℕ → List ℕ → Drawn (List ℕ) → Drawn Order
 coinsAfter w f c = record { value = record { sheet = w; coefficients = f; coins = c .value }; next = c .next }
 
 restAfter : List ℕ → Drawn (List ℕ) → Drawn Order
-restAfter w f = coinsAfter w (f .value) (drawKinds (sheetOf w) (coinKinds (layout (sheetOf w))) (f .next))
+restAfter w f = coinsAfter w (f .value) (drawKinds (sheetOf edition1 w) (coinKinds (layout (sheetOf edition1 w))) (f .next))
 
 orderAfter : Drawn (List ℕ) → Drawn Order
-orderAfter w = restAfter (w .value) (drawKinds (sheetOf (w .value)) (replicate (sheetOf (w .value) .degree) message) (w .next))
+orderAfter w = restAfter (w .value) (drawKinds (sheetOf edition1 (w .value)) (replicate (sheetOf edition1 (w .value) .degree) message) (w .next))
 
 module _
     (v : ℕ)
     {generator mid next : ℕ}
     {w f c : List ℕ}
     (sheet : _≡_ {A = Drawn (List ℕ)} (record { value = w; next = generator }) (drawSheet v))
-    (coefficients : _≡_ {A = Drawn (List ℕ)} (record { value = f; next = mid }) (drawKinds (sheetOf w) (replicate (sheetOf w .degree) message) generator))
-    (coins : _≡_ {A = Drawn (List ℕ)} (record { value = c; next = next }) (drawKinds (sheetOf w) (coinKinds (layout (sheetOf w))) mid))
+    (coefficients : _≡_ {A = Drawn (List ℕ)} (record { value = f; next = mid }) (drawKinds (sheetOf edition1 w) (replicate (sheetOf edition1 w .degree) message) generator))
+    (coins : _≡_ {A = Drawn (List ℕ)} (record { value = c; next = next }) (drawKinds (sheetOf edition1 w) (coinKinds (layout (sheetOf edition1 w))) mid))
   where
     drawn-order : _≡_ {A = Drawn Order} (record { value = record { sheet = w; coefficients = f; coins = c }; next = next }) (drawOrder v)
     unfolding drawOrder coinsAfter restAfter orderAfter
@@ -59,19 +60,19 @@ module _
     drawn-value : _≡_ {A = Order} (record { sheet = w; coefficients = f; coins = c }) (drawOrder v .value)
     drawn-value = ap (λ (d : Drawn Order). d .value) drawn-order
 
-    drawn-allowed : Allowed w f c
-    drawn-allowed = subst (λ (o : Order). Allowed (o .sheet) (o .coefficients) (o .coins)) (sym drawn-value) (draws-allowed v)
+    drawn-allowed : Allowed edition1 w f c
+    drawn-allowed = subst (λ (o : Order). Allowed edition1 (o .sheet) (o .coefficients) (o .coins)) (sym drawn-value) (draws-allowed v)
 
     -- 67 blocks are room for every file
-    has-room : (output : List ℕ) → length output ≡ 34304 → Room w output
+    has-room : (output : List ℕ) → length output ≡ 34304 → Room edition1 (sheetOf edition1 w) output
     unfolding outputTest
     has-room output size =
         let s = drawn-sheet v sheet in
-        if-false 11 _ _ (le-ltb (length output) (512 * blockCount (wordsDue (sheetOf w))) (omega (arith, blocks-most w (omega (arith, s .0)) (s .1))))
+        if-false 11 _ _ (le-ltb (length output) (512 * blockCount (wordsDue edition1 (sheetOf edition1 w))) (omega (arith, blocks-most edition1 w (omega (arith, s .0)) (s .1))))
 
     pub drawn-verdict : (output : List ℕ) {answer : Answer} {verdict : Verdict} → length output ≡ 34304 → answer ≡ prove w f c output .answer →
-        ((count : ℕ) → answer ≡ done count → verdict ≡ record { outcome = accepted; reads = readsDue w }) → verdict ≡ verdictOn (drawOrder v .value)
+        ((count : ℕ) → answer ≡ done count → verdict ≡ record { outcome = accepted; reads = readsDue (sheetOf edition1 w) }) → verdict ≡ verdictOn (drawOrder v .value)
     drawn-verdict output {answer} size e given =
-        given (blockCount (wordsDue (sheetOf w))) (e ∙ done-exactly w f c output .1 (drawn-allowed, has-room output size))
-        ∙ ap (λ (o : Order). record { outcome = accepted; reads = readsDue (o .sheet) }) drawn-value
+        given (blockCount (wordsDue edition1 (sheetOf edition1 w))) (e ∙ done-exactly edition1 w f c output .1 (drawn-allowed, has-room output size))
+        ∙ ap (λ (o : Order). record { outcome = accepted; reads = readsDue (sheetOf edition1 (o .sheet)) }) drawn-value
         ∙ sym (draws-accepted v)

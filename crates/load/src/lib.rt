@@ -1,4 +1,5 @@
-// The stated load: one run, the lines of a thousand, and what the program prints.
+// The stated load, whose sheets are of edition 1: one run, the lines of a thousand, and what the program prints.
+use edition::Edition;
 use generator::Generator;
 use outcome::Outcome;
 use outcome::Verdict;
@@ -9,7 +10,7 @@ ghost use lib.ListN.{length, getD, take};
 ghost use Rattle.definition.specs.Layout.{coinKinds, layout};
 ghost use Rattle.definition.specs.Load.{drawOrder, drawSheet, loadLines, loadOutput, seedOf, verdictOn};
 ghost use Rattle.definition.specs.Reading.{sheetTest};
-ghost use Rattle.definition.specs.Sheet.{sheetOf};
+ghost use Rattle.definition.specs.Sheet.{edition1, sheetOf};
 ghost use Rattle.definition.specs.Verdict.{accepted};
 ghost use Rattle.outcome.specs.Meaning.{verdictOf};
 ghost use Rattle.load.specs.Runs.{RunFrom, linesFrom};
@@ -49,8 +50,8 @@ fn after_sheet(
     coins: &mut [u32],
     output: &mut [u8],
 ) -> Ran
-    requires { ⌜ (length (now w) ≡ 12) × (sheetTest (now w) ≡ accepted) ⌝ }
-    requires { ⌜ (length (now coefficients) ≡ sheetOf (now w) .degree) × ((length (now coins) ≡ length (coinKinds (layout (sheetOf (now w))))) × (length (now output) ≡ 34304)) ⌝ }
+    requires { ⌜ (length (now w) ≡ 12) × (sheetTest edition1 (now w) ≡ accepted) ⌝ }
+    requires { ⌜ (length (now coefficients) ≡ sheetOf edition1 (now w) .degree) × ((length (now coins) ≡ length (coinKinds (layout (sheetOf edition1 (now w))))) × (length (now output) ≡ 34304)) ⌝ }
     ensures { λ r. ⌜ ((v : ℕ) → record { value = now (w .entry); next = generator .v } ≡ drawSheet v → RunFrom v r) ⌝ }
 {
     let drawn = draws::coefficients(w[0], generator, coefficients);
@@ -74,7 +75,7 @@ pub fn run(generator: Generator) -> Ran
     let mut coins = coins_room();
     let mut output = file_room();
     let d = w[2] as usize;
-    let n = sheet::coins_due(&w);
+    let n = sheet::coins_due(Edition::One, &w);
     after_sheet(
         &w,
         next,

@@ -12,7 +12,7 @@ use Rattle.definition.specs.Block.{blockCount}
 use Rattle.definition.specs.Layout.{coinKinds, layout, wordsDue}
 use Rattle.definition.specs.Prove.{coefficientsTest, coinDomainTest, coinsTest, encodeTests, inputRangeTest, outputTest, proveTests, sheetLengthTest}
 use Rattle.definition.specs.Reading.{sheetTest}
-use Rattle.definition.specs.Sheet.{sheetOf}
+use Rattle.definition.specs.Sheet.{Edition, sheetLength, sheetOf}
 use Rattle.definition.specs.Verdict.{Outcome, accepted, refused, refuseAt, refuseIf, _then_}
 use Rattle.outcome.specs.declared.Found.{Found}
 use Rattle.outcome.specs.declared.Found.the-variants.{At, Nothing}
@@ -51,97 +51,97 @@ enough due need have h = sym (rw (le-ltb have need h))
 
 -- ---- the sheet's tests, and the tests after them
 
-module _ (w : List ℕ) where
-  pub other-length : (length w ≡ 12 → ⊥) → refused 10 0 ≡ (sheetLengthTest w then sheetTest w)
+module _ (ed : Edition) (w : List ℕ) where
+  pub other-length : {n : ℕ} → n ≡ sheetLength ed → (length w ≡ n → ⊥) → refused 10 0 ≡ (sheetLengthTest ed w then sheetTest ed w)
   unfolding sheetLengthTest
-  other-length h = differ 10 0 (length w) 12 (sheetTest w) h
+  other-length q h = differ 10 0 (length w) (sheetLength ed) (sheetTest ed w) (λ e. h (e ∙ sym q))
 
-  pub twelve-words : {o : Outcome} → length w ≡ 12 → o ≡ sheetTest w → o ≡ (sheetLengthTest w then sheetTest w)
+  pub all-words : {n : ℕ} {o : Outcome} → n ≡ sheetLength ed → length w ≡ n → o ≡ sheetTest ed w → o ≡ (sheetLengthTest ed w then sheetTest ed w)
   unfolding sheetLengthTest
-  twelve-words h e = agree 10 0 (length w) 12 h e
+  all-words q h e = agree 10 0 (length w) (sheetLength ed) (h ∙ q) e
 
-module _ (w : List ℕ) {r : Answered} (first : outcomeOf r ≡ (sheetLengthTest w then sheetTest w)) where
-  pub sheet-refused : {number place : ℕ} (next : Outcome) → r ≡ Refused number place → refused number place ≡ (sheetLengthTest w then sheetTest w then next)
+module _ (ed : Edition) (w : List ℕ) {r : Answered} (first : outcomeOf r ≡ (sheetLengthTest ed w then sheetTest ed w)) where
+  pub sheet-refused : {number place : ℕ} (next : Outcome) → r ≡ Refused number place → refused number place ≡ (sheetLengthTest ed w then sheetTest ed w then next)
   unfolding outcomeOf _then_
-  sheet-refused {number} {place} next h = go (sheetLengthTest w) (sheetTest w) (sym (ap outcomeOf h) ∙ first)
+  sheet-refused {number} {place} next h = go (sheetLengthTest ed w) (sheetTest ed w) (sym (ap outcomeOf h) ∙ first)
     where
       go : (a b : Outcome) → refused number place ≡ (a then b) → refused number place ≡ (a then b then next)
       go accepted b e = ap (λ (o : Outcome). o then next) e
       go (refused n p) b e = e
 
   module _ (passed : r ≡ Accepted) where
-    both : (sheetLengthTest w ≡ accepted) × (sheetTest w ≡ accepted)
+    both : (sheetLengthTest ed w ≡ accepted) × (sheetTest ed w ≡ accepted)
     unfolding outcomeOf
-    both = then-passes (sheetLengthTest w) (sheetTest w) (sym first ∙ ap outcomeOf passed)
+    both = then-passes (sheetLengthTest ed w) (sheetTest ed w) (sym first ∙ ap outcomeOf passed)
 
-    pub sheet-long : 12 ≤ length w
+    pub sheet-long : sheetLength ed ≤ length w
     unfolding sheetLengthTest
-    sheet-long = omega (arith, equal-passes 10 0 (length w) 12 (both .0))
+    sheet-long = omega (arith, equal-passes 10 0 (length w) (sheetLength ed) (both .0))
 
-    pub sheet-passed : sheetTest w ≡ accepted
+    pub sheet-passed : sheetTest ed w ≡ accepted
     sheet-passed = both .1
 
-    pub after-sheet : {o next : Outcome} → o ≡ next → o ≡ (sheetLengthTest w then sheetTest w then next)
+    pub after-sheet : {o next : Outcome} → o ≡ next → o ≡ (sheetLengthTest ed w then sheetTest ed w then next)
     unfolding _then_
     after-sheet {next = next} e = e ∙ sym (λ i. both .0 i then both .1 i then next)
 
 -- ---- prove's tests after the sheet's
 
-module _ (w f coins output : List ℕ) where
-  pub other-coefficients : (length f ≡ getD w 2 0 → ⊥) → refused 10 1 ≡ proveTests (sheetOf w) f coins output
+module _ (ed : Edition) (w f coins output : List ℕ) where
+  pub other-coefficients : (length f ≡ getD w 2 0 → ⊥) → refused 10 1 ≡ proveTests ed (sheetOf ed w) f coins output
   unfolding proveTests coefficientsTest sheetOf
   other-coefficients h = differ 10 1 (length f) (getD w 2 0) _ h
 
   module _ (right : length f ≡ getD w 2 0) where
-    pub other-coins : {due : ℕ} → due ≡ length (coinKinds (layout (sheetOf w))) → (length coins ≡ due → ⊥) → refused 10 2 ≡ proveTests (sheetOf w) f coins output
+    pub other-coins : {due : ℕ} → due ≡ length (coinKinds (layout (sheetOf ed w))) → (length coins ≡ due → ⊥) → refused 10 2 ≡ proveTests ed (sheetOf ed w) f coins output
     unfolding proveTests coefficientsTest coinsTest sheetOf
     other-coins {due} is h = agree 10 1 (length f) (getD w 2 0) right (differ 10 2 (length coins) _ _ (λ e. h (e ∙ sym is)))
 
-    module _ (full : length coins ≡ length (coinKinds (layout (sheetOf w)))) where
+    module _ (full : length coins ≡ length (coinKinds (layout (sheetOf ed w)))) where
       from-range : {o : Outcome} →
-          o ≡ (inputRangeTest (sheetOf w) (coinKinds (layout (sheetOf w))) (f ++ coins) then coinDomainTest (sheetOf w) coins
-          then outputTest (blockCount (wordsDue (sheetOf w))) (512 * blockCount (wordsDue (sheetOf w))) (length output)) →
-          o ≡ proveTests (sheetOf w) f coins output
+          o ≡ (inputRangeTest (sheetOf ed w) (coinKinds (layout (sheetOf ed w))) (f ++ coins) then coinDomainTest (sheetOf ed w) coins
+          then outputTest (blockCount (wordsDue ed (sheetOf ed w))) (512 * blockCount (wordsDue ed (sheetOf ed w))) (length output)) →
+          o ≡ proveTests ed (sheetOf ed w) f coins output
       unfolding proveTests coefficientsTest coinsTest sheetOf
       from-range e = agree 10 1 (length f) (getD w 2 0) right (agree 10 2 (length coins) _ full e)
 
-      module _ {range : Found} (ranged : refuseAt 5 (placeOf range) ≡ inputRangeTest (sheetOf w) (coinKinds (layout (sheetOf w))) (f ++ coins)) where
-        pub out-of-range : {place : ℕ} → range ≡ At place → refused 5 place ≡ proveTests (sheetOf w) f coins output
+      module _ {range : Found} (ranged : refuseAt 5 (placeOf range) ≡ inputRangeTest (sheetOf ed w) (coinKinds (layout (sheetOf ed w))) (f ++ coins)) where
+        pub out-of-range : {place : ℕ} → range ≡ At place → refused 5 place ≡ proveTests ed (sheetOf ed w) f coins output
         out-of-range h = from-range (found 5 _ ranged h)
 
-        module _ (in-range : range ≡ Nothing) {inside : Found} (tested : refuseAt 7 (placeOf inside) ≡ coinDomainTest (sheetOf w) coins) where
-          pub in-domain : {place : ℕ} → inside ≡ At place → refused 7 place ≡ proveTests (sheetOf w) f coins output
+        module _ (in-range : range ≡ Nothing) {inside : Found} (tested : refuseAt 7 (placeOf inside) ≡ coinDomainTest (sheetOf ed w) coins) where
+          pub in-domain : {place : ℕ} → inside ≡ At place → refused 7 place ≡ proveTests ed (sheetOf ed w) f coins output
           in-domain h = from-range (clear 5 ranged in-range (found 7 _ tested h))
 
-          module _ (outside : inside ≡ Nothing) {blocks : ℕ} (is : blocks ≡ blockCount (wordsDue (sheetOf w))) {room : ℕ} (has : length output ≡ room) where
-            with-output : {o : Outcome} → o ≡ outputTest blocks (512 * blocks) room → o ≡ proveTests (sheetOf w) f coins output
+          module _ (outside : inside ≡ Nothing) {blocks : ℕ} (is : blocks ≡ blockCount (wordsDue ed (sheetOf ed w))) {room : ℕ} (has : length output ≡ room) where
+            with-output : {o : Outcome} → o ≡ outputTest blocks (512 * blocks) room → o ≡ proveTests ed (sheetOf ed w) f coins output
             with-output e = from-range (clear 5 ranged in-range (clear 7 tested outside (e ∙ (λ i. outputTest (is i) (512 * is i) (sym has i)))))
 
-            pub few-bytes : room < 512 * blocks → refused 11 blocks ≡ proveTests (sheetOf w) f coins output
+            pub few-bytes : room < 512 * blocks → refused 11 blocks ≡ proveTests ed (sheetOf ed w) f coins output
             few-bytes h = with-output (short blocks (512 * blocks) room h)
 
-            pub proves : 512 * blocks ≤ room → accepted ≡ proveTests (sheetOf w) f coins output
+            pub proves : 512 * blocks ≤ room → accepted ≡ proveTests ed (sheetOf ed w) f coins output
             proves h = with-output (enough blocks (512 * blocks) room h)
 
 -- ---- encode's tests after the sheet's
 
-module _ (w f output : List ℕ) where
-  pub other-count : (length f ≡ getD w 2 0 → ⊥) → refused 10 1 ≡ encodeTests (sheetOf w) f output
+module _ (ed : Edition) (w f output : List ℕ) where
+  pub other-count : (length f ≡ getD w 2 0 → ⊥) → refused 10 1 ≡ encodeTests (sheetOf ed w) f output
   unfolding encodeTests coefficientsTest sheetOf
   other-count h = differ 10 1 (length f) (getD w 2 0) _ h
 
-  module _ (right : length f ≡ getD w 2 0) {range : Found} (ranged : refuseAt 5 (placeOf range) ≡ inputRangeTest (sheetOf w) [] f) where
-    pub no-element : {place : ℕ} → range ≡ At place → refused 5 place ≡ encodeTests (sheetOf w) f output
+  module _ (right : length f ≡ getD w 2 0) {range : Found} (ranged : refuseAt 5 (placeOf range) ≡ inputRangeTest (sheetOf ed w) [] f) where
+    pub no-element : {place : ℕ} → range ≡ At place → refused 5 place ≡ encodeTests (sheetOf ed w) f output
     unfolding encodeTests coefficientsTest sheetOf
     no-element h = agree 10 1 (length f) (getD w 2 0) right (found 5 _ ranged h)
 
     module _ (elements : range ≡ Nothing) {room : ℕ} (has : length output ≡ room) where
-      with-words : {o : Outcome} → o ≡ outputTest (getD w 1 0) (getD w 1 0) room → o ≡ encodeTests (sheetOf w) f output
+      with-words : {o : Outcome} → o ≡ outputTest (getD w 1 0) (getD w 1 0) room → o ≡ encodeTests (sheetOf ed w) f output
       unfolding encodeTests coefficientsTest sheetOf
       with-words e = agree 10 1 (length f) (getD w 2 0) right (clear 5 ranged elements (e ∙ ap (outputTest (getD w 1 0) (getD w 1 0)) (sym has)))
 
-      pub few-words : room < getD w 1 0 → refused 11 (getD w 1 0) ≡ encodeTests (sheetOf w) f output
+      pub few-words : room < getD w 1 0 → refused 11 (getD w 1 0) ≡ encodeTests (sheetOf ed w) f output
       few-words h = with-words (short (getD w 1 0) (getD w 1 0) room h)
 
-      pub encodes : getD w 1 0 ≤ room → accepted ≡ encodeTests (sheetOf w) f output
+      pub encodes : getD w 1 0 ≤ room → accepted ≡ encodeTests (sheetOf ed w) f output
       encodes h = with-words (enough (getD w 1 0) (getD w 1 0) room h)

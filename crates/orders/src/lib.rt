@@ -1,5 +1,6 @@
 // The tests that prove and encode make of an order before they write anything: refusals 3, 5, 7, 10 and 11, up to the first that fails. An order is a sheet w,
-// coefficients f, for prove coins, and an output, of which only its size counts here.
+// coefficients f, for prove coins, and an output, of which only its size counts here. Prove has either edition, encode edition 1.
+use edition::Edition;
 use outcome::Found;
 use outcome::Outcome;
 ghost use mathlib.Core.Path.{_≡_};
@@ -9,24 +10,25 @@ ghost use lib.ListN.{length, getD};
 ghost use Rattle.definition.specs.Layout.{coinKinds, layout};
 ghost use Rattle.definition.specs.Prove.{coinDomainTest, encodeTests, inputRangeTest, proveTests, sheetLengthTest};
 ghost use Rattle.definition.specs.Reading.{sheetTest};
-ghost use Rattle.definition.specs.Sheet.{rootOfUnity, sheetOf};
+ghost use Rattle.definition.specs.Sheet.{edition1, rootOfUnity, sheetLength, sheetOf};
 ghost use Rattle.definition.specs.Verdict.{accepted, refuseAt, _then_};
 ghost use Rattle.domain.specs.Powers.{Powers};
+ghost use Rattle.edition.specs.Meaning.{editionOf};
 ghost use Rattle.outcome.specs.Meaning.{outcomeOf, placeOf};
 
 // Refusal 5 of prove: the first word out of range, by its position in the coefficients followed by the coins.
-fn input_out_of_range(w: &[u32], f: &[u32], coins: &[u32]) -> Found
-    requires { ⌜ (12 ≤ length (now w)) × (sheetTest (now w) ≡ accepted) ⌝ }
+fn input_out_of_range(e: Edition, w: &[u32], f: &[u32], coins: &[u32]) -> Found
+    requires { ⌜ (sheetLength (editionOf e) ≤ length (now w)) × (sheetTest (editionOf e) (now w) ≡ accepted) ⌝ }
     requires { ⌜ length (now f) ≡ getD (now w) 2 0 ⌝ }
-    requires { ⌜ length (now coins) ≡ length (coinKinds (layout (sheetOf (now w)))) ⌝ }
+    requires { ⌜ length (now coins) ≡ length (coinKinds (layout (sheetOf (editionOf e) (now w)))) ⌝ }
     ensures { λ r.
-        ⌜ refuseAt 5 (placeOf r) ≡ inputRangeTest (sheetOf (now (w .entry))) (coinKinds (layout (sheetOf (now (w .entry))))) (now (f .entry) ++ now (coins .entry)) ⌝ }
+        ⌜ refuseAt 5 (placeOf r) ≡ inputRangeTest (sheetOf (editionOf e) (now (w .entry))) (coinKinds (layout (sheetOf (editionOf e) (now (w .entry))))) (now (f .entry) ++ now (coins .entry)) ⌝ }
 {
     let coefficient = ranges::coefficient_out_of_range(w[0], f);
     if let Found::At(place) = coefficient {
         return Found::At(place);
     }
-    let coin = ranges::coin_out_of_range(w, coins);
+    let coin = ranges::coin_out_of_range(e, w, coins);
     if let Found::At(place) = coin {
         return Found::At(f.len() + place);
     }
@@ -34,11 +36,11 @@ fn input_out_of_range(w: &[u32], f: &[u32], coins: &[u32]) -> Found
 }
 
 // The first out coin of a round that lies in the round's domain, by its position in the coins and by the table of points.
-fn coin_inside(w: &[u32], pw: &[u32], coins: &[u32]) -> Found
-    requires { ⌜ (12 ≤ length (now w)) × (sheetTest (now w) ≡ accepted) ⌝ }
-    requires { ⌜ length (now coins) ≡ length (coinKinds (layout (sheetOf (now w)))) ⌝ }
-    requires { ⌜ (Powers (getD (now w) 0 0) (rootOfUnity (sheetOf (now w))) (now pw)) × (length (now pw) ≡ getD (now w) 1 0) ⌝ }
-    ensures { λ r. ⌜ refuseAt 7 (placeOf r) ≡ coinDomainTest (sheetOf (now (w .entry))) (now (coins .entry)) ⌝ }
+fn coin_inside(e: Edition, w: &[u32], pw: &[u32], coins: &[u32]) -> Found
+    requires { ⌜ (sheetLength (editionOf e) ≤ length (now w)) × (sheetTest (editionOf e) (now w) ≡ accepted) ⌝ }
+    requires { ⌜ length (now coins) ≡ length (coinKinds (layout (sheetOf (editionOf e) (now w)))) ⌝ }
+    requires { ⌜ (Powers (getD (now w) 0 0) (rootOfUnity (sheetOf (editionOf e) (now w))) (now pw)) × (length (now pw) ≡ getD (now w) 1 0) ⌝ }
+    ensures { λ r. ⌜ refuseAt 7 (placeOf r) ≡ coinDomainTest (sheetOf (editionOf e) (now (w .entry))) (now (coins .entry)) ⌝ }
 {
     let rounds = w[4] as usize;
     let s = w[5] as usize;
@@ -60,29 +62,29 @@ fn coin_inside(w: &[u32], pw: &[u32], coins: &[u32]) -> Found
 }
 
 // Refusal 7 of prove: the same, with the table of points made for it. A small sheet is spared the clearing of many places.
-fn coin_in_domain(w: &[u32], coins: &[u32]) -> Found
-    requires { ⌜ (12 ≤ length (now w)) × (sheetTest (now w) ≡ accepted) ⌝ }
-    requires { ⌜ length (now coins) ≡ length (coinKinds (layout (sheetOf (now w)))) ⌝ }
-    ensures { λ r. ⌜ refuseAt 7 (placeOf r) ≡ coinDomainTest (sheetOf (now (w .entry))) (now (coins .entry)) ⌝ }
+fn coin_in_domain(e: Edition, w: &[u32], coins: &[u32]) -> Found
+    requires { ⌜ (sheetLength (editionOf e) ≤ length (now w)) × (sheetTest (editionOf e) (now w) ≡ accepted) ⌝ }
+    requires { ⌜ length (now coins) ≡ length (coinKinds (layout (sheetOf (editionOf e) (now w)))) ⌝ }
+    ensures { λ r. ⌜ refuseAt 7 (placeOf r) ≡ coinDomainTest (sheetOf (editionOf e) (now (w .entry))) (now (coins .entry)) ⌝ }
 {
     if w[1] <= 256 {
         let mut few = domain::few_points_room();
         let count = domain::of_sheet_within(w, &mut few);
-        return coin_inside(w, &few[..count], coins);
+        return coin_inside(e, w, &few[..count], coins);
     }
     let mut pw = domain::points_room();
     let size = domain::of_sheet(w, &mut pw);
-    coin_inside(w, &pw[..size], coins)
+    coin_inside(e, w, &pw[..size], coins)
 }
 
-// What both begin with: the sheet is 12 words long (else 10), and none of them breaks its rule (else 3).
-fn sheet_tests(w: &[u32]) -> Outcome
-    ensures { λ r. ⌜ outcomeOf r ≡ (sheetLengthTest (now (w .entry)) then sheetTest (now (w .entry))) ⌝ }
+// What both begin with: the sheet is as long as its edition says (else 10), and none of its words breaks its rule (else 3).
+pub fn sheet_tests(e: Edition, w: &[u32]) -> Outcome
+    ensures { λ r. ⌜ outcomeOf r ≡ (sheetLengthTest (editionOf e) (now (w .entry)) then sheetTest (editionOf e) (now (w .entry))) ⌝ }
 {
-    if w.len() != 12 {
+    if w.len() != edition::sheet_words(e) {
         return Outcome::Refused(10, 0);
     }
-    let broken = sheet::broken(w);
+    let broken = sheet::broken(e, w);
     if let Found::At(place) = broken {
         return Outcome::Refused(3, place);
     }
@@ -90,26 +92,26 @@ fn sheet_tests(w: &[u32]) -> Outcome
 }
 
 // The tests of prove after the sheet's.
-fn prove_after_sheet(w: &[u32], f: &[u32], coins: &[u32], room: usize) -> Outcome
-    requires { ⌜ (12 ≤ length (now w)) × (sheetTest (now w) ≡ accepted) ⌝ }
+fn prove_after_sheet(e: Edition, w: &[u32], f: &[u32], coins: &[u32], room: usize) -> Outcome
+    requires { ⌜ (sheetLength (editionOf e) ≤ length (now w)) × (sheetTest (editionOf e) (now w) ≡ accepted) ⌝ }
     ensures { λ r.
-        ⌜ ((output : List ℕ) → length output ≡ room → outcomeOf r ≡ proveTests (sheetOf (now (w .entry))) (now (f .entry)) (now (coins .entry)) output) ⌝ }
+        ⌜ ((output : List ℕ) → length output ≡ room → outcomeOf r ≡ proveTests (editionOf e) (sheetOf (editionOf e) (now (w .entry))) (now (f .entry)) (now (coins .entry)) output) ⌝ }
 {
     if f.len() != w[2] as usize {
         return Outcome::Refused(10, 1);
     }
-    if coins.len() != sheet::coins_due(w) {
+    if coins.len() != sheet::coins_due(e, w) {
         return Outcome::Refused(10, 2);
     }
-    let range = input_out_of_range(w, f, coins);
+    let range = input_out_of_range(e, w, f, coins);
     if let Found::At(place) = range {
         return Outcome::Refused(5, place);
     }
-    let inside = coin_in_domain(w, coins);
+    let inside = coin_in_domain(e, w, coins);
     if let Found::At(place) = inside {
         return Outcome::Refused(7, place);
     }
-    let blocks = sheet::blocks_due(w);
+    let blocks = sheet::blocks_due(e, w);
     if room < 512 * blocks {
         return Outcome::Refused(11, blocks);
     }
@@ -118,8 +120,8 @@ fn prove_after_sheet(w: &[u32], f: &[u32], coins: &[u32], room: usize) -> Outcom
 
 // The tests of encode after the sheet's.
 fn encode_after_sheet(w: &[u32], f: &[u32], room: usize) -> Outcome
-    requires { ⌜ (12 ≤ length (now w)) × (sheetTest (now w) ≡ accepted) ⌝ }
-    ensures { λ r. ⌜ ((output : List ℕ) → length output ≡ room → outcomeOf r ≡ encodeTests (sheetOf (now (w .entry))) (now (f .entry)) output) ⌝ }
+    requires { ⌜ (sheetLength edition1 ≤ length (now w)) × (sheetTest edition1 (now w) ≡ accepted) ⌝ }
+    ensures { λ r. ⌜ ((output : List ℕ) → length output ≡ room → outcomeOf r ≡ encodeTests (sheetOf edition1 (now (w .entry))) (now (f .entry)) output) ⌝ }
 {
     if f.len() != w[2] as usize {
         return Outcome::Refused(10, 1);
@@ -136,23 +138,23 @@ fn encode_after_sheet(w: &[u32], f: &[u32], room: usize) -> Outcome
 }
 
 // The tests of an order to prove; `room` is the number of bytes of the output.
-pub fn prove_tests(w: &[u32], f: &[u32], coins: &[u32], room: usize) -> Outcome
+pub fn prove_tests(e: Edition, w: &[u32], f: &[u32], coins: &[u32], room: usize) -> Outcome
     ensures { λ r.
-        ⌜ ((output : List ℕ) → length output ≡ room → outcomeOf r ≡ (sheetLengthTest (now (w .entry)) then sheetTest (now (w .entry)) then proveTests (sheetOf (now (w .entry))) (now (f .entry)) (now (coins .entry)) output)) ⌝ }
+        ⌜ ((output : List ℕ) → length output ≡ room → outcomeOf r ≡ (sheetLengthTest (editionOf e) (now (w .entry)) then sheetTest (editionOf e) (now (w .entry)) then proveTests (editionOf e) (sheetOf (editionOf e) (now (w .entry))) (now (f .entry)) (now (coins .entry)) output)) ⌝ }
 {
-    let sheet = sheet_tests(w);
+    let sheet = sheet_tests(e, w);
     if let Outcome::Refused(number, place) = sheet {
         return Outcome::Refused(number, place);
     }
-    prove_after_sheet(w, f, coins, room)
+    prove_after_sheet(e, w, f, coins, room)
 }
 
 // The tests of an order to encode; `room` is the number of words of the output.
 pub fn encode_tests(w: &[u32], f: &[u32], room: usize) -> Outcome
     ensures { λ r.
-        ⌜ ((output : List ℕ) → length output ≡ room → outcomeOf r ≡ (sheetLengthTest (now (w .entry)) then sheetTest (now (w .entry)) then encodeTests (sheetOf (now (w .entry))) (now (f .entry)) output)) ⌝ }
+        ⌜ ((output : List ℕ) → length output ≡ room → outcomeOf r ≡ (sheetLengthTest edition1 (now (w .entry)) then sheetTest edition1 (now (w .entry)) then encodeTests (sheetOf edition1 (now (w .entry))) (now (f .entry)) output)) ⌝ }
 {
-    let sheet = sheet_tests(w);
+    let sheet = sheet_tests(Edition::One, w);
     if let Outcome::Refused(number, place) = sheet {
         return Outcome::Refused(number, place);
     }

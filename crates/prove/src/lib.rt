@@ -1,4 +1,5 @@
 // Prove: an order is refused with number and place and no byte is written, or the honest file stands at the front of the output.
+use edition::Edition;
 use outcome::Answer;
 use outcome::Outcome;
 ghost use mathlib.Core.Path.{_≡_};
@@ -7,10 +8,11 @@ ghost use Prim.Native.Nat.{_*_, _≤_};
 ghost use lib.ListN.{length, drop};
 ghost use Rattle.definition.specs.Block.{blockCount, fileOf};
 ghost use Rattle.definition.specs.Layout.{wordsDue};
-ghost use Rattle.definition.specs.Prove.{done, prove};
+ghost use Rattle.definition.specs.Prove.{done, prove, proveIn};
 ghost use Rattle.definition.specs.Prover.{honestStream};
-ghost use Rattle.definition.specs.Sheet.{sheetOf};
+ghost use Rattle.definition.specs.Sheet.{edition2, sheetOf};
 ghost use Rattle.completeness.specs.Numbered.{Allowed};
+ghost use Rattle.edition.specs.Meaning.{editionOf};
 ghost use Rattle.outcome.specs.Meaning.{answerOf};
 
 // Places for the words of the longest stream.
@@ -29,6 +31,7 @@ fn small_room() -> [u32; 1016]
 
 // Writes the honest file at the front of the output, by way of the places lent for the stream's words, of which it has `due`. The answer is its number of blocks.
 fn write(
+    e: Edition,
     sheet: &[u32],
     coefficients: &[u32],
     coins: &[u32],
@@ -36,31 +39,53 @@ fn write(
     words: &mut [u32],
     output: &mut [u8],
 ) -> Answer
-    requires { ⌜ Allowed (now sheet) (now coefficients) (now coins) ⌝ }
-    requires { ⌜ (due ≡ wordsDue (sheetOf (now sheet))) × ((due ≤ length (now words)) × (512 * blockCount due ≤ length (now output))) ⌝ }
+    requires { ⌜ Allowed (editionOf e) (now sheet) (now coefficients) (now coins) ⌝ }
+    requires { ⌜ (due ≡ wordsDue (editionOf e) (sheetOf (editionOf e) (now sheet))) × ((due ≤ length (now words)) × (512 * blockCount due ≤ length (now output))) ⌝ }
     ensures { λ r. ⌜ answerOf r ≡ done (blockCount due) ⌝ }
-    ensures { λ _. ⌜ now (output .exit) ≡ fileOf (honestStream (now (sheet .entry)) (now (coefficients .entry)) (now (coins .entry))) ++ drop (length (fileOf (honestStream (now (sheet .entry)) (now (coefficients .entry)) (now (coins .entry))))) (now (output .entry)) ⌝ }
+    ensures { λ _. ⌜ now (output .exit) ≡ fileOf (honestStream (editionOf e) (now (sheet .entry)) (now (coefficients .entry)) (now (coins .entry))) ++ drop (length (fileOf (honestStream (editionOf e) (now (sheet .entry)) (now (coefficients .entry)) (now (coins .entry))))) (now (output .entry)) ⌝ }
 {
-    honest::stream(sheet, coefficients, coins, &mut words[..due]);
+    honest::stream(e, sheet, coefficients, coins, &mut words[..due]);
     stream::seal(words, due, output);
     Answer::Done((due + 126) / 127)
 }
 
-// The answer to an order, and the whole output as it then is. No refusal is found after the first byte is written. A short file is spared the clearing of
-// many places.
+// The answer to an order with a sheet of the edition, and the whole output as it then is. No refusal is found after the first byte is written. A short file is
+// spared the clearing of many places.
+pub fn prove_in(
+    e: Edition,
+    sheet: &[u32],
+    coefficients: &[u32],
+    coins: &[u32],
+    output: &mut [u8],
+) -> Answer
+    ensures { λ r. ⌜ answerOf r ≡ proveIn (editionOf e) (now (sheet .entry)) (now (coefficients .entry)) (now (coins .entry)) (now (output .entry)) .answer ⌝ }
+    ensures { λ r. ⌜ now (output .exit) ≡ proveIn (editionOf e) (now (sheet .entry)) (now (coefficients .entry)) (now (coins .entry)) (now (output .entry)) .output ⌝ }
+{
+    let tests = orders::prove_tests(e, sheet, coefficients, coins, output.len());
+    if let Outcome::Refused(number, place) = tests {
+        return Answer::Refusal(number, place);
+    }
+    let due = sheet::words_due(e, sheet);
+    if due <= 1016 {
+        let mut few = small_room();
+        return write(e, sheet, coefficients, coins, due, &mut few, output);
+    }
+    let mut words = room();
+    write(e, sheet, coefficients, coins, due, &mut words, output)
+}
+
+// The answer to an order with a sheet of edition 1, and the whole output as it then is.
 pub fn prove(sheet: &[u32], coefficients: &[u32], coins: &[u32], output: &mut [u8]) -> Answer
     ensures { λ r. ⌜ answerOf r ≡ prove (now (sheet .entry)) (now (coefficients .entry)) (now (coins .entry)) (now (output .entry)) .answer ⌝ }
     ensures { λ r. ⌜ now (output .exit) ≡ prove (now (sheet .entry)) (now (coefficients .entry)) (now (coins .entry)) (now (output .entry)) .output ⌝ }
 {
-    let tests = orders::prove_tests(sheet, coefficients, coins, output.len());
-    if let Outcome::Refused(number, place) = tests {
-        return Answer::Refusal(number, place);
-    }
-    let due = sheet::words_due(sheet);
-    if due <= 1016 {
-        let mut few = small_room();
-        return write(sheet, coefficients, coins, due, &mut few, output);
-    }
-    let mut words = room();
-    write(sheet, coefficients, coins, due, &mut words, output)
+    prove_in(Edition::One, sheet, coefficients, coins, output)
+}
+
+// The same of edition 2.
+pub fn prove_2(sheet: &[u32], coefficients: &[u32], coins: &[u32], output: &mut [u8]) -> Answer
+    ensures { λ r. ⌜ answerOf r ≡ proveIn edition2 (now (sheet .entry)) (now (coefficients .entry)) (now (coins .entry)) (now (output .entry)) .answer ⌝ }
+    ensures { λ r. ⌜ now (output .exit) ≡ proveIn edition2 (now (sheet .entry)) (now (coefficients .entry)) (now (coins .entry)) (now (output .entry)) .output ⌝ }
+{
+    prove_in(Edition::Two, sheet, coefficients, coins, output)
 }

@@ -3,6 +3,7 @@
 // The walk of refusal 5 counts two rounds beside the rounds 1 to M: round 0 is table 0 with its fold coin, round M + 1 is the final coefficients and
 // indices. Each is then a run of elements and a run of indices below one limit, and the functions before the walk give their numbers. A list of coins
 // alone has the same rounds with fewer elements, so that one walk serves the words of a stream and the coins of an order.
+use edition::Edition;
 use outcome::Found;
 ghost use mathlib.Core.Path.{_≡_};
 ghost use mathlib.Core.Bool.{true, not};
@@ -14,8 +15,9 @@ ghost use Rattle.definition.specs.Field.{primeOf};
 ghost use Rattle.definition.specs.Lists.{firstTrue};
 ghost use Rattle.definition.specs.Layout.{coinKinds, layout, wordsDue};
 ghost use Rattle.definition.specs.Reading.{outOfRange, sheetTest};
-ghost use Rattle.definition.specs.Sheet.{sheetOf};
+ghost use Rattle.definition.specs.Sheet.{sheetLength, sheetOf};
 ghost use Rattle.definition.specs.Verdict.{accepted};
+ghost use Rattle.edition.specs.Meaning.{editionOf};
 ghost use Rattle.outcome.specs.Meaning.{placeOf};
 ghost use Rattle.ranges.specs.Rounds.{Fine, allLimits, divided, elementCount, indexCount, indexLimit};
 
@@ -42,9 +44,9 @@ fn divide(x: usize, b: usize, times: usize) -> usize
 }
 
 // How many elements the coins of a round begin with: a fold coin; then out coins and two coins; at last none.
-fn coin_elements(w: &[u32], round: usize) -> usize
+fn coin_elements(e: Edition, w: &[u32], round: usize) -> usize
     requires { ⌜ 12 ≤ length (now w) ⌝ }
-    ensures { λ r. ⌜ r ≡ elementCount true (now (w .entry)) round ⌝ }
+    ensures { λ r. ⌜ r ≡ elementCount true (editionOf e) (now (w .entry)) round ⌝ }
 {
     if round == 0 {
         return 1;
@@ -57,13 +59,12 @@ fn coin_elements(w: &[u32], round: usize) -> usize
 
 // How many elements a round begins with: table 0 and a fold coin; then table, out coins, replies and two coins; at last the final coefficients. Where the
 // coins stand alone, only they count.
-fn elements(w: &[u32], alone: bool, round: usize) -> usize
-    requires { ⌜ 12 ≤ length (now w) ⌝ }
-    requires { ⌜ 0 < getD (now w) 3 0 ⌝ }
-    ensures { λ r. ⌜ r ≡ elementCount alone (now (w .entry)) round ⌝ }
+fn elements(e: Edition, w: &[u32], alone: bool, round: usize) -> usize
+    requires { ⌜ (Fine (editionOf e) (now w)) × (round ≤ getD (now w) 4 0 + 1) ⌝ }
+    ensures { λ r. ⌜ r ≡ elementCount alone (editionOf e) (now (w .entry)) round ⌝ }
 {
     if alone {
-        return coin_elements(w, round);
+        return coin_elements(e, w, round);
     }
     if round == 0 {
         return word(w, 1) + 1;
@@ -71,7 +72,7 @@ fn elements(w: &[u32], alone: bool, round: usize) -> usize
     if round <= word(w, 4) {
         return divide(word(w, 1), 2, round) + 2 * word(w, 5) + 2;
     }
-    divide(word(w, 2), word(w, 3), round)
+    edition::degree(e, w, round)
 }
 
 // How many indices follow the elements of a round.
@@ -87,22 +88,22 @@ fn indices(w: &[u32], round: usize) -> usize
 }
 
 // The limit that these indices are below: the number of shift points of the level before.
-fn limit(w: &[u32], round: usize) -> usize
-    requires { ⌜ 12 ≤ length (now w) ⌝ }
-    requires { ⌜ 0 < getD (now w) 3 0 ⌝ }
-    ensures { λ r. ⌜ r ≡ indexLimit (now (w .entry)) round ⌝ }
+fn limit(e: Edition, w: &[u32], round: usize) -> usize
+    requires { ⌜ (Fine (editionOf e) (now w)) × (round ≤ getD (now w) 4 0 + 1) ⌝ }
+    ensures { λ r. ⌜ r ≡ indexLimit (editionOf e) (now (w .entry)) round ⌝ }
 {
     if round == 0 {
         return 0;
     }
-    divide(word(w, 1), 2, round - 1) / word(w, 3)
+    let n = divide(word(w, 1), 2, round - 1);
+    n / edition::fold(e, w, round - 1)
 }
 
 // The first of the words from number `from` on that is not below its limit, by its number. They are those after the sheet w, or the coins alone.
-fn first_beyond(w: &[u32], alone: bool, words: &[u32], from: usize) -> Found
-    requires { ⌜ Fine (now w) ⌝ }
-    requires { ⌜ from + length (allLimits alone (now w)) ≤ length (now words) ⌝ }
-    ensures { λ r. ⌜ placeOf r ≡ firstTrue from (zipWith leb (allLimits alone (now (w .entry))) (drop from (now (words .entry)))) ⌝ }
+fn first_beyond(e: Edition, w: &[u32], alone: bool, words: &[u32], from: usize) -> Found
+    requires { ⌜ Fine (editionOf e) (now w) ⌝ }
+    requires { ⌜ from + length (allLimits alone (editionOf e) (now w)) ≤ length (now words) ⌝ }
+    ensures { λ r. ⌜ placeOf r ≡ firstTrue from (zipWith leb (allLimits alone (editionOf e) (now (w .entry))) (drop from (now (words .entry)))) ⌝ }
 {
     let p = field::modulus(w[0]) as usize;
     let rounds = word(w, 4) + 2;
@@ -110,9 +111,9 @@ fn first_beyond(w: &[u32], alone: bool, words: &[u32], from: usize) -> Found
     let mut at = from;
     let mut round = 0;
     'walk: while round < rounds {
-        let first = elements(w, alone, round);
+        let first = elements(e, w, alone, round);
         let count = first + indices(w, round);
-        let below = limit(w, round);
+        let below = limit(e, w, round);
         let mut j = 0;
         while j < count {
             let bound = if j < first { p } else { below };
@@ -129,23 +130,23 @@ fn first_beyond(w: &[u32], alone: bool, words: &[u32], from: usize) -> Found
 }
 
 // Refusal 5 of a stream: the first word after the sheet that is not below its limit, by its number in the stream.
-pub fn out_of_range(w: &[u32]) -> Found
-    requires { ⌜ sheetTest (now w) ≡ accepted ⌝ }
-    requires { ⌜ wordsDue (sheetOf (now w)) ≤ length (now w) ⌝ }
+pub fn out_of_range(e: Edition, w: &[u32]) -> Found
+    requires { ⌜ sheetTest (editionOf e) (now w) ≡ accepted ⌝ }
+    requires { ⌜ wordsDue (editionOf e) (sheetOf (editionOf e) (now w)) ≤ length (now w) ⌝ }
     ensures { λ r.
-        ⌜ placeOf r ≡ firstTrue 12 (zipWith (outOfRange (sheetOf (now (w .entry)))) (layout (sheetOf (now (w .entry)))) (drop 12 (now (w .entry)))) ⌝ }
+        ⌜ placeOf r ≡ firstTrue (sheetLength (editionOf e)) (zipWith (outOfRange (sheetOf (editionOf e) (now (w .entry)))) (layout (sheetOf (editionOf e) (now (w .entry)))) (drop (sheetLength (editionOf e)) (now (w .entry)))) ⌝ }
 {
-    first_beyond(w, false, w, 12)
+    first_beyond(e, w, false, w, edition::sheet_words(e))
 }
 
 // Refusal 5 of a full coin list: the first coin that is not below its limit, by its number in the list.
-pub fn coin_out_of_range(w: &[u32], coins: &[u32]) -> Found
-    requires { ⌜ (12 ≤ length (now w)) × (sheetTest (now w) ≡ accepted) ⌝ }
-    requires { ⌜ length (now coins) ≡ length (coinKinds (layout (sheetOf (now w)))) ⌝ }
+pub fn coin_out_of_range(e: Edition, w: &[u32], coins: &[u32]) -> Found
+    requires { ⌜ (sheetLength (editionOf e) ≤ length (now w)) × (sheetTest (editionOf e) (now w) ≡ accepted) ⌝ }
+    requires { ⌜ length (now coins) ≡ length (coinKinds (layout (sheetOf (editionOf e) (now w)))) ⌝ }
     ensures { λ r.
-        ⌜ placeOf r ≡ firstTrue 0 (zipWith (outOfRange (sheetOf (now (w .entry)))) (coinKinds (layout (sheetOf (now (w .entry))))) (now (coins .entry))) ⌝ }
+        ⌜ placeOf r ≡ firstTrue 0 (zipWith (outOfRange (sheetOf (editionOf e) (now (w .entry)))) (coinKinds (layout (sheetOf (editionOf e) (now (w .entry))))) (now (coins .entry))) ⌝ }
 {
-    first_beyond(w, true, coins, 0)
+    first_beyond(e, w, true, coins, 0)
 }
 
 // Refusal 5 of coefficients: the first that is no element, by its number.

@@ -7,7 +7,7 @@ use lib.Dec.{ltb}
 use lib.ListN.{length, take}
 use Rattle.definition.specs.Block.{streamOf}
 use Rattle.definition.specs.Verdict.{refuseIf, _then_}
-use Rattle.definition.specs.Sheet.{sheetLength}
+use Rattle.definition.specs.Sheet.{edition1, sheetLength}
 use Rattle.definition.specs.Prove.{Result, finish, outputTest}
 use Rattle.reader.specs.declared.Word.{Word}
 use Rattle.reader.specs.declared.Word.the-variants.{Value, End}
@@ -22,10 +22,10 @@ wordIn (word ∷ words) (suc n) = wordIn words n
 unfoldable pub numberAfter : List ℕ → ℕ → ℕ
 numberAfter words n = cond (ltb n (length words)) (suc n) n
 
--- The sheet that a file holds, judged or not. 1: the file is shorter than one block (place 0). 11: the output is shorter than 12 words (12).
+-- The sheet of edition 1 that a file holds, judged or not. 1: the file is shorter than one block (place 0). 11: the output is shorter than 12 words (12).
 unfoldable pub sheetWords : List ℕ → List ℕ → Result
 sheetWords file output =
-    finish (refuseIf 1 0 (ltb (length file) 512) then outputTest sheetLength sheetLength (length output)) sheetLength (take sheetLength (streamOf file)) output
+    finish (refuseIf 1 0 (ltb (length file) 512) then outputTest (sheetLength edition1) (sheetLength edition1) (length output)) (sheetLength edition1) (take (sheetLength edition1) (streamOf file)) output
 
 unfoldable pub valueOf : Word → Option ℕ
 valueOf (Value word) = some word

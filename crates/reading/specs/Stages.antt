@@ -4,6 +4,7 @@ use mathlib.Core.Path.{_≡_}
 use mathlib.Core.List.{List}
 use lib.ListN.{length, take}
 use Rattle.definition.specs.Block.{streamOf}
+use Rattle.definition.specs.Sheet.{Edition}
 use Rattle.definition.specs.Verdict as definition
 use Rattle.definition.specs.Reading.{reading}
 use Rattle.outcome.specs.declared.Outcome.{Outcome}
@@ -15,6 +16,6 @@ pub record Loads (words : List ℕ) (blocks : ℕ) (w : List ℕ) : Type 0 where
   pub front : (m : ℕ) → m ≤ blocks → m ≤ 67 → take (127 * m) words ≡ take (127 * m) w
 
 -- what reading answers and leaves
-pub record Read (file : List ℕ) (r : Outcome) (words : List ℕ) : Type 0 where
-  pub outcome : outcomeOf r ≡ reading file
-  pub stream : reading file ≡ definition.accepted → take (127 * (length file / 512)) words ≡ streamOf file
+pub record Read (ed : Edition) (file : List ℕ) (r : Outcome) (words : List ℕ) : Type 0 where
+  pub outcome : outcomeOf r ≡ reading ed file
+  pub stream : reading ed file ≡ definition.accepted → take (127 * (length file / 512)) words ≡ streamOf file

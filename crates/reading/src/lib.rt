@@ -1,55 +1,59 @@
-// Reading: refusals 1 to 6 of a file, and the words of its stream.
+// Reading: refusals 1 to 6 of a file of either edition, and the words of its stream.
+use edition::Edition;
 use outcome::Found;
 use outcome::Outcome;
 ghost use mathlib.Core.Path.{_≡_};
 ghost use Prim.Native.Nat.{ℕ, _*_, _/_, _≤_, min};
 ghost use lib.ListN.{length};
 ghost use mathlib.Core.List.{List};
-ghost use Rattle.definition.specs.Sheet.{sheetOf};
-ghost use Rattle.definition.specs.Layout.{wordsDue};
+ghost use Rattle.definition.specs.Sheet.{sheetLength, sheetOf};
+ghost use Rattle.definition.specs.Layout.{layout, wordsDue};
 ghost use Rattle.definition.specs.Verdict.{accepted, _then_};
 ghost use Rattle.definition.specs.Reading.{sheetTest, rangeTest, fillTest, streamTests};
+ghost use Rattle.edition.specs.Meaning.{editionOf};
 ghost use Rattle.outcome.specs.Meaning.{outcomeOf};
 ghost use Rattle.reading.specs.Stages.{Loads, Read};
 
 // Refusals 5 and 6, of the words of a stream whose sheet passes and that has all words due.
-fn body(w: &[u32]) -> Outcome
-    requires { ⌜ sheetTest (now w) ≡ accepted ⌝ }
-    requires { ⌜ wordsDue (sheetOf (now w)) ≤ length (now w) ⌝ }
-    ensures { λ r. ⌜ outcomeOf r ≡ (rangeTest (sheetOf (now (w .entry))) (now (w .entry)) then fillTest (sheetOf (now (w .entry))) (now (w .entry))) ⌝ }
+fn body(e: Edition, w: &[u32]) -> Outcome
+    requires { ⌜ sheetTest (editionOf e) (now w) ≡ accepted ⌝ }
+    requires { ⌜ wordsDue (editionOf e) (sheetOf (editionOf e) (now w)) ≤ length (now w) ⌝ }
+    ensures { λ r.
+        ⌜ outcomeOf r ≡ (rangeTest (sheetOf (editionOf e) (now (w .entry))) (sheetLength (editionOf e)) (layout (sheetOf (editionOf e) (now (w .entry)))) (now (w .entry)) then fillTest (wordsDue (editionOf e) (sheetOf (editionOf e) (now (w .entry)))) (now (w .entry))) ⌝ }
 {
-    let range = ranges::out_of_range(w);
+    let range = ranges::out_of_range(e, w);
     if let Found::At(place) = range {
         return Outcome::Refused(5, place);
     }
-    let fill = ranges::fill_not_zero(w, sheet::words_due(w));
+    let fill = ranges::fill_not_zero(w, sheet::words_due(e, w));
     if let Found::At(place) = fill {
         return Outcome::Refused(6, place);
     }
     Outcome::Accepted
 }
 
-// Refusals 3 to 6, of a file in so many blocks whose words are loaded. Only the first 12 words are looked at before the sheet passes.
-fn after_checks(words: &[u32], blocks: usize) -> Outcome
+// Refusals 3 to 6, of a file in so many blocks whose words are loaded. Only the words of the sheet are looked at before it passes.
+fn after_checks(e: Edition, words: &[u32], blocks: usize) -> Outcome
     requires { ⌜ (127 * min blocks 68 ≤ length (now words)) × (1 ≤ blocks) ⌝ }
-    ensures { λ r. ⌜ ((w : List ℕ) → Loads (now (words .entry)) blocks w → outcomeOf r ≡ streamTests blocks w) ⌝ }
+    ensures { λ r. ⌜ ((w : List ℕ) → Loads (now (words .entry)) blocks w → outcomeOf r ≡ streamTests (editionOf e) blocks w) ⌝ }
 {
-    let head = &words[..12];
-    let broken = sheet::broken(head);
+    let first = edition::sheet_words(e);
+    let head = &words[..first];
+    let broken = sheet::broken(e, head);
     if let Found::At(place) = broken {
         return Outcome::Refused(3, place);
     }
-    let due = sheet::blocks_due(head);
+    let due = sheet::blocks_due(e, head);
     if blocks != due {
         return Outcome::Refused(4, due);
     }
-    body(&words[..127 * blocks])
+    body(e, &words[..127 * blocks])
 }
 
 // Reads a file of any length and content. Where it is accepted, the words of its stream stand at the front of the places lent.
-pub fn read(file: &[u8], words: &mut [u32]) -> Outcome
+pub fn read(e: Edition, file: &[u8], words: &mut [u32]) -> Outcome
     requires { ⌜ 127 * min (length (now file) / 512) 68 ≤ length (now words) ⌝ }
-    ensures { λ r. ⌜ Read (now (file .entry)) r (now (words .exit)) ⌝ }
+    ensures { λ r. ⌜ Read (editionOf e) (now (file .entry)) r (now (words .exit)) ⌝ }
 {
     if file.len() == 0 {
         return Outcome::Refused(1, 0);
@@ -61,5 +65,5 @@ pub fn read(file: &[u8], words: &mut [u32]) -> Outcome
     if let Found::At(place) = check {
         return Outcome::Refused(2, place);
     }
-    after_checks(words, file.len() / 512)
+    after_checks(e, words, file.len() / 512)
 }

@@ -1,4 +1,5 @@
 // Verdicts as lines on standard output.
+use edition::Edition;
 use libc::STDOUT_FILENO;
 use line::Line;
 use outcome::Verdict;
@@ -23,9 +24,9 @@ fn send(fd: i32, line: Line)
     io::write_all(fd, &bytes[..length]);
 }
 
-// Judges what a descriptor gives, at most its first 65,536 bytes. No accepted file is so long.
-pub fn judge(fd: i32) {
+// Judges what a descriptor gives as a file of the edition, at most its first 65,536 bytes. No accepted file is so long.
+pub fn judge(e: Edition, fd: i32) {
     let mut buffer = [0u8; 65536];
     let n = io::read_full(fd, &mut buffer);
-    print(verify::verify(&buffer[..n]));
+    print(verify::verify_in(e, &buffer[..n]));
 }

@@ -8,32 +8,32 @@ use lib.ListN.{length, take}
 use borrow.Author.Tests.{ltb-false}
 use Rattle.definition.specs.Block.{blockCount}
 use Rattle.definition.specs.Layout.{wordsDue}
-use Rattle.definition.specs.Prove.{Answer, done, outputTest, prove, refusal}
-use Rattle.definition.specs.Sheet.{sheetOf}
+use Rattle.definition.specs.Prove.{Answer, done, outputTest, proveIn, refusal}
+use Rattle.definition.specs.Sheet.{Edition, sheetOf}
 use Rattle.definition.specs.Verdict.{Verdict, accepted}
-use Rattle.definition.specs.Verify.{verify}
+use Rattle.definition.specs.Verify.{verifyIn}
 use Rattle.completeness.specs.Numbered.{readsDue}
 use Rattle.completeness.specs.ProveAccepted.{done-allowed, prove-accepted}
 use Rattle.completeness.specs.Tests.{if-passes}
 use Rattle.selfcheck.specs.Written.{blocksOf}
 
-module _ (w f coins output : List ℕ) where
-  inside-by : (a : Answer) → prove w f coins output .answer ≡ a → 512 * blocksOf a ≤ length output
+module _ (ed : Edition) (w f coins output : List ℕ) where
+  inside-by : (a : Answer) → proveIn ed w f coins output .answer ≡ a → 512 * blocksOf a ≤ length output
   unfolding blocksOf outputTest
   inside-by (refusal number place) e = omega arith
   inside-by (done count) e =
-      let r = done-allowed w f coins output count e in
-      let blocks = blockCount (wordsDue (sheetOf w)) in
+      let r = done-allowed ed w f coins output count e in
+      let blocks = blockCount (wordsDue ed (sheetOf ed w)) in
       let room : 512 * blocks ≤ length output = ltb-false (length output) (512 * blocks) (if-passes 11 blocks (ltb (length output) (512 * blocks)) (r .1)) in
       omega (arith, r .2)
 
-  pub inside : {count : ℕ} → count ≡ blocksOf (prove w f coins output .answer) → 512 * count ≤ length output
-  inside {count} e = subst (λ (n : ℕ). 512 * n ≤ length output) (sym e) (inside-by (prove w f coins output .answer) refl)
+  pub inside : {count : ℕ} → count ≡ blocksOf (proveIn ed w f coins output .answer) → 512 * count ≤ length output
+  inside {count} e = subst (λ (n : ℕ). 512 * n ≤ length output) (sym e) (inside-by (proveIn ed w f coins output .answer) refl)
 
   -- where prove answers done, the verdict on the blocks written is accepted with the due reads
-  pub accepted-by : (a : Answer) {v : Verdict} → a ≡ prove w f coins output .answer → v ≡ verify (take (512 * blocksOf a) (prove w f coins output .output)) →
-      (count : ℕ) → a ≡ done count → v ≡ record { outcome = accepted; reads = readsDue w }
+  pub accepted-by : (a : Answer) {v : Verdict} → a ≡ proveIn ed w f coins output .answer → v ≡ verifyIn ed (take (512 * blocksOf a) (proveIn ed w f coins output .output)) →
+      (count : ℕ) → a ≡ done count → v ≡ record { outcome = accepted; reads = readsDue (sheetOf ed w) }
   unfolding blocksOf
   accepted-by a e q count d =
-      q ∙ ap (λ (b : Answer). verify (take (512 * blocksOf b) (prove w f coins output .output))) d
-      ∙ prove-accepted w f coins output count (sym e ∙ d)
+      q ∙ ap (λ (b : Answer). verifyIn ed (take (512 * blocksOf b) (proveIn ed w f coins output .output))) d
+      ∙ prove-accepted ed w f coins output count (sym e ∙ d)

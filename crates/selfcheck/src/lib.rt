@@ -1,13 +1,16 @@
 // Demand 3 in code: an order is proved, and what was written is judged.
+use edition::Edition;
 use outcome::Answer;
 use outcome::Verdict;
 ghost use mathlib.Core.Path.{_≡_};
 ghost use Prim.Native.Nat.{ℕ, _*_};
 ghost use lib.ListN.{take};
-ghost use Rattle.definition.specs.Prove.{done, prove};
+ghost use Rattle.definition.specs.Prove.{done, prove, proveIn};
+ghost use Rattle.definition.specs.Sheet.{edition1, edition2, sheetOf};
 ghost use Rattle.definition.specs.Verdict.{accepted};
-ghost use Rattle.definition.specs.Verify.{verify};
+ghost use Rattle.definition.specs.Verify.{verify, verifyIn};
 ghost use Rattle.completeness.specs.Numbered.{readsDue};
+ghost use Rattle.edition.specs.Meaning.{editionOf};
 ghost use Rattle.outcome.specs.Meaning.{answerOf, verdictOf};
 ghost use Rattle.selfcheck.specs.Written.{blocksOf};
 
@@ -27,8 +30,30 @@ fn blocks(answer: Answer) -> usize
     }
 }
 
-// Proves, and then judges the blocks written; of a refused order that is the empty file. Wherever prove answers done, the verdict is accepted with the
-// due reads.
+// Proves with a sheet of the edition, and then judges the blocks written; of a refused order that is the empty file. Wherever prove answers done, the verdict
+// is accepted with the due reads.
+fn prove_then_verify_in(
+    e: Edition,
+    sheet: &[u32],
+    coefficients: &[u32],
+    coins: &[u32],
+    output: &mut [u8],
+) -> Checked
+    ensures { λ r. ⌜ answerOf (r .answer) ≡ proveIn (editionOf e) (now (sheet .entry)) (now (coefficients .entry)) (now (coins .entry)) (now (output .entry)) .answer ⌝ }
+    ensures { λ r. ⌜ now (output .exit) ≡ proveIn (editionOf e) (now (sheet .entry)) (now (coefficients .entry)) (now (coins .entry)) (now (output .entry)) .output ⌝ }
+    ensures { λ r. ⌜ verdictOf (r .verdict) ≡ verifyIn (editionOf e) (take (512 * blocksOf (answerOf (r .answer))) (now (output .exit))) ⌝ }
+    ensures { λ r. ⌜ ((count : ℕ) → answerOf (r .answer) ≡ done count → verdictOf (r .verdict) ≡ record { outcome = accepted; reads = readsDue (sheetOf (editionOf e) (now (sheet .entry))) }) ⌝ }
+{
+    let answer = prove::prove_in(e, sheet, coefficients, coins, output);
+    let count = blocks(answer);
+    let verdict = verify::verify_in(e, &output[..512 * count]);
+    Checked {
+        answer: answer,
+        verdict: verdict,
+    }
+}
+
+// The same of edition 1.
 pub fn prove_then_verify(
     sheet: &[u32],
     coefficients: &[u32],
@@ -38,13 +63,22 @@ pub fn prove_then_verify(
     ensures { λ r. ⌜ answerOf (r .answer) ≡ prove (now (sheet .entry)) (now (coefficients .entry)) (now (coins .entry)) (now (output .entry)) .answer ⌝ }
     ensures { λ r. ⌜ now (output .exit) ≡ prove (now (sheet .entry)) (now (coefficients .entry)) (now (coins .entry)) (now (output .entry)) .output ⌝ }
     ensures { λ r. ⌜ verdictOf (r .verdict) ≡ verify (take (512 * blocksOf (answerOf (r .answer))) (now (output .exit))) ⌝ }
-    ensures { λ r. ⌜ ((count : ℕ) → answerOf (r .answer) ≡ done count → verdictOf (r .verdict) ≡ record { outcome = accepted; reads = readsDue (now (sheet .entry)) }) ⌝ }
+    ensures { λ r. ⌜ ((count : ℕ) → answerOf (r .answer) ≡ done count → verdictOf (r .verdict) ≡ record { outcome = accepted; reads = readsDue (sheetOf edition1 (now (sheet .entry))) }) ⌝ }
 {
-    let answer = prove::prove(sheet, coefficients, coins, output);
-    let count = blocks(answer);
-    let verdict = verify::verify(&output[..512 * count]);
-    Checked {
-        answer: answer,
-        verdict: verdict,
-    }
+    prove_then_verify_in(Edition::One, sheet, coefficients, coins, output)
+}
+
+// The same of edition 2.
+pub fn prove_then_verify_2(
+    sheet: &[u32],
+    coefficients: &[u32],
+    coins: &[u32],
+    output: &mut [u8],
+) -> Checked
+    ensures { λ r. ⌜ answerOf (r .answer) ≡ proveIn edition2 (now (sheet .entry)) (now (coefficients .entry)) (now (coins .entry)) (now (output .entry)) .answer ⌝ }
+    ensures { λ r. ⌜ now (output .exit) ≡ proveIn edition2 (now (sheet .entry)) (now (coefficients .entry)) (now (coins .entry)) (now (output .entry)) .output ⌝ }
+    ensures { λ r. ⌜ verdictOf (r .verdict) ≡ verifyIn edition2 (take (512 * blocksOf (answerOf (r .answer))) (now (output .exit))) ⌝ }
+    ensures { λ r. ⌜ ((count : ℕ) → answerOf (r .answer) ≡ done count → verdictOf (r .verdict) ≡ record { outcome = accepted; reads = readsDue (sheetOf edition2 (now (sheet .entry))) }) ⌝ }
+{
+    prove_then_verify_in(Edition::Two, sheet, coefficients, coins, output)
 }

@@ -1,3 +1,4 @@
-pub mod DomainSizes
 pub mod RuleLaws
+pub mod FirstBroken
+pub mod FoldLaws
 pub mod SizeLaws

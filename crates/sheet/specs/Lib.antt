@@ -1,5 +1,4 @@
 pub mod Rules
 pub mod OneBit
 pub mod Sizes
-pub mod Bounds
 pub mod Front

@@ -1,7 +1,6 @@
 -- A number with a single one bit is a power of two, and its trailing zeros are the logarithm.
 use Prim.Native.Nat.{ℕ, zero, suc, _+_, _/_, _%_, _^_, _≤_, _<_}
 use native.Mathlib.Nat.{pow-suc, pow-zero, one-mul, add-zero}
-use native.Mathlib.Decide.{decLt}
 use native.Mathlib.Omega.{arith}
 use mathlib.Core.Path.{_≡_, refl, sym, ap, _∙_}
 use mathlib.Core.Bool.{Bool, true, false, true≢false}
@@ -9,7 +8,7 @@ use lib.Dec.{eqb}
 use lib.Pow.{pow-mono, pow-pos}
 use lib.Count.{ones, ones-step, ones-cat, trailingZeros, under}
 use borrow.Author.Tests.{eq-eqb, ne-eqb}
-use Rattle.completeness.specs.SheetRules.{power-of-two}
+use Rattle.completeness.specs.SheetRules.{pow-below, power-of-two}
 use Rattle.definition.specs.Lists.{member, range}
 use Rattle.definition.specs.Sheet.{powerOfTwo}
 
@@ -44,17 +43,6 @@ pub power-ones : (k : ℕ) → ones (2 ^ k) ≡ 1
 unfolding ones
 power-ones k = ap ones (sym (add-zero (2 ^ k) ∙ refl)) ∙ ap (λ (x : ℕ). ones (x + 0)) (sym (one-mul (2 ^ k))) ∙ ones-cat k 1 0 (pow-pos k)
 
--- the order of powers is that of the exponents
-pub power-below : (i j : ℕ) → 2 ^ i < 2 ^ j → i < j
-power-below i j h = go (decLt i j)
-  where
-    go : Dec (i < j) → i < j
-    go (yes l) = l
-    go (no l) = let r : j ≤ i = omega arith in absurd (omega (arith, pow-mono r))
-
-pub power-most : (i j : ℕ) → 2 ^ i ≤ 2 ^ j → i ≤ j
-power-most i j h = let r : i < suc j = power-below i (suc j) (omega (arith, pow-suc 2 j, pow-pos j)) in omega arith
-
 -- the definition's test of a power of two finds each exponent below 13
 finds : (a : ℕ) → a < 13 → powerOfTwo (2 ^ a) ≡ true
 unfolding powerOfTwo member range
@@ -88,7 +76,7 @@ power-small x e =
 pub one-bit-power : (x : ℕ) → x ≤ 4096 → ones x ≡ 1 → powerOfTwo x ≡ true
 one-bit-power x h e =
     let b : x ≡ 2 ^ trailingZeros 32 x = one-bit 32 x (omega arith) e in
-    let l : trailingZeros 32 x < 13 = power-below _ 13 (omega (arith, b)) in
+    let l : trailingZeros 32 x < 13 = pow-below _ 13 (omega (arith, b)) in
     ap powerOfTwo b ∙ finds (trailingZeros 32 x) l
 
 false-unless : (b : Bool) → (b ≡ true → ⊥) → b ≡ false

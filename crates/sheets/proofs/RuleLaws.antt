@@ -14,9 +14,9 @@ use lib.Seq.{append-snoc, drop-cons, getD-append-add, length-take-le, set-split,
 use borrow.Author.Tests.{eqb-true, eqb-false}
 use Rattle.completeness.specs.ListLaws.{getD-map-range, range-length}
 use Rattle.completeness.specs.LoadAllowed.{Kept, rule-front}
-use Rattle.definition.specs.Lists.{firstTrue, range}
+use Rattle.definition.specs.Lists.{firstOf, range}
 use Rattle.definition.specs.Load.{candidates, keep, permits, permitted}
-use Rattle.definition.specs.Sheet.{sheetRules}
+use Rattle.definition.specs.Sheet.{edition1, laterRules, sheetRules, testOrder}
 
 -- ---- the candidates
 
@@ -40,36 +40,38 @@ large-candidate i h l =
     ∙ sym (ap (λ (n : ℕ). getD (range 0 49 ++ ys) n 0) (sym f) ∙ ap (λ (n : ℕ). getD (range 0 49 ++ ys) (n + (i - 49)) 0) (sym (range-length 0 49))
     ∙ getD-append-add (range 0 49) ys (i - 49) 0 ∙ getD-map-range (λ a. 2 ^ a) 0 6 7 (i - 49) (omega arith) ∙ pow-add 2 6 (i - 49))
 
--- ---- the first rule that fails
+-- ---- the first rule that fails, of words in their order
 
 -- a failure at j, where the rules before hold, is the first
-first-false : (bs : List Bool) (from j : ℕ) → j < length bs → ((i : ℕ) → i < j → getD bs i false ≡ true) → getD bs j false ≡ false →
-    firstTrue from (map not bs) ≡ some (from + j)
-unfolding firstTrue
-first-false [] from j l k e = absurd (omega arith)
-first-false (true ∷ bs) from zero l k e = absurd (true≢false e)
-first-false (false ∷ bs) from zero l k e = ap some (sym (add-zero from))
-first-false (false ∷ bs) from (suc j) l k e = absurd (true≢false (sym (k 0 (omega arith))))
-first-false (true ∷ bs) from (suc j) l k e =
+first-false : (bs : List Bool) (from n j : ℕ) → j < length bs → j < n → ((i : ℕ) → i < j → getD bs i false ≡ true) → getD bs j false ≡ false →
+    firstOf (range from n) (map not bs) ≡ some (from + j)
+unfolding firstOf range
+first-false [] from n j l m k e = absurd (omega arith)
+first-false (b ∷ bs) from zero j l m k e = absurd (omega arith)
+first-false (true ∷ bs) from (suc n) zero l m k e = absurd (true≢false e)
+first-false (false ∷ bs) from (suc n) zero l m k e = ap some (sym (add-zero from))
+first-false (false ∷ bs) from (suc n) (suc j) l m k e = absurd (true≢false (sym (k 0 (omega arith))))
+first-false (true ∷ bs) from (suc n) (suc j) l m k e =
     let s : suc from + j ≡ from + suc j = omega arith in
-    first-false bs (suc from) j (omega arith) (λ i h. k (suc i) (omega arith)) e ∙ ap some s
+    first-false bs (suc from) n j (omega arith) (omega arith) (λ i h. k (suc i) (omega arith)) e ∙ ap some s
 
 -- the first failure is one
-false-there : (bs : List Bool) (from place : ℕ) → firstTrue from (map not bs) ≡ some place → (from ≤ place) × (getD bs (place - from) false ≡ false)
-unfolding firstTrue
-false-there [] from place e = let z : _≡_ {A = ℕ} 0 1 = cc in absurd (omega arith)
-false-there (false ∷ bs) from place e =
+false-there : (bs : List Bool) (from n place : ℕ) → firstOf (range from n) (map not bs) ≡ some place → (from ≤ place) × (getD bs (place - from) false ≡ false)
+unfolding firstOf range
+false-there bs from zero place e = let z : _≡_ {A = ℕ} 0 1 = cc in absurd (omega arith)
+false-there [] from (suc n) place e = let z : _≡_ {A = ℕ} 0 1 = cc in absurd (omega arith)
+false-there (false ∷ bs) from (suc n) place e =
     let s : from ≡ place = cc in
     let d : place - from ≡ 0 = omega arith in
-    (omega arith, ap (λ (n : ℕ). getD (false ∷ bs) n false) d)
-false-there (true ∷ bs) from place e =
-    let r = false-there bs (suc from) place e in
+    (omega arith, ap (λ (m : ℕ). getD (false ∷ bs) m false) d)
+false-there (true ∷ bs) from (suc n) place e =
+    let r = false-there bs (suc from) n place e in
     let d : place - from ≡ suc (place - suc from) = omega (arith, r .0) in
-    (omega (arith, r .0), ap (λ (n : ℕ). getD (true ∷ bs) n false) d ∙ r .1)
+    (omega (arith, r .0), ap (λ (m : ℕ). getD (true ∷ bs) m false) d ∙ r .1)
 
 -- ---- x in place j of 12 words, where the words before keep their rules
 
-permits-rule : (v : List ℕ) (x : ℕ) → (length v ≡ 0 → ⊥) → permits v x ≡ getD (sheetRules (v ++ (x ∷ []))) (length v) false
+permits-rule : (v : List ℕ) (x : ℕ) → (length v ≡ 0 → ⊥) → permits v x ≡ getD (sheetRules edition1 (v ++ (x ∷ []))) (length v) false
 unfolding permits
 permits-rule [] x h = absurd (h refl)
 permits-rule (a ∷ v) x h = refl
@@ -79,41 +81,43 @@ module _ (w : List ℕ) (j x : ℕ) (long : length w ≡ 12) (l : j < 12) (k : K
   count = length-take-le j w (omega arith)
 
   -- a rule up to word j does not look at the words behind
-  rule-at : (i : ℕ) → i ≤ j → getD (sheetRules (set w j x)) i false ≡ getD (sheetRules (take j w ++ (x ∷ []))) i false
+  rule-at : (i : ℕ) → i ≤ j → getD (sheetRules edition1 (set w j x)) i false ≡ getD (sheetRules edition1 (take j w ++ (x ∷ []))) i false
   rule-at i h =
       let u = take j w ++ (x ∷ []) in
-      ap (λ (s : List ℕ). getD (sheetRules s) i false) (set-split w j x (omega arith) ∙ sym (append-snoc (take j w) x (drop (suc j) w)))
+      ap (λ (s : List ℕ). getD (sheetRules edition1 s) i false) (set-split w j x (omega arith) ∙ sym (append-snoc (take j w) x (drop (suc j) w)))
       ∙ rule-front u (drop (suc j) w) i (omega (arith, length-append (take j w) (x ∷ []), count))
 
-  held-before : (i : ℕ) → i < j → getD (sheetRules (set w j x)) i false ≡ true
+  held-before : (i : ℕ) → i < j → getD (sheetRules edition1 (set w j x)) i false ≡ true
   held-before i h = rule-at i (omega arith) ∙ rule-front (take j w) (x ∷ []) i (omega (arith, count)) ∙ k i (omega (arith, count))
 
-  rule-count : length (sheetRules (set w j x)) ≡ 12
-  unfolding sheetRules range
+  rule-count : length (sheetRules edition1 (set w j x)) ≡ 12
+  unfolding sheetRules laterRules range
   rule-count = refl
 
-  by-rule : (j ≡ 0 → ⊥) → permits (take j w) x ≡ getD (sheetRules (set w j x)) j false
+  by-rule : (j ≡ 0 → ⊥) → permits (take j w) x ≡ getD (sheetRules edition1 (set w j x)) j false
   by-rule h =
       permits-rule (take j w) x (λ e. h (sym count ∙ e))
-      ∙ ap (λ (n : ℕ). getD (sheetRules (take j w ++ (x ∷ []))) n false) count ∙ sym (rule-at j (omega arith))
+      ∙ ap (λ (n : ℕ). getD (sheetRules edition1 (take j w ++ (x ∷ []))) n false) count ∙ sym (rule-at j (omega arith))
 
   -- The rule holds exactly unless word j is the first that is broken.
-  holds-unless : (b : Bool) → getD (sheetRules (set w j x)) j false ≡ b → (firstTrue 0 (map not (sheetRules (set w j x))) ≡ some j → ⊥) → true ≡ b
+  holds-unless : (b : Bool) → getD (sheetRules edition1 (set w j x)) j false ≡ b → (firstOf (testOrder edition1) (map not (sheetRules edition1 (set w j x))) ≡ some j → ⊥) → true ≡ b
+  unfolding testOrder
   holds-unless true e h = refl
   holds-unless false e h =
       let z : 0 + j ≡ j = omega arith in
-      absurd (h (first-false (sheetRules (set w j x)) 0 j (omega (arith, rule-count)) held-before e ∙ ap some z))
+      absurd (h (first-false (sheetRules edition1 (set w j x)) 0 12 j (omega (arith, rule-count)) l held-before e ∙ ap some z))
 
-  pub permitted-at : (j ≡ 0 → ⊥) → (place : ℕ) → some place ≡ firstTrue 0 (map not (sheetRules (set w j x))) → not (eqb place j) ≡ permits (take j w) x
+  pub permitted-at : (j ≡ 0 → ⊥) → (place : ℕ) → some place ≡ firstOf (testOrder edition1) (map not (sheetRules edition1 (set w j x))) → not (eqb place j) ≡ permits (take j w) x
+  unfolding testOrder
   permitted-at h place e = go (eqb place j) refl ∙ sym (by-rule h)
     where
-      go : (b : Bool) → eqb place j ≡ b → not b ≡ getD (sheetRules (set w j x)) j false
+      go : (b : Bool) → eqb place j ≡ b → not b ≡ getD (sheetRules edition1 (set w j x)) j false
       go true q =
           let s : place - 0 ≡ j = omega (arith, eqb-true place j q) in
-          sym (ap (λ (n : ℕ). getD (sheetRules (set w j x)) n false) (sym s) ∙ false-there (sheetRules (set w j x)) 0 place (sym e) .1)
+          sym (ap (λ (n : ℕ). getD (sheetRules edition1 (set w j x)) n false) (sym s) ∙ false-there (sheetRules edition1 (set w j x)) 0 12 place (sym e) .1)
       go false q = holds-unless _ refl (λ f. eqb-false place j q (let r : some place ≡ some j = e ∙ f in cc))
 
-  pub permitted-nowhere : (j ≡ 0 → ⊥) → none ≡ firstTrue 0 (map not (sheetRules (set w j x))) → true ≡ permits (take j w) x
+  pub permitted-nowhere : (j ≡ 0 → ⊥) → none ≡ firstOf (testOrder edition1) (map not (sheetRules edition1 (set w j x))) → true ≡ permits (take j w) x
   permitted-nowhere h e = holds-unless _ refl (λ f. let z : _≡_ {A = ℕ} 0 1 = (let r : none ≡ some j = e ∙ f in cc) in omega arith) ∙ sym (by-rule h)
 
 -- the field

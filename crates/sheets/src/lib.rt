@@ -1,4 +1,5 @@
-// The sheet of a run of the load, drawn word by word among the values that its rules permit.
+// The sheet of a run of the load, which is of edition 1, drawn word by word among the values that its rules permit.
+use edition::Edition;
 use generator::Generator;
 use outcome::Found;
 ghost use mathlib.Core.Path.{_≡_};
@@ -29,7 +30,7 @@ fn permits(w: &mut [u32], j: usize, x: u32) -> bool
     if j == 0 {
         return x < 3;
     }
-    let broken = sheet::broken(w);
+    let broken = sheet::broken(Edition::One, w);
     if let Found::At(place) = broken {
         return place != j;
     }

@@ -1,6 +1,7 @@
 -- The numbers of an answer in code are those of the definition's.
 use Prim.Native.Nat.{ℕ}
-use mathlib.Core.Path.{_≡_, sym, ap, _∙_}
+use mathlib.Core.Path.{_≡_, refl, sym, ap, _∙_}
+use mathlib.Core.List.{List}
 use mathlib.Core.Option.{Option}
 use Rattle.definition.specs.Verdict as definition
 use Rattle.definition.specs.Field.{FieldAnswer, PowerAnswer, InverseAnswer}
@@ -23,29 +24,28 @@ use Rattle.outcome.specs.Meaning as meaning
 use Rattle.outcome.specs.Meaning.{outcomeOf, verdictOf}
 use Rattle.tevrolig.specs.Numbers.{numberOf, placeIn, refusalOf, valueOf, wordThere, wordOrZero, fieldNamed, elementOrZero, powerNamed, powerOrZero, turnsOrZero, inverseNumber, inverseOrZero}
 
-module _ (v : Verdict) {d : definition.Verdict} (e : verdictOf v ≡ d) where
-  outcome-is : outcomeOf (v .outcome) ≡ d .outcome
-  unfolding verdictOf
-  outcome-is = ap (λ (x : definition.Verdict). x .outcome) e
+abbrev pub Numbers : definition.Verdict → ℕ → ℕ → ℕ → Type 0
+Numbers d number place reads = (number ≡ numberOf (d .outcome)) × ((place ≡ placeIn (d .outcome)) × (reads ≡ d .reads))
 
-  reads-is : v .reads ≡ d .reads
-  unfolding verdictOf
-  reads-is = ap (λ (x : definition.Verdict). x .reads) e
-
-  abbrev pub Numbers : ℕ → ℕ → Type 0
-  Numbers number place = (number ≡ numberOf (d .outcome)) × ((place ≡ placeIn (d .outcome)) × (v .reads ≡ d .reads))
-
-  pub accepted-numbers : v .outcome ≡ Accepted → Numbers 0 0
-  unfolding outcomeOf numberOf placeIn
+module _ (v : Verdict) where
+  pub accepted-numbers : v .outcome ≡ Accepted → Numbers (verdictOf v) 0 0 (v .reads)
+  unfolding verdictOf outcomeOf numberOf placeIn
   accepted-numbers h =
-      let o = ap outcomeOf (sym h) ∙ outcome-is in
-      (ap numberOf o, (ap placeIn o, reads-is))
+      let o = ap outcomeOf (sym h) in
+      (ap numberOf o, (ap placeIn o, refl))
 
-  pub refused-numbers : (number place : ℕ) → v .outcome ≡ Refused number place → Numbers number place
-  unfolding outcomeOf numberOf placeIn
+  pub refused-numbers : (number place : ℕ) → v .outcome ≡ Refused number place → Numbers (verdictOf v) number place (v .reads)
+  unfolding verdictOf outcomeOf numberOf placeIn
   refused-numbers number place h =
-      let o = ap outcomeOf (sym h) ∙ outcome-is in
-      (ap numberOf o, (ap placeIn o, reads-is))
+      let o = ap outcomeOf (sym h) in
+      (ap numberOf o, (ap placeIn o, refl))
+
+-- what is written of a verdict is what the definition's verdict says
+pub judged-numbers : {v d : definition.Verdict} {number place reads : ℕ} → Numbers v number place reads → v ≡ d → Numbers d number place reads
+judged-numbers n e = (
+  n .0 ∙ ap (λ (x : definition.Verdict). numberOf (x .outcome)) e,
+  (n .1 .0 ∙ ap (λ (x : definition.Verdict). placeIn (x .outcome)) e, n .1 .1 ∙ ap (λ (x : definition.Verdict). x .reads) e),
+)
 
 module _ (w : Word) {d : Option ℕ} (e : words.valueOf w ≡ d) where
   abbrev pub WordNumbers : ℕ → ℕ → Type 0
@@ -79,9 +79,18 @@ module _ (a : Answer) where
       let o = ap meaning.answerOf (sym h) in
       (ap refusalOf o, ap valueOf o)
 
-  -- what is written of an answer is what the definition's answer says
-  pub order-numbers : {d : prove.Answer} {number value : ℕ} → AnswerNumbers (meaning.answerOf a) number value → meaning.answerOf a ≡ d → AnswerNumbers d number value
-  order-numbers n e = (n .0 ∙ ap refusalOf e, n .1 ∙ ap valueOf e)
+-- what is written of an answer is what the definition's answer says
+pub order-numbers : {a d : prove.Answer} {number value : ℕ} → AnswerNumbers a number value → a ≡ d → AnswerNumbers d number value
+order-numbers n e = (n .0 ∙ ap refusalOf e, n .1 ∙ ap valueOf e)
+
+-- and beside it the whole output
+abbrev pub OrderNumbers : prove.Result → ℕ → ℕ → List ℕ → Type 0
+OrderNumbers d number value output = (number ≡ refusalOf (d .answer)) × ((value ≡ valueOf (d .answer)) × (output ≡ d .output))
+
+pub order-written : {a : prove.Answer} {d : prove.Result} {number value : ℕ} {output : List ℕ} → AnswerNumbers a number value → (a ≡ d .answer) × (output ≡ d .output) → OrderNumbers d number value output
+order-written n e =
+    let w = order-numbers n (e .0) in
+    (w .0, (w .1, e .1))
 
 abbrev pub ElementNumbers : FieldAnswer → ℕ → ℕ → Type 0
 ElementNumbers d named element = (named ≡ fieldNamed d) × (element ≡ elementOrZero d)

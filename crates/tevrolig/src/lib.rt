@@ -1,28 +1,30 @@
 // The operations as C functions. Nothing is allocated and no state is kept; what is lent is lent for the call alone.
+use edition::Edition;
 use field::Element;
 use field::Inverted;
 use field::PowerTurns;
 use outcome::Answer;
 use outcome::Outcome;
+use outcome::Verdict;
 use reader::Word;
 ghost use mathlib.Core.Path.{_≡_};
-ghost use Rattle.definition.specs.Verify.{verify};
+ghost use Rattle.definition.specs.Verify.{verify, verifyIn};
 ghost use Rattle.definition.specs.Block.{streamOf};
-ghost use Rattle.definition.specs.Prove.{encode, prove};
+ghost use Rattle.definition.specs.Prove.{encode, prove, proveIn};
+ghost use Rattle.definition.specs.Sheet.{edition2};
+ghost use Rattle.definition.specs.Convert.{toEdition1, toEdition2};
 ghost use Rattle.definition.specs.Field.{sum, difference, product, powerOf, powerTurnsOf, inverseOf};
 ghost use Rattle.field.specs.Answer.{answerOf, invertedOf};
-ghost use Rattle.outcome.specs.Meaning.{answerOf as orderAnswer};
+ghost use Rattle.outcome.specs.Meaning.{answerOf as orderAnswer, verdictOf};
 ghost use Rattle.reader.specs.Words.{wordIn, sheetWords};
 ghost use Rattle.tevrolig.specs.Numbers.{numberOf, placeIn, refusalOf, valueOf, wordThere, wordOrZero, fieldNamed, elementOrZero, powerNamed, powerOrZero, turnsOrZero, inverseNumber, inverseOrZero};
 
-// Judges a file. Answers 0 for accepted, else the fault's number, and writes the fault's place (0 where accepted) and the count of reads.
-#[no_mangle]
-pub extern "C" fn tevrolig_verify(file: &[u8], place: &mut u64, reads: &mut u64) -> u32
-    ensures { λ r. ⌜ r ≡ numberOf (verify (now (file .entry)) .outcome) ⌝ }
-    ensures { λ r. ⌜ now (place .exit) ≡ placeIn (verify (now (file .entry)) .outcome) ⌝ }
-    ensures { λ r. ⌜ now (reads .exit) ≡ verify (now (file .entry)) .reads ⌝ }
+// Writes a verdict: the fault's place, 0 where accepted, and the count of reads. Answers 0 for accepted, else the fault's number.
+fn write_verdict(v: Verdict, place: &mut u64, reads: &mut u64) -> u32
+    ensures { λ r. ⌜ r ≡ numberOf (verdictOf v .outcome) ⌝ }
+    ensures { λ r. ⌜ now (place .exit) ≡ placeIn (verdictOf v .outcome) ⌝ }
+    ensures { λ r. ⌜ now (reads .exit) ≡ verdictOf v .reads ⌝ }
 {
-    let v = verify::verify(file);
     *reads = v.reads as u64;
     let o = v.outcome;
     match o {
@@ -35,6 +37,26 @@ pub extern "C" fn tevrolig_verify(file: &[u8], place: &mut u64, reads: &mut u64)
             number
         }
     }
+}
+
+// Judges a file of edition 1. Answers 0 for accepted, else the fault's number, and writes the fault's place (0 where accepted) and the count of reads.
+#[no_mangle]
+pub extern "C" fn tevrolig_verify(file: &[u8], place: &mut u64, reads: &mut u64) -> u32
+    ensures { λ r. ⌜ r ≡ numberOf (verify (now (file .entry)) .outcome) ⌝ }
+    ensures { λ r. ⌜ now (place .exit) ≡ placeIn (verify (now (file .entry)) .outcome) ⌝ }
+    ensures { λ r. ⌜ now (reads .exit) ≡ verify (now (file .entry)) .reads ⌝ }
+{
+    write_verdict(verify::verify(file), place, reads)
+}
+
+// The same of edition 2.
+#[no_mangle]
+pub extern "C" fn tevrolig_verify_2(file: &[u8], place: &mut u64, reads: &mut u64) -> u32
+    ensures { λ r. ⌜ r ≡ numberOf (verifyIn edition2 (now (file .entry)) .outcome) ⌝ }
+    ensures { λ r. ⌜ now (place .exit) ≡ placeIn (verifyIn edition2 (now (file .entry)) .outcome) ⌝ }
+    ensures { λ r. ⌜ now (reads .exit) ≡ verifyIn edition2 (now (file .entry)) .reads ⌝ }
+{
+    write_verdict(verify::verify_in(Edition::Two, file), place, reads)
 }
 
 // Shows a word of the stream, as the place of a refusal 5, 6 or 7 names it. Answers 1 and writes the word, or 0 where the file's whole
@@ -88,7 +110,7 @@ fn write_value(answer: Answer, value: &mut u64) -> u32
     }
 }
 
-// Writes the honest file of a polynomial and coins at the front of `output`. Answers 0, with the number of blocks in `value`; or a refusal's number, with its
+// Writes the honest file of edition 1 of a polynomial and coins at the front of `output`. Answers 0, with the number of blocks in `value`; or a refusal's number, with its
 // place in `value`, and the output is as before.
 #[no_mangle]
 pub extern "C" fn tevrolig_prove(
@@ -104,6 +126,44 @@ pub extern "C" fn tevrolig_prove(
 {
     let answer = prove::prove(sheet, coefficients, coins, output);
     write_value(answer, value)
+}
+
+// The same of edition 2.
+#[no_mangle]
+pub extern "C" fn tevrolig_prove_2(
+    sheet: &[u32],
+    coefficients: &[u32],
+    coins: &[u32],
+    output: &mut [u8],
+    value: &mut u64,
+) -> u32
+    ensures { λ r. ⌜ r ≡ refusalOf (proveIn edition2 (now (sheet .entry)) (now (coefficients .entry)) (now (coins .entry)) (now (output .entry)) .answer) ⌝ }
+    ensures { λ r. ⌜ now (value .exit) ≡ valueOf (proveIn edition2 (now (sheet .entry)) (now (coefficients .entry)) (now (coins .entry)) (now (output .entry)) .answer) ⌝ }
+    ensures { λ r. ⌜ now (output .exit) ≡ proveIn edition2 (now (sheet .entry)) (now (coefficients .entry)) (now (coins .entry)) (now (output .entry)) .output ⌝ }
+{
+    let answer = prove::prove_in(Edition::Two, sheet, coefficients, coins, output);
+    write_value(answer, value)
+}
+
+// Writes a file of edition 1 as one of edition 2 at the front of `output`. Answers 0, with the number of blocks in `value`; or a refusal's number, with its place in
+// `value`, and the output is as before.
+#[no_mangle]
+pub extern "C" fn tevrolig_to_edition_2(file: &[u8], output: &mut [u8], value: &mut u64) -> u32
+    ensures { λ r. ⌜ r ≡ refusalOf (toEdition2 (now (file .entry)) (now (output .entry)) .answer) ⌝ }
+    ensures { λ r. ⌜ now (value .exit) ≡ valueOf (toEdition2 (now (file .entry)) (now (output .entry)) .answer) ⌝ }
+    ensures { λ r. ⌜ now (output .exit) ≡ toEdition2 (now (file .entry)) (now (output .entry)) .output ⌝ }
+{
+    write_value(convert::to_edition_2(file, output), value)
+}
+
+// And back.
+#[no_mangle]
+pub extern "C" fn tevrolig_to_edition_1(file: &[u8], output: &mut [u8], value: &mut u64) -> u32
+    ensures { λ r. ⌜ r ≡ refusalOf (toEdition1 (now (file .entry)) (now (output .entry)) .answer) ⌝ }
+    ensures { λ r. ⌜ now (value .exit) ≡ valueOf (toEdition1 (now (file .entry)) (now (output .entry)) .answer) ⌝ }
+    ensures { λ r. ⌜ now (output .exit) ≡ toEdition1 (now (file .entry)) (now (output .entry)) .output ⌝ }
+{
+    write_value(convert::to_edition_1(file, output), value)
 }
 
 // Writes table 0 of a polynomial at the front of `output`. Answers 0, with n0 in `value`; or a refusal's number, with its place in `value`, and the output is as

@@ -1,4 +1,6 @@
 // Judges each file that the arguments name, one line each.
+use edition::Edition;
+
 fn one(i: usize) -> bool {
     let mut path = io::buffer();
     let length = os::arg(i, &mut path);
@@ -9,7 +11,7 @@ fn one(i: usize) -> bool {
     if fd < 0 {
         return false;
     }
-    report::judge(fd);
+    report::judge(Edition::One, fd);
     libc::close(fd);
     true
 }

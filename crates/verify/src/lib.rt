@@ -1,10 +1,13 @@
-// Verify: a transcript file of any length and content, accepted or refused with number and place, and the count of reads.
+// Verify: a transcript file of any length and content, of either edition, accepted or refused with number and place, and the count of reads.
+use edition::Edition;
 use outcome::Outcome;
 use outcome::Verdict;
 ghost use mathlib.Core.Path.{_≡_};
 ghost use Prim.Native.Nat.{_*_, _/_, _≤_, min};
 ghost use lib.ListN.{length};
-ghost use Rattle.definition.specs.Verify.{verify};
+ghost use Rattle.definition.specs.Sheet.{edition2};
+ghost use Rattle.definition.specs.Verify.{verify, verifyIn};
+ghost use Rattle.edition.specs.Meaning.{editionOf};
 ghost use Rattle.outcome.specs.Meaning.{verdictOf};
 
 // Places for the words of the largest file that can be accepted, 67 blocks, and one block more.
@@ -21,29 +24,43 @@ fn small_room() -> [u32; 1016]
     [0u32; 1016]
 }
 
-// The verdict on a file, by way of the places lent.
-fn judge(file: &[u8], words: &mut [u32]) -> Verdict
+// The verdict on a file of the edition, by way of the places lent.
+fn judge(e: Edition, file: &[u8], words: &mut [u32]) -> Verdict
     requires { ⌜ 127 * min (length (now file) / 512) 68 ≤ length (now words) ⌝ }
-    ensures { λ r. ⌜ verdictOf r ≡ verify (now (file .entry)) ⌝ }
+    ensures { λ r. ⌜ verdictOf r ≡ verifyIn (editionOf e) (now (file .entry)) ⌝ }
 {
-    let read = reading::read(file, words);
+    let read = reading::read(e, file, words);
     if let Outcome::Refused(number, place) = read {
         return Verdict {
             outcome: Outcome::Refused(number, place),
             reads: 0,
         };
     }
-    deciding::deciding(&words[..127 * (file.len() / 512)])
+    deciding::deciding(e, &words[..127 * (file.len() / 512)])
 }
 
-// The verdict on a file. It is only read. A short one is spared the clearing of many places.
-pub fn verify(file: &[u8]) -> Verdict
-    ensures { λ r. ⌜ verdictOf r ≡ verify (now (file .entry)) ⌝ }
+// The verdict on a file of the edition. It is only read. A short one is spared the clearing of many places.
+pub fn verify_in(e: Edition, file: &[u8]) -> Verdict
+    ensures { λ r. ⌜ verdictOf r ≡ verifyIn (editionOf e) (now (file .entry)) ⌝ }
 {
     if file.len() <= 4096 {
         let mut words = small_room();
-        return judge(file, &mut words);
+        return judge(e, file, &mut words);
     }
     let mut words = room();
-    judge(file, &mut words)
+    judge(e, file, &mut words)
+}
+
+// The verdict on a file of edition 1.
+pub fn verify(file: &[u8]) -> Verdict
+    ensures { λ r. ⌜ verdictOf r ≡ verify (now (file .entry)) ⌝ }
+{
+    verify_in(Edition::One, file)
+}
+
+// The same of edition 2.
+pub fn verify_2(file: &[u8]) -> Verdict
+    ensures { λ r. ⌜ verdictOf r ≡ verifyIn edition2 (now (file .entry)) ⌝ }
+{
+    verify_in(Edition::Two, file)
 }

@@ -63,6 +63,15 @@ unfolding finish
 stopped accepted n a b w output e = let z : _≡_ {A = ℕ} 0 1 = cc in absurd (omega arith)
 stopped (refused c d) n a b w output e = cc
 
+module _ (bytes room : List ℕ) where
+  pub words-taken : {count : ℕ} {o : List ℕ} → Made (takeWords bytes room) (done count) o → (wholeWordsTest (taken bytes) ≡ accepted) × (take count o ≡ wordsOf (taken bytes))
+  unfolding takeWords
+  words-taken m = split (wholeWordsTest (taken bytes)) _ _ room refl m
+
+  pub words-ragged : {a b : ℕ} → refusal a b ≡ takeWords bytes room .answer → wholeWordsTest (taken bytes) ≡ refused a b
+  unfolding takeWords
+  words-ragged e = stopped (wholeWordsTest (taken bytes)) _ _ _ _ room e
+
 passed : (t : Outcome) (r : Result) (output : List ℕ) → t ≡ accepted → r ≡ afterTest t r output
 unfolding afterTest
 passed t r output e = rw e
@@ -77,11 +86,9 @@ module _ (bytes room : List ℕ) (run : List ℕ → List ℕ → Result) (outpu
   ran = afterTest (wholeWordsTest (taken bytes)) (run (wordsOf (taken bytes)) output) output
 
   pub answered-words : {count : ℕ} {o p : List ℕ} {a : Answer} → Made (takeWords bytes room) (done count) o → Made (run (take count o) output) a p → Made ran a p
-  unfolding takeWords
   answered-words {p = p} {a = a} m made =
-      let s = split (wholeWordsTest (taken bytes)) _ _ room refl m in
+      let s = words-taken bytes room m in
       subst (λ (r : Result). Made r a p) (passed (wholeWordsTest (taken bytes)) _ output (s .0)) (rw (s .1) at made)
 
   pub refused-words : (a b : ℕ) → refusal a b ≡ takeWords bytes room .answer → Made ran (refusal a b) output
-  unfolding takeWords
-  refused-words a b e = failed (wholeWordsTest (taken bytes)) _ output a b (stopped (wholeWordsTest (taken bytes)) _ a b _ room e)
+  refused-words a b e = failed (wholeWordsTest (taken bytes)) _ output a b (words-ragged bytes room e)

@@ -1,11 +1,14 @@
 // Words from bytes, and what they are to the programs: sheet, coefficients and coins of an order. No public function asks anything of its caller.
+use edition::Edition;
 use outcome::Answer;
 ghost use mathlib.Core.Path.{_≡_};
 ghost use Prim.Native.Nat.{_/_, _≤_};
 ghost use lib.ListN.{length, getD, take, drop};
+ghost use Rattle.definition.specs.Sheet.{sheetLength};
+ghost use Rattle.edition.specs.Meaning.{editionOf};
 ghost use Rattle.outcome.specs.Meaning.{answerOf};
 ghost use Rattle.stream.specs.Overwriting.{overwrite};
-ghost use Rattle.word_input.specs.Input.{taken as takenOf, wordsOf, takeWords, sheetPart, coefficientsPart, coinsPart, monomial, roundsInput};
+ghost use Rattle.word_input.specs.Input.{taken as takenOf, wordsOf, takeWords, sheetPart, coefficientsPart, coinsPart};
 
 // The bytes that count: the first 16,384, or all.
 fn taken(bytes: &[u8]) -> &[u8]
@@ -64,7 +67,7 @@ fn after(words: &[u32], count: usize) -> &[u32]
 }
 
 // Word 2 of a sheet, d0, which says how many coefficients an order has; 0 where it is missing.
-pub fn degree_bound(words: &[u32]) -> usize
+fn degree_bound(words: &[u32]) -> usize
     ensures { λ r. ⌜ r ≡ getD (now (words .entry)) 2 0 ⌝ }
 {
     if words.len() < 3 {
@@ -73,43 +76,30 @@ pub fn degree_bound(words: &[u32]) -> usize
     words[2] as usize
 }
 
-// The sheet of an order: its first 12 words.
-pub fn sheet(words: &[u32]) -> &[u32]
-    ensures { λ r. ⌜ now r ≡ sheetPart (now (words .entry)) ⌝ }
+// The sheet of an order, of the edition: its first words.
+pub fn sheet(e: Edition, words: &[u32]) -> &[u32]
+    ensures { λ r. ⌜ now r ≡ sheetPart (editionOf e) (now (words .entry)) ⌝ }
 {
-    front(words, 12)
+    front(words, edition::sheet_words(e))
+}
+
+// The words after the sheet.
+fn body(e: Edition, words: &[u32]) -> &[u32]
+    ensures { λ r. ⌜ now r ≡ drop (sheetLength (editionOf e)) (now (words .entry)) ⌝ }
+{
+    after(words, edition::sheet_words(e))
 }
 
 // The coefficients of an order: the next d0 words.
-pub fn coefficients(words: &[u32]) -> &[u32]
-    ensures { λ r. ⌜ now r ≡ coefficientsPart (now (words .entry)) ⌝ }
+pub fn coefficients(e: Edition, words: &[u32]) -> &[u32]
+    ensures { λ r. ⌜ now r ≡ coefficientsPart (editionOf e) (now (words .entry)) ⌝ }
 {
-    front(after(words, 12), degree_bound(words))
+    front(body(e, words), degree_bound(words))
 }
 
 // The coins of an order: the rest.
-pub fn coins(words: &[u32]) -> &[u32]
-    ensures { λ r. ⌜ now r ≡ coinsPart (now (words .entry)) ⌝ }
+pub fn coins(e: Edition, words: &[u32]) -> &[u32]
+    ensures { λ r. ⌜ now r ≡ coinsPart (editionOf e) (now (words .entry)) ⌝ }
 {
-    after(after(words, 12), degree_bound(words))
-}
-
-// The polynomial X, with as many coefficients as any sheet asks for.
-pub fn x_coefficients() -> [u32; 2048]
-    ensures { λ r. ⌜ r ≡ monomial ⌝ }
-{
-    let mut x = [0u32; 2048];
-    x[1] = 1;
-    x
-}
-
-// M of the sheet that an input holds, 0 where it is missing.
-pub fn rounds_input(bytes: &[u8]) -> u32
-    ensures { λ r. ⌜ r ≡ roundsInput (now (bytes .entry)) ⌝ }
-{
-    let counted = taken(bytes);
-    if counted.len() < 20 {
-        return 0;
-    }
-    stream::word(counted, 16)
+    after(body(e, words), degree_bound(words))
 }

@@ -1,18 +1,27 @@
-//! Verify, prove and encode in idiomatic Rust, for the benchmark alone.
+//! Verify, prove and encode in idiomatic Rust, of both editions, for the benchmark alone.
 //!
 //! Each stands here twice, by the constant TUNED. Plain Rust writes a step of Horner's rule as a product and a sum, each with its
 //! remainder, and a walk for each point. The tuned one does by hand what the proved code does: one remainder for both, two points
 //! in one walk of verify, four in one pass of the prover's quotient. All else is the same: the points of domain 0 as one table, Newton's
 //! form of the samples, an inversion for two values, folds by halving, tables by halves, the correction by its recurrence.
-//! Verify stands here once more, by the coefficient lists of the proved code ([`lists`]).
+//! Verify stands here once more, by the coefficient lists of the proved code ([`Lists`]).
 
-pub mod lists;
-pub mod prove;
-pub mod verify;
+mod lists;
+mod newton;
+mod prove;
+mod reading;
+mod verify;
+
+pub use lists::Lists;
+pub use newton::Newton;
+pub use prove::{encode, prove};
+pub use verify::verify;
+
+const CHECK_MODULUS: u64 = 4294967291;
 
 /// A field by its prime, a constant, so that the compiler sees every remainder's divisor.
 #[derive(Clone, Copy)]
-struct Prime<const P: u64, const TUNED: bool>;
+pub struct Prime<const P: u64, const TUNED: bool>;
 
 impl<const P: u64, const TUNED: bool> Prime<P, TUNED> {
     /// The inverse of two.

@@ -1,10 +1,8 @@
 //! Encode and prove, for orders that pass their tests; of others they only say so. The rules of the sheet are the model's.
 
-use super::{points, Prime};
-use crate::sheet::{Sheet, SHEET_WORDS};
-
-const BLOCK_WORDS: usize = 127;
-const CHECK_MODULUS: u64 = 4294967291;
+use super::{points, Prime, CHECK_MODULUS};
+use crate::sheet::{Edition, Sheet};
+use crate::stream::{BLOCK_BYTES, BLOCK_WORDS};
 
 impl<const P: u64, const TUNED: bool> Prime<P, TUNED> {
     /// The table of the polynomial whose coefficients stand in `f` at every `stride`-th place, over the points that stand in `powers`
@@ -95,8 +93,8 @@ fn encode_in<const P: u64, const TUNED: bool>(sheet: &Sheet, f: &[u32], out: &mu
 }
 
 /// The sheet of an order to encode that passes its tests.
-fn encode_tests(sheet: &[u32], f: &[u32], room: usize) -> Option<Sheet> {
-    let sheet = Sheet::read(sheet.try_into().ok()?).ok()?;
+fn encode_tests(edition: Edition, sheet: &[u32], f: &[u32], room: usize) -> Option<Sheet> {
+    let sheet = Sheet::read_in(edition, sheet)?.ok()?;
     let passes =
         f.len() == sheet.d0 && f.iter().all(|&c| u64::from(c) < sheet.field.p) && room >= sheet.n0;
     passes.then_some(sheet)
@@ -104,7 +102,7 @@ fn encode_tests(sheet: &[u32], f: &[u32], room: usize) -> Option<Sheet> {
 
 /// Writes table 0 and answers its size.
 pub fn encode<const TUNED: bool>(sheet: &[u32], f: &[u32], out: &mut [u32]) -> Option<usize> {
-    let sheet = encode_tests(sheet, f, out.len())?;
+    let sheet = encode_tests(Edition::One, sheet, f, out.len())?;
     let table = &mut out[..sheet.n0];
     match sheet.field.p {
         17 => encode_in::<17, TUNED>(&sheet, f, table),
@@ -117,7 +115,7 @@ pub fn encode<const TUNED: bool>(sheet: &[u32], f: &[u32], out: &mut [u32]) -> O
 /// Are the coins in range, and the out coins outside their domains?
 fn coins_pass(sheet: &Sheet, powers: &[u32], coins: &[u32]) -> bool {
     let element = |&c: &u32| u64::from(c) < sheet.field.p;
-    let index = |i: usize| move |&j: &u32| (j as usize) < sheet.n(i) / sheet.k;
+    let index = |i: usize| move |&j: &u32| (j as usize) < sheet.indices(i);
     if !element(&coins[0]) {
         return false;
     }
@@ -137,9 +135,10 @@ fn coins_pass(sheet: &Sheet, powers: &[u32], coins: &[u32]) -> bool {
     rest.iter().all(index(sheet.rounds))
 }
 
-/// The honest stream's words.
+/// The honest stream's words after the sheet's.
 fn stream<const P: u64, const TUNED: bool>(
     sheet: &Sheet,
+    mut words: Vec<u32>,
     f: &[u32],
     coins: &[u32],
 ) -> Option<Vec<u32>> {
@@ -148,9 +147,6 @@ fn stream<const P: u64, const TUNED: bool>(
     if !coins_pass(sheet, &powers, coins) {
         return None;
     }
-    let (k, s) = (sheet.k, sheet.outs);
-    let mut words = sheet.words.to_vec();
-    debug_assert_eq!(words.len(), SHEET_WORDS);
     let write_table = |words: &mut Vec<u32>, i: usize, f: &[u32]| {
         let from = words.len();
         words.resize(from + sheet.n(i), 0);
@@ -162,8 +158,9 @@ fn stream<const P: u64, const TUNED: bool>(
     words.push(r);
     let mut f = f.to_vec();
     for i in 1..=sheet.rounds {
+        let k = sheet.k[i - 1];
         let mut g = prime.fold(k, r, &f);
-        let (outs, later) = rest.split_at(s);
+        let (outs, later) = rest.split_at(sheet.outs);
         let (later, next) = later.split_at(2 + sheet.t[i - 1]);
         write_table(&mut words, i, &g);
         words.extend_from_slice(outs);
@@ -174,7 +171,7 @@ fn stream<const P: u64, const TUNED: bool>(
         let shifts = later[2..]
             .iter()
             .map(|&j| powers[(k - 1 + k * scale * j as usize) % powers.len()]);
-        let mut seen = Vec::with_capacity(s + later.len());
+        let mut seen = Vec::with_capacity(sheet.outs + later.len());
         for x in outs.iter().copied().chain(shifts) {
             if !seen.contains(&x) {
                 seen.push(x);
@@ -185,19 +182,21 @@ fn stream<const P: u64, const TUNED: bool>(
         r = later[1];
         rest = next;
     }
-    words.extend(prime.fold(k, r, &f));
+    words.extend(prime.fold(sheet.k[sheet.rounds], r, &f));
     words.extend_from_slice(rest);
     Some(words)
 }
 
 /// Writes the file's blocks and answers their number.
 pub fn prove<const TUNED: bool>(
+    edition: Edition,
     sheet: &[u32],
     f: &[u32],
     coins: &[u32],
     out: &mut [u8],
 ) -> Option<usize> {
-    let sheet = encode_tests(sheet, f, usize::MAX)?;
+    let words = sheet.to_vec();
+    let sheet = encode_tests(edition, sheet, f, usize::MAX)?;
     let due: usize = (1..=sheet.rounds)
         .map(|i| sheet.outs + 2 + sheet.t[i - 1])
         .sum();
@@ -205,15 +204,17 @@ pub fn prove<const TUNED: bool>(
         return None;
     }
     let words = match sheet.field.p {
-        17 => stream::<17, TUNED>(&sheet, f, coins),
-        65537 => stream::<65537, TUNED>(&sheet, f, coins),
-        _ => stream::<2013265921, TUNED>(&sheet, f, coins),
+        17 => stream::<17, TUNED>(&sheet, words, f, coins),
+        65537 => stream::<65537, TUNED>(&sheet, words, f, coins),
+        _ => stream::<2013265921, TUNED>(&sheet, words, f, coins),
     }?;
     let count = words.len().div_ceil(BLOCK_WORDS);
-    if out.len() < 512 * count {
+    if out.len() < BLOCK_BYTES * count {
         return None;
     }
-    let blocks = words.chunks(BLOCK_WORDS).zip(out.chunks_exact_mut(512));
+    let blocks = words
+        .chunks(BLOCK_WORDS)
+        .zip(out.chunks_exact_mut(BLOCK_BYTES));
     for (b, (block, bytes)) in blocks.enumerate() {
         let mut sum = b as u64 + 1;
         bytes.fill(0);
@@ -221,7 +222,7 @@ pub fn prove<const TUNED: bool>(
             sum += (w as u64 + 1) * u64::from(word);
             four.copy_from_slice(&word.to_le_bytes());
         }
-        bytes[508..].copy_from_slice(&((sum % CHECK_MODULUS) as u32).to_le_bytes());
+        bytes[4 * BLOCK_WORDS..].copy_from_slice(&((sum % CHECK_MODULUS) as u32).to_le_bytes());
     }
     Some(count)
 }

@@ -1,52 +1,91 @@
 //! Prints small test cases in all three fields, one per line: the file's bytes in
-//! hexadecimal (`-` for the empty file), then outcome, number, place and reads.
+//! hexadecimal (`-` for none), then outcome, number, place and reads.
 //!
-//! Arguments: seed, count, and optionally the word `orders`: then each line is a state
-//! of the load's generator, the state after one run, and the run's sheet,
-//! coefficients and coins, with bars between them.
+//! Arguments: seed, count, and optionally what to print instead:
+//! - `edition2`: the same for files of edition 2;
+//! - `convert`: the edition to convert to, the file's bytes, the output's length,
+//!   `done 0 BLOCKS` or `refused NUMBER PLACE`, and the output's bytes afterwards,
+//!   all of which were 165 before;
+//! - `orders`: a state of the load's generator, the state after one run, and the
+//!   run's sheet, coefficients and coins, with bars between them.
 
 use std::env;
 use std::io::{self, BufWriter, Write};
 use std::process::ExitCode;
-use tevrolig_model::generate::{aim, coefficients, coins, damage, honest_file, sheet_over, Rng};
+use tevrolig_model::convert::convert_to;
+use tevrolig_model::generate::{
+    aim, coefficients, coins, convert, damage, honest_file, sheet_over, Rng,
+};
 use tevrolig_model::load::{Generator, WORKED_SHEET};
-use tevrolig_model::sheet::MOST_COINS;
-use tevrolig_model::{line, verify};
+use tevrolig_model::sheet::Edition;
+use tevrolig_model::verify::verify_in;
+use tevrolig_model::{line, Answer};
+
+/// Bytes of a file at most.
+const MOST_BYTES: usize = 1024;
 
 fn main() -> ExitCode {
     let arguments: Vec<String> = env::args().skip(1).collect();
     let number = |at: usize| arguments.get(at).and_then(|text| text.parse::<u64>().ok());
-    let (Some(seed), Some(count)) = (number(0), number(1)) else {
-        eprintln!("usage: definition-cases SEED COUNT [orders]");
+    let draw: Option<fn(&mut Rng, u64) -> String> = match arguments.get(2).map(String::as_str) {
+        None => Some(|rng, case| judged(Edition::One, rng, case)),
+        Some("edition2") => Some(|rng, case| judged(Edition::Two, rng, case)),
+        Some("convert") => Some(converted),
+        Some("orders") => Some(drawn_order),
+        Some(_) => None,
+    };
+    let (Some(seed), Some(count), Some(draw)) = (number(0), number(1), draw) else {
+        eprintln!("usage: definition-cases SEED COUNT [edition2 | convert | orders]");
         return ExitCode::FAILURE;
     };
-    let orders = arguments.get(2).is_some_and(|word| word == "orders");
 
     let mut rng = Rng::new(seed);
     let mut out = BufWriter::new(io::stdout().lock());
-    if orders {
-        for case in 0..count {
-            if writeln!(out, "{}", drawn_order(&mut rng, case)).is_err() {
-                return ExitCode::FAILURE;
-            }
-        }
-        return ExitCode::SUCCESS;
-    }
     for case in 0..count {
-        let file = match case {
-            0 => Vec::new(),
-            _ => small(&mut rng),
-        };
-        let bytes = if file.is_empty() {
-            "-".to_string()
-        } else {
-            file.iter().map(|byte| format!("{byte:02x}")).collect()
-        };
-        if writeln!(out, "{bytes} {}", line(verify(&file))).is_err() {
+        if writeln!(out, "{}", draw(&mut rng, case)).is_err() {
             return ExitCode::FAILURE;
         }
     }
     ExitCode::SUCCESS
+}
+
+fn hexadecimal(bytes: &[u8]) -> String {
+    if bytes.is_empty() {
+        return "-".to_string();
+    }
+    bytes.iter().map(|byte| format!("{byte:02x}")).collect()
+}
+
+/// A file with its verdict; the first is empty.
+fn judged(edition: Edition, rng: &mut Rng, case: u64) -> String {
+    let file = match case {
+        0 => Vec::new(),
+        _ => small(edition, rng),
+    };
+    let verdict = line(verify_in(edition, &file));
+    format!("{} {verdict}", hexadecimal(&file))
+}
+
+/// A file that is converted, or refused, with the output afterwards. One in two is
+/// made for edition 2.
+fn converted(rng: &mut Rng, case: u64) -> String {
+    let (number, to) = match case % 2 {
+        0 => (2, Edition::Two),
+        _ => (1, Edition::One),
+    };
+    let case = loop {
+        let case = convert::case(to, rng, 32);
+        if case.file.len() <= MOST_BYTES && case.length <= MOST_BYTES {
+            break case;
+        }
+    };
+    let mut output = vec![165; case.length];
+    let answer = match convert_to(to, &case.file, &mut output) {
+        Answer::Done(blocks) => format!("done 0 {blocks}"),
+        Answer::Refused { number, place } => format!("refused {number} {place}"),
+    };
+    let (file, output) = (hexadecimal(&case.file), hexadecimal(&output));
+    format!("{number} {file} {} {answer} {output}", case.length)
 }
 
 /// A run of the load that is short to compute: half of them have rounds, and so out
@@ -69,17 +108,22 @@ fn drawn_order(rng: &mut Rng, case: u64) -> String {
     }
 }
 
-/// A file of any field: about a third honest, the rest damaged, not empty.
-fn small(rng: &mut Rng) -> Vec<u8> {
-    let file = honest(rng, |rng| {
-        let field = rng.below(3) as u32;
-        let sheet = if rng.one_in(3) {
-            sheet_over(rng, field, 32)
-        } else {
-            with_rounds(rng, field)
-        };
-        small_counts(rng, sheet)
-    });
+/// A file of any field: about a third honest, the rest damaged, not empty. Most have
+/// rounds, and at most 6 final coins, so that a case is short to compute.
+fn small(edition: Edition, rng: &mut Rng) -> Vec<u8> {
+    let field = rng.below(3) as u32;
+    let mut sheet = sheet_over(edition, rng, field, 32);
+    while sheet[4] == 0 && !rng.one_in(8) {
+        sheet = sheet_over(edition, rng, field, 32);
+    }
+    let last = 6 + sheet[4] as usize;
+    if !rng.one_in(16) {
+        sheet[last] = sheet[last].min(1 + rng.below(6) as u32);
+    }
+    let polynomial = coefficients(rng, &sheet);
+    let hostile = rng.one_in(2);
+    let coins = coins(rng, &sheet, hostile);
+    let file = honest_file(&sheet, &polynomial, &coins);
     if rng.one_in(3) {
         return file;
     }
@@ -88,50 +132,11 @@ fn small(rng: &mut Rng) -> Vec<u8> {
         // The faults that leave more to compute are wanted more often.
         let number = rng.pick(&[1, 2, 3, 4, 5, 6, 7, 8, 8, 9, 9, 9, 0]);
         let hit = match number {
-            0 => damage(rng, &mut damaged).is_none(),
-            _ => aim(rng, &mut damaged, number),
+            0 => damage(edition, rng, &mut damaged).is_none(),
+            _ => aim(edition, rng, &mut damaged, number),
         };
-        if hit && !damaged.is_empty() && damaged.len() <= 1024 {
+        if hit && !damaged.is_empty() && damaged.len() <= MOST_BYTES {
             return damaged;
         }
     }
-}
-
-/// A sheet with rounds: n0 is 16 in field 0, where one fits, and 32 in the others.
-fn with_rounds(rng: &mut Rng, field: u32) -> [u32; 12] {
-    let (n0, rounds) = match field {
-        0 => (16, 1),
-        _ => (32, 1 + rng.below(2) as u32),
-    };
-    let outs = 1 + rng.below(2) as u32;
-    let mut sheet = [0; 12];
-    sheet[..6].copy_from_slice(&[field, n0, n0 / 2, 2, rounds, outs]);
-    for i in 0..=rounds {
-        // t_i + s < d_(i+1) below M.
-        let most = if i == rounds {
-            MOST_COINS
-        } else {
-            (n0 >> (i + 2)) - outs - 1
-        };
-        sheet[6 + i as usize] = 1 + rng.below(u64::from(most)) as u32;
-    }
-    sheet
-}
-
-/// Mostly at most 6 final coins, so that a case is short to compute.
-fn small_counts(rng: &mut Rng, mut sheet: [u32; 12]) -> [u32; 12] {
-    let last = 6 + sheet[4] as usize;
-    if !rng.one_in(16) {
-        sheet[last] = sheet[last].min(1 + rng.below(6) as u32);
-    }
-    sheet
-}
-
-/// The honest file for a drawn sheet, with plain or hostile coins.
-fn honest(rng: &mut Rng, draw: impl Fn(&mut Rng) -> [u32; 12]) -> Vec<u8> {
-    let sheet = draw(rng);
-    let polynomial = coefficients(rng, &sheet);
-    let hostile = rng.one_in(2);
-    let coins = coins(rng, &sheet, hostile);
-    honest_file(&sheet, &polynomial, &coins)
 }

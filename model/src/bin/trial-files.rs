@@ -3,6 +3,7 @@
 
 use std::path::Path;
 use tevrolig_model::generate::{aim, coefficients, coins, honest_file, Rng};
+use tevrolig_model::sheet::Edition;
 use tevrolig_model::stream::{to_blocks, write_word};
 use tevrolig_model::{generate, line, verify};
 
@@ -52,7 +53,7 @@ fn files() -> Vec<(String, Vec<u8>)> {
         files.push((format!("honest-{field}"), file.clone()));
         for number in 1..=9 {
             let mut damaged = file.clone();
-            if aim(&mut rng, &mut damaged, number) {
+            if aim(Edition::One, &mut rng, &mut damaged, number) {
                 files.push((format!("refused-{number}-field-{field}"), damaged));
             }
         }

@@ -1,17 +1,18 @@
 //! Damage done to a file on purpose, each kind aimed at one refusal.
 
+use super::sheets::any_fault;
 use super::{rewrite_checks, Rng};
 use crate::domain::Subgroup;
 use crate::layout::{Layout, Part};
-use crate::sheet::{Sheet, SHEET_WORDS};
+use crate::sheet::{Edition, Sheet};
 use crate::stream::{read_word, write_word, BLOCK_BYTES, BLOCK_WORDS};
 
-/// Damages a file; answers the refusal it aimed at, or nothing if it did not
-/// aim (the file may then even be as good as before). Damage of the kinds 1 to 7
-/// always hits an honest file; a small field may let 8 and 9 miss.
-pub fn damage(rng: &mut Rng, file: &mut Vec<u8>) -> Option<u32> {
+/// Damages a file of an edition; answers the refusal it aimed at, or nothing if it
+/// did not aim (the file may then even be as good as before). Damage of the kinds 1
+/// to 7 always hits an honest file; a small field may let 8 and 9 miss.
+pub fn damage(edition: Edition, rng: &mut Rng, file: &mut Vec<u8>) -> Option<u32> {
     let number = 1 + rng.below(10) as u32;
-    if aim(rng, file, number) {
+    if aim(edition, rng, file, number) {
         return Some(number);
     }
     noise(rng, file);
@@ -20,13 +21,13 @@ pub fn damage(rng: &mut Rng, file: &mut Vec<u8>) -> Option<u32> {
 
 /// Damages a file so that it is refused with this number. False, with the file
 /// as before, if the file has no place for that.
-pub fn aim(rng: &mut Rng, file: &mut Vec<u8>, number: u32) -> bool {
+pub fn aim(edition: Edition, rng: &mut Rng, file: &mut Vec<u8>, number: u32) -> bool {
     match number {
         1 => return break_length(rng, file),
         2 => return break_check(rng, file),
         _ => {}
     }
-    let Some(mut target) = Target::new(rng, file) else {
+    let Some(mut target) = Target::new(edition, rng, file) else {
         return false;
     };
     let hit = match number {
@@ -115,21 +116,24 @@ fn noise(rng: &mut Rng, file: &mut Vec<u8>) {
 struct Target<'a> {
     rng: &'a mut Rng,
     file: &'a mut Vec<u8>,
+    words: Vec<u32>,
     sheet: Sheet,
     layout: Layout,
 }
 
 impl<'a> Target<'a> {
-    fn new(rng: &'a mut Rng, file: &'a mut Vec<u8>) -> Option<Self> {
+    fn new(edition: Edition, rng: &'a mut Rng, file: &'a mut Vec<u8>) -> Option<Self> {
         if file.len() < BLOCK_BYTES {
             return None;
         }
-        let words: [u32; SHEET_WORDS] = std::array::from_fn(|word| read_word(file, word));
-        let sheet = Sheet::read(&words).ok()?;
+        let words = 0..edition.sheet_words();
+        let words: Vec<u32> = words.map(|word| read_word(file, word)).collect();
+        let sheet = Sheet::read_in(edition, &words)?.ok()?;
         let layout = Layout::new(&sheet);
         (file.len() == layout.blocks() * BLOCK_BYTES).then_some(Target {
             rng,
             file,
+            words,
             sheet,
             layout,
         })
@@ -155,7 +159,7 @@ impl<'a> Target<'a> {
     /// One index of a part over domain i, brought into range if damaged before.
     fn some_index(&mut self, part: Part, i: usize) -> usize {
         let word = self.some_word(part);
-        read_word(self.file, word) as usize % (self.sheet.n(i) / self.sheet.k)
+        read_word(self.file, word) as usize % self.sheet.indices(i)
     }
 
     /// One of the rounds 1 to M, if there is one.
@@ -165,19 +169,8 @@ impl<'a> Target<'a> {
     }
 
     fn break_sheet(&mut self) -> bool {
-        let place = self.rng.place(SHEET_WORDS);
-        let mut words = self.sheet.words;
-        let (old, any) = (words[place], self.rng.word());
-        let values = [0, 1, 2, 3, 5, 6, 12, 32, 49, 65, 8192, any];
-        let near = [old + 1, old.wrapping_sub(1), old / 2, old * 2];
-        words[place] = match self.rng.below(3) {
-            0 => self.rng.pick(&near),
-            _ => self.rng.pick(&values),
-        };
-        if Sheet::read(&words).is_ok() {
-            words[place] = u32::MAX;
-        }
-        self.write(place, u64::from(words[place]));
+        let (place, word) = any_fault(self.rng, &self.words);
+        self.write(place, u64::from(word));
         true
     }
 
@@ -244,7 +237,8 @@ impl<'a> Target<'a> {
         } else {
             let index = self.some_index(Part::ShiftIndices(i), i - 1);
             let out = self.rng.place(outs.len());
-            let point = Subgroup::of(&self.sheet).shift_point(i - 1, self.sheet.k, index);
+            let k = self.sheet.k[i - 1];
+            let point = Subgroup::of(&self.sheet).shift_point(i - 1, k, index);
             self.write(outs.start + out, point);
             let reply = self.other_element(replies.start + out);
             self.write(replies.start + out, reply);
@@ -258,8 +252,8 @@ impl<'a> Target<'a> {
         let last = self.sheet.rounds;
         let word = if self.rng.one_in(2) {
             let index = self.some_index(Part::FinalIndices, last);
-            let m = self.rng.place(self.sheet.k);
-            let stride = self.sheet.n(last) / self.sheet.k;
+            let m = self.rng.place(self.sheet.k[last]);
+            let stride = self.sheet.indices(last);
             self.layout.range(Part::Table(last)).start + index + m * stride
         } else {
             let mut parts = vec![Part::FinalCoefficients, Part::FoldCoin(last)];

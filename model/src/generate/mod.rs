@@ -1,90 +1,25 @@
-//! Deterministic test data: sheets, coefficients, coins, honest and damaged files.
+//! Deterministic test data of both editions: sheets, coefficients, coins, honest and
+//! damaged files. Where a sheet is given, its number of words tells the edition.
 
+pub mod convert;
 mod damage;
 mod random;
+mod sheets;
 
 pub use crate::stream::write_checks as rewrite_checks;
 pub use damage::{aim, damage};
 pub use random::Rng;
+pub use sheets::{differing_at, fault, sheet, sheet_over, sheet_up_to, test_order, two_faults};
 
 use crate::domain::Subgroup;
-use crate::field::Field;
 use crate::layout::{Layout, Part};
-use crate::prove::{prove, Answer};
-use crate::sheet::{Sheet, MOST_COINS, SHEET_WORDS};
+use crate::prove::{prove_in, Answer};
+use crate::sheet::{Edition, Sheet};
 use crate::stream::BLOCK_BYTES;
 
-/// A random sheet without fault.
-pub fn sheet(rng: &mut Rng) -> [u32; SHEET_WORDS] {
-    sheet_up_to(rng, 4096)
-}
-
-/// A random sheet without fault, with n0 at most the limit (or 4).
-pub fn sheet_up_to(rng: &mut Rng, most_n0: u32) -> [u32; SHEET_WORDS] {
-    let field = rng.below(3) as u32;
-    sheet_over(rng, field, most_n0)
-}
-
-/// The same for a given field, which is 0, 1 or 2. A sheet without rounds is
-/// drawn again up to four times, as most small ones have none.
-pub fn sheet_over(rng: &mut Rng, field: u32, most_n0: u32) -> [u32; SHEET_WORDS] {
-    let mut words = any_sheet(rng, field, most_n0);
-    for _ in 0..4 {
-        if words[4] == 0 {
-            words = any_sheet(rng, field, most_n0);
-        }
-    }
-    words
-}
-
-fn any_sheet(rng: &mut Rng, field: u32, most_n0: u32) -> [u32; SHEET_WORDS] {
-    let most_n0 = most_n0.clamp(4, if field == 0 { 16 } else { 4096 });
-    let n0 = power_of_two(rng, 4, most_n0);
-    let d0 = power_of_two(rng, 2, n0 / 2).max(power_of_two(rng, 2, n0 / 2));
-    let k = power_of_two(rng, 2, d0.min(16));
-    let outs = 1 + rng.below(2) as u32;
-
-    // A round needs room for one shift coin: 1 + s < d_i.
-    let fits = |rounds: u32| {
-        let room = rounds == 0 || 1 + outs < d0 / k.pow(rounds);
-        room && k.pow(rounds + 1) <= d0
-    };
-    let most_rounds = (0..=5).rev().find(|&rounds| fits(rounds)).unwrap_or(0);
-    let draw = |rng: &mut Rng| rng.below(u64::from(most_rounds) + 1) as u32;
-    let rounds = draw(rng).max(draw(rng));
-
-    let mut words = [0; SHEET_WORDS];
-    words[..6].copy_from_slice(&[field, n0, d0, k, rounds, outs]);
-    for i in 0..=rounds {
-        let most = if i < rounds {
-            MOST_COINS.min(d0 / k.pow(i + 1) - outs - 1)
-        } else {
-            MOST_COINS
-        };
-        words[6 + i as usize] = coin_count(rng, most);
-    }
-    words
-}
-
-/// A power of two from `least`, which is one itself, to `most`, which is not below it.
-fn power_of_two(rng: &mut Rng, least: u32, most: u32) -> u32 {
-    let choices = most.ilog2() - least.ilog2() + 1;
-    least << rng.below(u64::from(choices))
-}
-
-/// 1 to `most`, with both ends often and small numbers more often than large ones.
-fn coin_count(rng: &mut Rng, most: u32) -> u32 {
-    let draw = |rng: &mut Rng| 1 + rng.below(u64::from(most)) as u32;
-    match rng.below(8) {
-        0 | 1 => 1,
-        2 => most,
-        _ => draw(rng).min(draw(rng)).min(draw(rng)),
-    }
-}
-
 /// d0 coefficients: mostly random, sometimes sparse or all at an end of the range.
-pub fn coefficients(rng: &mut Rng, sheet: &[u32; SHEET_WORDS]) -> Vec<u32> {
-    let Ok(sheet) = Sheet::read(sheet) else {
+pub fn coefficients(rng: &mut Rng, sheet: &[u32]) -> Vec<u32> {
+    let Some(sheet) = known(sheet) else {
         return Vec::new();
     };
     let p = sheet.field.p;
@@ -101,15 +36,14 @@ pub fn coefficients(rng: &mut Rng, sheet: &[u32; SHEET_WORDS]) -> Vec<u32> {
 /// A full list of allowed coins. Hostile coins sit where slips happen: zeros,
 /// fold coins at a root, out coins at a shift point or equal, repeated indices,
 /// combination coins that are 0 or inverse to a point.
-pub fn coins(rng: &mut Rng, sheet: &[u32; SHEET_WORDS], hostile: bool) -> Vec<u32> {
-    let Ok(sheet) = Sheet::read(sheet) else {
+pub fn coins(rng: &mut Rng, sheet: &[u32], hostile: bool) -> Vec<u32> {
+    let Some(sheet) = known(sheet) else {
         return Vec::new();
     };
     let layout = Layout::new(&sheet);
     let mut draw = Draw {
-        field: sheet.field,
         subgroup: Subgroup::of(&sheet),
-        k: sheet.k,
+        sheet,
         favourite: 0,
         hostile,
     };
@@ -127,9 +61,8 @@ pub fn coins(rng: &mut Rng, sheet: &[u32; SHEET_WORDS], hostile: bool) -> Vec<u3
 
 /// What drawing a coin needs to know.
 struct Draw {
-    field: Field,
+    sheet: Sheet,
     subgroup: Subgroup,
-    k: usize,
     /// The index at whose shift point a round's coins like to meet.
     favourite: usize,
     hostile: bool,
@@ -139,7 +72,7 @@ impl Draw {
     /// The out coins open a round: its favourite index is drawn with them.
     fn favour(&mut self, rng: &mut Rng, part: Part) {
         if let Part::OutCoins(i) = part {
-            self.favourite = rng.place(self.subgroup.size(i - 1) / self.k);
+            self.favourite = rng.place(self.sheet.indices(i - 1));
         }
     }
 
@@ -153,11 +86,12 @@ impl Draw {
                 rng.pick(&[0, 1, limit - 1, root, root])
             }
             Part::OutCoins(i) => {
-                let meeting = self.subgroup.shift_point(i - 1, self.k, self.favourite);
+                let k = self.sheet.k[i - 1];
+                let meeting = self.subgroup.shift_point(i - 1, k, self.favourite);
                 rng.pick(&[0, meeting, meeting, before.unwrap_or(meeting)])
             }
             Part::Combination(i) => {
-                let inverse = self.field.div(1, self.some_point(rng, i));
+                let inverse = self.sheet.field.div(1, self.some_point(rng, i));
                 rng.pick(&[0, inverse, inverse, limit - 1])
             }
             Part::ShiftIndices(_) => {
@@ -188,13 +122,31 @@ impl Draw {
 }
 
 /// The prover's file; empty if the prover refuses.
-pub fn honest_file(sheet: &[u32; SHEET_WORDS], coefficients: &[u32], coins: &[u32]) -> Vec<u8> {
-    let Ok(judged) = Sheet::read(sheet) else {
+pub fn honest_file(sheet: &[u32], coefficients: &[u32], coins: &[u32]) -> Vec<u8> {
+    let Some(judged) = known(sheet) else {
         return Vec::new();
     };
     let mut file = vec![0; Layout::new(&judged).blocks() * BLOCK_BYTES];
-    match prove(sheet, coefficients, coins, &mut file) {
+    match prove_in(judged.edition, sheet, coefficients, coins, &mut file) {
         Answer::Done(_) => file,
         Answer::Refused { .. } => Vec::new(),
     }
+}
+
+/// Changes one list in three: another length, or another word.
+pub fn disturb(rng: &mut Rng, list: &mut Vec<u32>) {
+    let at = rng.place(list.len());
+    match rng.below(12) {
+        0 => list.truncate(at),
+        1 => list.push(0),
+        2 => list[at] = rng.word(),
+        3 => list[at] = list[at].wrapping_add(1),
+        _ => {}
+    }
+}
+
+/// The sheet of these words, if they are as many as one of an edition and without
+/// fault.
+pub fn known(words: &[u32]) -> Option<Sheet> {
+    Sheet::read_in(Edition::of(words)?, words)?.ok()
 }

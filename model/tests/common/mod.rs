@@ -1,11 +1,16 @@
-//! What several tests share: the transcript by hand and a few functions.
+//! What several tests share: the transcript by hand, a file of each edition, and a
+//! few functions.
 #![allow(dead_code)]
 
+use tevrolig_model::domain::Subgroup;
 use tevrolig_model::generate::{self, rewrite_checks, Rng};
 use tevrolig_model::layout::Layout;
 use tevrolig_model::sheet::Sheet;
 use tevrolig_model::stream::write_word;
-use tevrolig_model::{line, verify, Outcome};
+use tevrolig_model::verify::verify_in;
+use tevrolig_model::{line, Outcome};
+
+pub use tevrolig_model::sheet::Edition::{self, One, Two};
 
 /// "A transcript by hand" of document 01.
 pub const SHEET: [u32; 12] = [0, 16, 8, 2, 1, 1, 1, 1, 0, 0, 0, 0];
@@ -25,6 +30,16 @@ pub const OUT: usize = 37;
 pub const REPLY: usize = 38;
 pub const FINAL: usize = 42;
 
+/// Its sheet in edition 2.
+pub const SHEET_2: [u32; 18] = [0, 16, 8, 2, 1, 1, 1, 1, 0, 0, 0, 0, 2, 0, 0, 0, 0, 2];
+
+/// Two rounds over field 1 with s = 2: k = 2 and t = 4 3 5, with d = 64 32 16 and 8
+/// final coefficients.
+pub const TWO_ROUNDS: [u32; 12] = [1, 256, 64, 2, 2, 2, 4, 3, 5, 0, 0, 0];
+/// The same in edition 2 with a large first fold: k = 16 4 2 and t = 3 2 4, with d =
+/// 512 32 8 and 4 final coefficients.
+pub const LARGE_FIRST: [u32; 18] = [1, 1024, 512, 16, 2, 2, 3, 2, 4, 0, 0, 0, 4, 2, 0, 0, 0, 2];
+
 /// The file by hand: words, zeros, check word 6143.
 pub fn hand_file() -> Vec<u8> {
     let mut words = STREAM.to_vec();
@@ -43,26 +58,113 @@ pub fn changed(file: &[u8], changes: &[(usize, u32)]) -> Vec<u8> {
     file
 }
 
+/// A list with some words replaced.
+pub fn with(list: &[u32], changes: &[(usize, u32)]) -> Vec<u32> {
+    let mut list = list.to_vec();
+    for &(at, word) in changes {
+        list[at] = word;
+    }
+    list
+}
+
 /// The verdict line of a file.
-pub fn judged(file: &[u8]) -> String {
-    line(verify(file))
+pub fn judged(edition: Edition, file: &[u8]) -> String {
+    line(verify_in(edition, file))
 }
 
 /// The number of the refusal, 0 for accepted.
-pub fn number(file: &[u8]) -> u32 {
-    match verify(file).outcome {
+pub fn number(edition: Edition, file: &[u8]) -> u32 {
+    match verify_in(edition, file).outcome {
         Outcome::Accepted => 0,
         Outcome::Refused { number, .. } => number,
     }
 }
 
+/// The edition of a sheet by its number of words.
+pub fn edition(sheet: &[u32]) -> Edition {
+    Edition::of(sheet).unwrap()
+}
+
 /// A random honest file for a sheet.
-pub fn honest(rng: &mut Rng, sheet: &[u32; 12], hostile: bool) -> Vec<u8> {
+pub fn honest(rng: &mut Rng, sheet: &[u32], hostile: bool) -> Vec<u8> {
     let coefficients = generate::coefficients(rng, sheet);
     let coins = generate::coins(rng, sheet, hostile);
     generate::honest_file(sheet, &coefficients, &coins)
 }
 
-pub fn layout(sheet: &[u32; 12]) -> Layout {
+/// The same, and tests that it is accepted with the reads due.
+pub fn accept(rng: &mut Rng, sheet: &[u32], hostile: bool) -> Vec<u8> {
+    let file = honest(rng, sheet, hostile);
+    let expected = format!("accepted 0 0 {}", reads(sheet));
+    assert_eq!(judged(edition(sheet), &file), expected, "{sheet:?}");
+    file
+}
+
+pub fn layout(sheet: &[u32]) -> Layout {
     Layout::new(&Sheet::read(sheet).unwrap())
+}
+
+/// k_i by the sheet's words.
+pub fn fold(sheet: &[u32], i: usize) -> u32 {
+    match (edition(sheet), i) {
+        (One, _) | (_, 0) => sheet[3],
+        (Two, _) => sheet[11 + i],
+    }
+}
+
+/// The table words that an accepted file uses: each t_i costs its own k_i.
+pub fn reads(sheet: &[u32]) -> u32 {
+    (0..6).map(|i| fold(sheet, i) * sheet[6 + i]).sum()
+}
+
+/// An honest file with coins that do not meet.
+pub struct Sample {
+    pub edition: Edition,
+    pub words: &'static [u32],
+    pub sheet: Sheet,
+    pub layout: Layout,
+    pub subgroup: Subgroup,
+    pub coefficients: Vec<u32>,
+    pub coins: Vec<u32>,
+    pub file: Vec<u8>,
+}
+
+impl Sample {
+    fn new(words: &'static [u32]) -> Sample {
+        let mut rng = Rng::new(11);
+        let coefficients = generate::coefficients(&mut rng, words);
+        let coins = generate::coins(&mut rng, words, false);
+        let sheet = Sheet::read(words).unwrap();
+        let sample = Sample {
+            edition: sheet.edition,
+            words,
+            layout: Layout::new(&sheet),
+            subgroup: Subgroup::of(&sheet),
+            sheet,
+            file: generate::honest_file(words, &coefficients, &coins),
+            coefficients,
+            coins,
+        };
+        let reads = match sample.edition {
+            One => 2 * (4 + 3 + 5),
+            Two => 16 * 3 + 4 * 2 + 2 * 4,
+        };
+        assert_eq!(sample.judged(&[]), format!("accepted 0 0 {reads}"));
+        sample
+    }
+
+    /// The verdict line with some words changed.
+    pub fn judged(&self, changes: &[(usize, u32)]) -> String {
+        judged(self.edition, &changed(&self.file, changes))
+    }
+
+    /// The refusal's number likewise.
+    pub fn number(&self, changes: &[(usize, u32)]) -> u32 {
+        number(self.edition, &changed(&self.file, changes))
+    }
+}
+
+/// A file of each edition with two rounds and several blocks.
+pub fn samples() -> [Sample; 2] {
+    [&TWO_ROUNDS[..], &LARGE_FIRST].map(Sample::new)
 }

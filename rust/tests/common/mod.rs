@@ -1,21 +1,70 @@
-//! Orders to prove and to encode, run in the archive and in the model.
+//! The operations of both editions, run in the archive and in the model.
 #![allow(dead_code)]
 
 use std::ops::Range;
 use tevrolig::OrderRefusal;
 use tevrolig_model::generate::{self, Rng};
 use tevrolig_model::layout::{Layout, Section};
+use tevrolig_model::prove::prove_in;
 use tevrolig_model::sheet::Sheet;
+use tevrolig_model::verify::verify_in;
 use tevrolig_model::{self as model, Answer};
+
+pub use tevrolig_model::sheet::Edition::{self, One, Two};
 
 /// Bytes or words beside the output that nobody may touch. It is odd, so that the output's bytes begin anywhere.
 const GUARD: usize = 61;
 
+/// The largest sheets of edition 1, and in edition 2 those with folding numbers of every order.
+#[rustfmt::skip]
+pub const LARGEST: [&[u32]; 10] = [
+    &[2, 4096, 2048, 2, 5, 2, 48, 48, 48, 48, 48, 48],
+    &[2, 4096, 2048, 16, 1, 2, 48, 48, 0, 0, 0, 0],
+    &[2, 4096, 512, 4, 2, 2, 36, 27, 22, 0, 0, 0],
+    &[1, 4096, 2048, 2, 5, 1, 48, 48, 48, 48, 48, 48],
+    &[2, 4096, 2048, 2, 5, 2, 48, 48, 48, 48, 48, 48, 2, 2, 2, 2, 2, 2],
+    &[2, 4096, 2048, 16, 2, 2, 48, 29, 48, 0, 0, 0, 4, 2, 0, 0, 0, 2],
+    &[2, 4096, 2048, 16, 3, 1, 48, 14, 2, 48, 0, 0, 8, 4, 2, 0, 0, 2],
+    &[1, 4096, 2048, 16, 3, 1, 48, 30, 14, 48, 0, 0, 4, 2, 16, 0, 0, 2],
+    &[2, 4096, 2048, 2, 3, 2, 48, 48, 29, 48, 0, 0, 4, 8, 16, 0, 0, 2],
+    &[1, 1024, 512, 16, 2, 2, 3, 2, 4, 0, 0, 0, 4, 2, 0, 0, 0, 2],
+];
+
 /// What prove is asked for; encode leaves the coins out.
 pub struct Order {
+    pub edition: Edition,
     pub sheet: Vec<u32>,
     pub coefficients: Vec<u32>,
     pub coins: Vec<u32>,
+}
+
+/// The edition of a sheet by its number of words.
+pub fn edition(sheet: &[u32]) -> Edition {
+    Edition::of(sheet).unwrap()
+}
+
+/// The verdict of the archive's judge.
+pub fn verify(edition: Edition, file: &[u8]) -> tevrolig::Verdict {
+    match edition {
+        One => tevrolig::verify(file),
+        Two => tevrolig::edition2::verify(file),
+    }
+}
+
+/// A random honest file for a sheet, by the model.
+pub fn honest(rng: &mut Rng, sheet: &[u32], hostile: bool) -> Vec<u8> {
+    let coefficients = generate::coefficients(rng, sheet);
+    let coins = generate::coins(rng, sheet, hostile);
+    generate::honest_file(sheet, &coefficients, &coins)
+}
+
+/// The table words that an accepted file uses: k_i for each of t_i.
+pub fn reads(sheet: &[u32]) -> u32 {
+    let fold = |i: usize| match edition(sheet) {
+        Two if i > 0 => sheet[11 + i],
+        _ => sheet[3],
+    };
+    (0..6).map(|i| fold(i) * sheet[6 + i]).sum()
 }
 
 /// The answer in the model's terms.
@@ -31,10 +80,10 @@ fn told(answer: Result<usize, OrderRefusal>) -> Answer {
 
 /// Runs an operation in the archive and in the model on outputs of this length with guards at both ends, and answers what both say and the
 /// output: the outputs are equal with their guards, what comes after the part written is as before, and after a refusal all is.
-fn agree<T: Copy + PartialEq>(
+pub fn agree<T: Copy + PartialEq>(
     filled: impl Fn(usize) -> T,
     length: usize,
-    archive: impl FnOnce(&mut [T]) -> Result<usize, OrderRefusal>,
+    archive: impl FnOnce(&mut [T]) -> Answer,
     model: impl FnOnce(&mut [T]) -> Answer,
     written: impl FnOnce(u64) -> usize,
     what: &str,
@@ -42,7 +91,7 @@ fn agree<T: Copy + PartialEq>(
     let before: Vec<T> = (0..GUARD + length + GUARD).map(filled).collect();
     let output = GUARD..GUARD + length;
     let (mut room, mut expected) = (before.clone(), before.clone());
-    let answer = told(archive(&mut room[output.clone()]));
+    let answer = archive(&mut room[output.clone()]);
     assert_eq!(answer, model(&mut expected[output.clone()]), "{what}");
     let kept = match answer {
         Answer::Done(size) => GUARD + written(size),
@@ -69,43 +118,66 @@ fn agree<T: Copy + PartialEq>(
 }
 
 impl Order {
-    pub fn allowed(rng: &mut Rng, sheet: &[u32; 12], hostile: bool) -> Order {
+    pub fn allowed(rng: &mut Rng, sheet: &[u32], hostile: bool) -> Order {
         Order {
+            edition: edition(sheet),
             sheet: sheet.to_vec(),
             coefficients: generate::coefficients(rng, sheet),
             coins: generate::coins(rng, sheet, hostile),
         }
     }
 
+    /// An order with nothing in it.
+    pub fn empty(edition: Edition) -> Order {
+        Order {
+            edition,
+            sheet: Vec::new(),
+            coefficients: Vec::new(),
+            coins: Vec::new(),
+        }
+    }
+
     /// The sheet and the layout of an order without fault.
     pub fn known(&self) -> (Sheet, Layout) {
-        let words: &[u32; 12] = self.sheet[..].try_into().unwrap();
-        let sheet = Sheet::read(words).unwrap();
+        let sheet = Sheet::read(&self.sheet).unwrap();
         let layout = Layout::new(&sheet);
         (sheet, layout)
     }
 
+    /// The archive's answer.
+    pub fn proved(&self, output: &mut [u8]) -> Result<usize, OrderRefusal> {
+        let prove = match self.edition {
+            One => tevrolig::prove,
+            Two => tevrolig::edition2::prove,
+        };
+        prove(&self.sheet, &self.coefficients, &self.coins, output)
+    }
+
     /// Both answers to prove, which are equal; a file that comes of it is accepted by both judges.
     pub fn prove(&self, length: usize, what: &str) -> Answer {
-        let Order {
-            sheet,
-            coefficients,
-            coins,
-        } = self;
+        let edition = self.edition;
         let (answer, output) = agree(
             |i| (37 * i + length) as u8,
             length,
-            |output| tevrolig::prove(sheet, coefficients, coins, output),
-            |output| model::prove(sheet, coefficients, coins, output),
+            |output| told(self.proved(output)),
+            |output| {
+                prove_in(
+                    edition,
+                    &self.sheet,
+                    &self.coefficients,
+                    &self.coins,
+                    output,
+                )
+            },
             |blocks| 512 * blocks as usize,
             what,
         );
         if let Answer::Done(blocks) = answer {
             let file = &output[..512 * blocks as usize];
-            let verdict = tevrolig::verify(file);
-            let reads = sheet[3] * sheet[6..].iter().sum::<u32>();
-            assert_eq!(verdict.line(), format!("accepted 0 0 {reads}"), "{what}");
-            assert_eq!(verdict.line(), model::line(model::verify(file)), "{what}");
+            let line = verify(edition, file).line();
+            let accepted = format!("accepted 0 0 {}", reads(&self.sheet));
+            assert_eq!(line, accepted, "{what}");
+            assert_eq!(line, model::line(verify_in(edition, file)), "{what}");
         }
         answer
     }
@@ -120,7 +192,7 @@ impl Order {
         let (answer, _) = agree(
             |i| (0x9E37_79B9_u32).wrapping_mul((i + length) as u32),
             length,
-            |output| tevrolig::encode(sheet, coefficients, output),
+            |output| told(tevrolig::encode(sheet, coefficients, output)),
             |output| model::encode(sheet, coefficients, output),
             |words| words as usize,
             what,
@@ -128,16 +200,19 @@ impl Order {
         answer
     }
 
-    /// An allowed order is done in an output of the size due and in a longer one, and refused in one that is shorter by one.
+    /// An allowed order is done in an output of the size due and in a longer one, and refused in one that is shorter by one; in edition 1
+    /// it is encoded likewise.
     pub fn is_done(&self, more: usize, what: &str) {
         let (sheet, layout) = self.known();
         let (blocks, words) = (layout.blocks(), sheet.n0);
         let [proved, encoded] = [blocks, words].map(|due| Answer::Done(due as u64));
-        assert_eq!(self.prove(512 * blocks + more, what), proved, "{what}");
-        assert_eq!(self.encode(words + more, what), encoded, "{what}");
         let [unproved, unencoded] = [blocks, words].map(|due| refused((11, due)));
+        assert_eq!(self.prove(512 * blocks + more, what), proved, "{what}");
         assert_eq!(self.prove(512 * blocks - 1, what), unproved, "{what}");
-        assert_eq!(self.encode(words - 1, what), unencoded, "{what}");
+        if self.edition == One {
+            assert_eq!(self.encode(words + more, what), encoded, "{what}");
+            assert_eq!(self.encode(words - 1, what), unencoded, "{what}");
+        }
     }
 }
 

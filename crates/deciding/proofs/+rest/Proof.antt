@@ -3,9 +3,12 @@ use Prim.Native.Nat.{ℕ, _-_, _≤_, _<_}
 use mathlib.Core.Path.{_∙_, sym}
 use native.Mathlib.Omega.{arith}
 use lib.ListN.{length, getD}
+use Rattle.completeness.specs.Numbered.{roundsOf}
+use Rattle.definition.specs.Sheet.{sheetOf}
+use Rattle.edition.specs.Meaning.{editionOf}
 use borrow.Author.Needs.{needs}
 use Rattle.outcome.specs.Meaning.{outcomeOf, verdictOf}
-use Rattle.deciding.specs.Inside.{round-inside, scale-small}
+use Rattle.deciding.specs.Inside.{final-inside, round-inside, scale-small}
 use Rattle.deciding.proofs.Ready.{apart-ready, clash-ready, level-next, next-decided, next-ready, not-last, room-in}
 use borrow.Fn.Kinds.{In}
 use borrow.Fn.PlainCycle.{Measures, is, falls, and}
@@ -13,6 +16,7 @@ use Rattle.deciding.proofs.rest.Reads as rest
 use Rattle.deciding.proofs.rest.Kinds as rest-kinds
 use Rattle.deciding.proofs.+rest.Lts-rest as rest-lts
 use Rattle.deciding.proofs.last.Reads as last-reads
+use Rattle.deciding.proofs.next_coin.Reads as next-coin-reads
 use Rattle.deciding.proofs.next_function.Reads as next-function-reads
 use Rattle.deciding.proofs.next_stand.Reads as next-stand-reads
 use Rattle.deciding.proofs.room.Reads as room-reads
@@ -24,7 +28,7 @@ use Rattle.deciding.proofs.+rest.{statement}
 use Rattle.deciding.proofs.+rest.Tie.{close}
 
 abbrev μ-rest : Measures 4 rest-kinds.ps ℕ
-μ-rest κs a = 6 - a .1 .1 .0 .level
+μ-rest κs a = 6 - a .1 .1 .1 .0 .level
 
 abbrev rest-at : ℕ → In 4 rest-kinds.ps
 rest-at t = and 4 rest-kinds.ps (is 4 rest-kinds.ps μ-rest t) rest.Pre
@@ -48,6 +52,8 @@ calls t = (
   double-places-reads.Learnt,
   correction-reads.Asked,
   correction-reads.Learnt,
+  next-coin-reads.Asked,
+  next-coin-reads.Learnt,
   next-function-reads.Asked,
   next-function-reads.Learnt,
   rest-below t,
@@ -55,13 +61,20 @@ calls t = (
 )
 
 rest-shared-slice-read-if1 : (t : ℕ) → rest-lts.Need-shared-slice-read-if1 (calls t) (rest-at t) rest.Post
-rest-shared-slice-read-if1 t c = omega arith
+rest-shared-slice-read-if1 t c = let s = c .before .before .before .before .before in omega (arith, s .pre .1 .0 .long)
 
 rest-cast-if1 : (t : ℕ) → rest-lts.Need-cast-if1 (calls t) (rest-at t) rest.Post
 rest-cast-if1 t c = omega (arith, c .shared-slice-known5 .given 4)
 
 rest-last-requires : (t : ℕ) → rest-lts.Need-last-requires (calls t) (rest-at t) rest.Post
-rest-last-requires t c κs = let s = c .before .before .before .before .before .before .before in (s .pre .1 .0, (s .pre .1 .1, c .if1 .taken))
+rest-last-requires t c κs =
+    let s = c .before .before .before .before .before .before .before in
+    let a = s .args in
+    let w = a .w .now in
+    let v = s .pre .1 .0 in
+    let ok = s .pre .1 .1 .0 in
+    let end = c .if1 .taken ∙ v .rounds in
+    (ok, (s .pre .1 .1 .1, (end, final-inside (sheetOf (editionOf (a .e)) w) w (a .stand) (ok .place) end (editionOf (a .e)) v)))
 
 rest-returns : (t : ℕ) → rest-lts.Need-returns (calls t) (rest-at t) rest.Post
 rest-returns t c = c .last .ensures
@@ -71,9 +84,11 @@ rest-next-stand-requires t c κs =
     let s = c .before .before .before .before .before .before .before in
     let a = s .args in
     let w = a .w .now in
+    let h = sheetOf (editionOf (a .e)) w in
     let st = a .stand in
-    let ok = s .pre .1 .0 in
-    round-inside w st (ok .place) (not-last (st .level) (getD w 4 0) (ok .place .level) (c .if1 .left))
+    let v = s .pre .1 .0 in
+    let ok = s .pre .1 .1 .0 in
+    round-inside h w st (ok .place) (not-last (st .level) (roundsOf h) (getD w 4 0) (v .rounds) (ok .place .level) (c .if1 .left)) (editionOf (a .e)) v
 
 rest-room-requires : (t : ℕ) → rest-lts.Need-room-requires (calls t) (rest-at t) rest.Post
 rest-room-requires t c κs = search needs
@@ -92,9 +107,11 @@ rest-round-at-requires t c κs =
     let s = c .before .before .before .before .before .before .before .before .before .before .before .before in
     let a = s .args in
     let w = a .w .now in
+    let h = sheetOf (editionOf (a .e)) w in
     let st = a .stand in
-    let ok = s .pre .1 .0 in
-    (ok, (not-last (st .level) (getD w 4 0) (ok .place .level) (c .before .before .before .before .before .if1 .left), ((c .before .before .before .room .ensures, c .before .before .room2 .ensures), s .pre .1 .1 .clear)))
+    let v = s .pre .1 .0 in
+    let ok = s .pre .1 .1 .0 in
+    (ok, (round-inside h w st (ok .place) (not-last (st .level) (roundsOf h) (getD w 4 0) (v .rounds) (ok .place .level) (c .before .before .before .before .before .if1 .left)) (editionOf (a .e)) v, ((c .before .before .before .room .ensures, c .before .before .room2 .ensures), s .pre .1 .1 .1 .clear)))
 
 rest-enum-known-g : (t : ℕ) → rest-lts.Need-enum-known-g (calls t) (rest-at t) rest.Post
 rest-enum-known-g t c = search needs
@@ -109,13 +126,15 @@ rest-returns-2 t c =
     let s = r .before .before .before .before .before .before .before .before .before .before .before .before .before in
     let a = s .args in
     let w = a .w .now in
+    let h = sheetOf (editionOf (a .e)) w in
     let st = a .stand in
-    let ok = s .pre .1 .0 in
-    let more = not-last (st .level) (getD w 4 0) (ok .place .level) (r .before .before .before .before .before .before .if1 .left) in
+    let v = s .pre .1 .0 in
+    let ok = s .pre .1 .1 .0 in
+    let more = not-last (st .level) (roundsOf h) (getD w 4 0) (v .rounds) (ok .place .level) (r .before .before .before .before .before .before .if1 .left) in
     let n = r .before .before .before .before .before .next-stand in
     let q = r .round-at in
-    clash-ready w (a .pw .now) (a .ac .now) (a .vg .now) st (a .how) ok more (n .result) (n .ensures) (q .result)
-    (q .last .1 .1 .1 .1 .1 .1 .0) (q .last .1 .1 .1 .1 .1 .1 .1 .0) (c .enum-told .given .1) (q .ensures .0)
+    clash-ready h w (a .pw .now) (a .ac .now) (a .vg .now) st (a .r) (a .how) ok more (n .result) (n .ensures) (q .result)
+    (q .last .1 .1 .1 .1 .1 .1 .1 .1 .0) (q .last .1 .1 .1 .1 .1 .1 .1 .1 .1 .0) (c .enum-told .given .1) (q .ensures .0)
 
 rest-places-requires : (t : ℕ) → rest-lts.Need-places-requires (calls t) (rest-at t) rest.Post
 rest-places-requires t c κs = search needs
@@ -124,10 +143,10 @@ rest-double-places-requires : (t : ℕ) → rest-lts.Need-double-places-requires
 rest-double-places-requires t c κs = search needs
 
 rest-slice-aggregate-correction : (t : ℕ) → rest-lts.Need-slice-aggregate-correction (calls t) (rest-at t) rest.Post
-rest-slice-aggregate-correction t c = let r = c .before .before .before .before .before .before .before .before in sym (r .round-at .kept .1 .1 .1 .1 .1 .1 .0 ∙ r .before .before .before .before .room .ensures)
+rest-slice-aggregate-correction t c = let r = c .before .before .before .before .before .before .before .before in sym (r .round-at .kept .1 .1 .1 .1 .1 .1 .1 .1 .0 ∙ r .before .before .before .before .room .ensures)
 
 rest-slice-aggregate-correction-2 : (t : ℕ) → rest-lts.Need-slice-aggregate-correction-2 (calls t) (rest-at t) rest.Post
-rest-slice-aggregate-correction-2 t c = let r = c .before .before .before .before .before .before .before .before .before in sym (r .round-at .kept .1 .1 .1 .1 .1 .1 .1 .0 ∙ r .before .before .before .room2 .ensures)
+rest-slice-aggregate-correction-2 t c = let r = c .before .before .before .before .before .before .before .before .before in sym (r .round-at .kept .1 .1 .1 .1 .1 .1 .1 .1 .1 .0 ∙ r .before .before .before .room2 .ensures)
 
 rest-slice-aggregate-correction-3 : (t : ℕ) → rest-lts.Need-slice-aggregate-correction-3 (calls t) (rest-at t) rest.Post
 rest-slice-aggregate-correction-3 t c = sym (c .before .before .before .before .places .ensures)
@@ -139,91 +158,115 @@ rest-correction-requires : (t : ℕ) → rest-lts.Need-correction-requires (call
 rest-correction-requires t c κs =
     let r = c .before .before .before .before .before .before .before .before .before .before .before in
     let q = r .round-at in
-    let lx = q .kept .1 .1 .1 .1 .1 .1 .0 ∙ r .before .before .before .before .room .ensures in
-    let ly = q .kept .1 .1 .1 .1 .1 .1 .1 .0 ∙ r .before .before .before .room2 .ensures in
+    let lx = q .kept .1 .1 .1 .1 .1 .1 .1 .1 .0 ∙ r .before .before .before .before .room .ensures in
+    let ly = q .kept .1 .1 .1 .1 .1 .1 .1 .1 .1 .0 ∙ r .before .before .before .room2 .ensures in
     let s = r .before .before .before .before .before .before .before .before .before .before .before .before .before in
     let a = s .args in
     let w = a .w .now in
+    let h = sheetOf (editionOf (a .e)) w in
     let st = a .stand in
-    let ok = s .pre .1 .0 in
-    let more = not-last (st .level) (getD w 4 0) (ok .place .level) (r .before .before .before .before .before .before .if1 .left) in
+    let v = s .pre .1 .0 in
+    let ok = s .pre .1 .1 .0 in
+    let more = not-last (st .level) (roundsOf h) (getD w 4 0) (v .rounds) (ok .place .level) (r .before .before .before .before .before .before .if1 .left) in
     let n = r .before .before .before .before .before .next-stand in
     let g = c .before .before .before .before .before .before .before .g .given in (
-      round-inside w st (ok .place) more,
+      round-inside h w st (ok .place) more (editionOf (a .e)) v,
       (
         (omega (arith, lx, room-in (q .result) (g .0 .0) (g .1) (q .ensures .1)), (lx, ly)),
         (
           (c .before .before .before .before .before .places .ensures, c .before .before .before .before .double-places .ensures),
-          apart-ready w (a .pw .now) (a .ac .now) (a .vg .now) st (a .how) ok more (n .result) (n .ensures) (q .result)
-              (q .last .1 .1 .1 .1 .1 .1 .0) (q .last .1 .1 .1 .1 .1 .1 .1 .0) (g .0 .0) (g .1) (q .ensures .0) (ly ∙ sym lx) (s .pre .1 .1),
+          apart-ready h w (a .pw .now) (a .ac .now) (a .vg .now) st (a .r) (a .how) ok more (n .result) (n .ensures) (q .result)
+              (q .last .1 .1 .1 .1 .1 .1 .1 .1 .0) (q .last .1 .1 .1 .1 .1 .1 .1 .1 .1 .0) (g .0 .0) (g .1) (q .ensures .0) (ly ∙ sym lx) (s .pre .1 .1 .1),
         ),
       ),
     )
 
-rest-next-function-requires : (t : ℕ) → rest-lts.Need-next-function-requires (calls t) (rest-at t) rest.Post
-rest-next-function-requires t c κs =
+rest-next-coin-requires : (t : ℕ) → rest-lts.Need-next-coin-requires (calls t) (rest-at t) rest.Post
+rest-next-coin-requires t c κs =
     let r = c .before .before .before .before .before .before .before .before .before .before .before .before .before .before in
     let s = r .before .before .before .before .before .before .before .before .before .before .before .before .before in
     let a = s .args in
     let w = a .w .now in
+    let h = sheetOf (editionOf (a .e)) w in
     let st = a .stand in
-    let ok = s .pre .1 .0 in
-    let more = not-last (st .level) (getD w 4 0) (ok .place .level) (r .before .before .before .before .before .before .if1 .left) in
-    (round-inside w st (ok .place) more, omega (arith, scale-small w st (ok .place) (a .how .scale) (ok .scale)))
+    let v = s .pre .1 .0 in
+    let ok = s .pre .1 .1 .0 in
+    let more = not-last (st .level) (roundsOf h) (getD w 4 0) (v .rounds) (ok .place .level) (r .before .before .before .before .before .before .if1 .left) in
+    round-inside h w st (ok .place) more (editionOf (a .e)) v
 
-rest-slice-aggregate-rest : (t : ℕ) → rest-lts.Need-slice-aggregate-rest (calls t) (rest-at t) rest.Post
-rest-slice-aggregate-rest t c = sym (c .before .before .before .before .correction .kept .1 .1 .1 .1 .1 .0 ∙ c .before .before .before .before .before .before .before .before .before .before .places .ensures)
-
-rest-slice-aggregate-rest-2 : (t : ℕ) → rest-lts.Need-slice-aggregate-rest-2 (calls t) (rest-at t) rest.Post
-rest-slice-aggregate-rest-2 t c = sym (c .before .before .before .before .before .correction .kept .1 .1 .1 .1 .1 .1 .0 ∙ c .before .before .before .before .before .before .before .before .before .before .double-places .ensures)
-
-rest-rest-requires : (t : ℕ) → rest-lts.Need-rest-requires (calls t) (rest-at t) rest.Post
-rest-rest-requires t c κs =
-    let r = c .before .before .before .before .before .before .before .before .before .before .before .before .before .before .before .before .before in
-    let q = r .round-at in
-    let lx = q .kept .1 .1 .1 .1 .1 .1 .0 ∙ r .before .before .before .before .room .ensures in
-    let ly = q .kept .1 .1 .1 .1 .1 .1 .1 .0 ∙ r .before .before .before .room2 .ensures in
+rest-next-function-requires : (t : ℕ) → rest-lts.Need-next-function-requires (calls t) (rest-at t) rest.Post
+rest-next-function-requires t c κs =
+    let r = c .before .before .before .before .before .before .before .before .before .before .before .before .before .before .before in
     let s = r .before .before .before .before .before .before .before .before .before .before .before .before .before in
     let a = s .args in
     let w = a .w .now in
+    let h = sheetOf (editionOf (a .e)) w in
     let st = a .stand in
-    let ok = s .pre .1 .0 in
-    let more = not-last (st .level) (getD w 4 0) (ok .place .level) (r .before .before .before .before .before .before .if1 .left) in
+    let v = s .pre .1 .0 in
+    let ok = s .pre .1 .1 .0 in
+    let more = not-last (st .level) (roundsOf h) (getD w 4 0) (v .rounds) (ok .place .level) (r .before .before .before .before .before .before .if1 .left) in
+    (round-inside h w st (ok .place) more (editionOf (a .e)) v, omega (arith, scale-small h w st (ok .place) (a .how .scale) (ok .scale)))
+
+rest-slice-aggregate-rest : (t : ℕ) → rest-lts.Need-slice-aggregate-rest (calls t) (rest-at t) rest.Post
+rest-slice-aggregate-rest t c = sym (c .before .before .before .before .before .correction .kept .1 .1 .1 .1 .1 .1 .0 ∙ c .before .before .before .before .before .before .before .before .before .before .before .places .ensures)
+
+rest-slice-aggregate-rest-2 : (t : ℕ) → rest-lts.Need-slice-aggregate-rest-2 (calls t) (rest-at t) rest.Post
+rest-slice-aggregate-rest-2 t c = sym (c .before .before .before .before .before .before .correction .kept .1 .1 .1 .1 .1 .1 .1 .0 ∙ c .before .before .before .before .before .before .before .before .before .before .before .double-places .ensures)
+
+rest-rest-requires : (t : ℕ) → rest-lts.Need-rest-requires (calls t) (rest-at t) rest.Post
+rest-rest-requires t c κs =
+    let r = c .before .before .before .before .before .before .before .before .before .before .before .before .before .before .before .before .before .before in
+    let q = r .round-at in
+    let lx = q .kept .1 .1 .1 .1 .1 .1 .1 .1 .0 ∙ r .before .before .before .before .room .ensures in
+    let ly = q .kept .1 .1 .1 .1 .1 .1 .1 .1 .1 .0 ∙ r .before .before .before .room2 .ensures in
+    let s = r .before .before .before .before .before .before .before .before .before .before .before .before .before in
+    let a = s .args in
+    let w = a .w .now in
+    let h = sheetOf (editionOf (a .e)) w in
+    let st = a .stand in
+    let v = s .pre .1 .0 in
+    let ok = s .pre .1 .1 .0 in
+    let more = not-last (st .level) (roundsOf h) (getD w 4 0) (v .rounds) (ok .place .level) (r .before .before .before .before .before .before .if1 .left) in
     let n = r .before .before .before .before .before .next-stand in
-    let px = q .last .1 .1 .1 .1 .1 .1 .0 in
-    let py = q .last .1 .1 .1 .1 .1 .1 .1 .0 in
-    let k = c .before .before .before .before .before .correction in
-    let la = k .kept .1 .1 .1 .1 .1 .0 ∙ c .before .before .before .before .before .before .before .before .before .before .before .places .ensures in
-    let lv = k .kept .1 .1 .1 .1 .1 .1 .0 ∙ c .before .before .before .before .before .before .before .before .before .before .double-places .ensures in
-    let g = c .before .before .before .before .before .before .before .before .before .before .before .before .before .g .given in
-    let h = c .before .before .next-function in (
-      omega (arith, s .pre .0, level-next w st (n .result) (n .ensures), more, ok .place .sheet .rounds),
-      next-ready w (a .pw .now) (a .ac .now) (a .vg .now) st (a .how) ok more (n .result) (n .ensures) (q .result) (g .0 .0) (k .result) (h .result) (h .ensures)
-          px py (k .last .1 .1 .1 .1 .1 .0) (k .last .1 .1 .1 .1 .1 .1 .0) (g .1) (q .ensures .0) la lv (k .ensures .0) (k .ensures .1) (ly ∙ sym lx) (s .pre .1 .1),
+    let px = q .last .1 .1 .1 .1 .1 .1 .1 .1 .0 in
+    let py = q .last .1 .1 .1 .1 .1 .1 .1 .1 .1 .0 in
+    let k = c .before .before .before .before .before .before .correction in
+    let la = k .kept .1 .1 .1 .1 .1 .1 .0 ∙ c .before .before .before .before .before .before .before .before .before .before .before .before .places .ensures in
+    let lv = k .kept .1 .1 .1 .1 .1 .1 .1 .0 ∙ c .before .before .before .before .before .before .before .before .before .before .before .double-places .ensures in
+    let g = c .before .before .before .before .before .before .before .before .before .before .before .before .before .before .g .given in
+    let way = c .before .before .next-function in (
+      omega (arith, s .pre .0, level-next h st (n .result) (n .ensures), more, ok .place .sheet .rounds),
+      (
+        v,
+        next-ready h w (a .pw .now) (a .ac .now) (a .vg .now) st (a .r) (a .how) ok more (n .result) (n .ensures) (q .result) (g .0 .0) (k .result) (way .result) (way .ensures)
+            px py (k .last .1 .1 .1 .1 .1 .1 .0) (k .last .1 .1 .1 .1 .1 .1 .1 .0) (g .1) (q .ensures .0) la lv (k .ensures .0) (k .ensures .1) (ly ∙ sym lx) (s .pre .1 .1 .1),
+      ),
     )
 
 rest-returns-3 : (t : ℕ) → rest-lts.Need-returns-3 (calls t) (rest-at t) rest.Post
 rest-returns-3 t c =
-    let r = c .before .before .before .before .before .before .before .before .before .before .before .before .before .before .before .before .before .before in
+    let r = c .before .before .before .before .before .before .before .before .before .before .before .before .before .before .before .before .before .before .before in
     let q = r .round-at in
-    let lx = q .kept .1 .1 .1 .1 .1 .1 .0 ∙ r .before .before .before .before .room .ensures in
-    let ly = q .kept .1 .1 .1 .1 .1 .1 .1 .0 ∙ r .before .before .before .room2 .ensures in
+    let lx = q .kept .1 .1 .1 .1 .1 .1 .1 .1 .0 ∙ r .before .before .before .before .room .ensures in
+    let ly = q .kept .1 .1 .1 .1 .1 .1 .1 .1 .1 .0 ∙ r .before .before .before .room2 .ensures in
     let s = r .before .before .before .before .before .before .before .before .before .before .before .before .before in
     let a = s .args in
     let w = a .w .now in
+    let h = sheetOf (editionOf (a .e)) w in
     let st = a .stand in
-    let ok = s .pre .1 .0 in
-    let more = not-last (st .level) (getD w 4 0) (ok .place .level) (r .before .before .before .before .before .before .if1 .left) in
+    let v = s .pre .1 .0 in
+    let ok = s .pre .1 .1 .0 in
+    let more = not-last (st .level) (roundsOf h) (getD w 4 0) (v .rounds) (ok .place .level) (r .before .before .before .before .before .before .if1 .left) in
     let n = r .before .before .before .before .before .next-stand in
-    let px = q .last .1 .1 .1 .1 .1 .1 .0 in
-    let py = q .last .1 .1 .1 .1 .1 .1 .1 .0 in
-    let k = c .before .before .before .before .before .before .correction in
-    let la = k .kept .1 .1 .1 .1 .1 .0 ∙ c .before .before .before .before .before .before .before .before .before .before .before .before .places .ensures in
-    let lv = k .kept .1 .1 .1 .1 .1 .1 .0 ∙ c .before .before .before .before .before .before .before .before .before .before .before .double-places .ensures in
-    let g = c .before .before .before .before .before .before .before .before .before .before .before .before .before .before .g .given in
-    let h = c .before .before .before .next-function in
-    next-decided w (a .pw .now) (a .ac .now) (a .vg .now) st (a .how) ok more (n .result) (n .ensures) (q .result) (g .0 .0) (k .result) (h .result) (h .ensures)
-    px py (k .last .1 .1 .1 .1 .1 .0) (k .last .1 .1 .1 .1 .1 .1 .0) (g .1) (q .ensures .0) la lv (k .ensures .0) (k .ensures .1) (c .rest .ensures)
+    let px = q .last .1 .1 .1 .1 .1 .1 .1 .1 .0 in
+    let py = q .last .1 .1 .1 .1 .1 .1 .1 .1 .1 .0 in
+    let k = c .before .before .before .before .before .before .before .correction in
+    let la = k .kept .1 .1 .1 .1 .1 .1 .0 ∙ c .before .before .before .before .before .before .before .before .before .before .before .before .before .places .ensures in
+    let lv = k .kept .1 .1 .1 .1 .1 .1 .1 .0 ∙ c .before .before .before .before .before .before .before .before .before .before .before .before .double-places .ensures in
+    let g = c .before .before .before .before .before .before .before .before .before .before .before .before .before .before .before .g .given in
+    let way = c .before .before .before .next-function in
+    next-decided h w (a .pw .now) (a .ac .now) (a .vg .now) st (a .r) (a .how) ok more (n .result) (n .ensures) (q .result) (g .0 .0) (k .result) (way .result) (way .ensures)
+    px py (k .last .1 .1 .1 .1 .1 .1 .0) (k .last .1 .1 .1 .1 .1 .1 .1 .0) (g .1) (q .ensures .0) la lv (k .ensures .0) (k .ensures .1) (c .before .before .before .before .next-coin .ensures) (c .rest .ensures)
 
 pub +rest-spec : {M : Type 1} → statement M
 +rest-spec = close μ-rest λ t. rest-lts.spec (calls t)
@@ -249,6 +292,7 @@ pub +rest-spec : {M : Type 1} → statement M
     (rest-slice-aggregate-correction-3 t)
     (rest-slice-aggregate-correction-4 t)
     (rest-correction-requires t)
+    (rest-next-coin-requires t)
     (rest-next-function-requires t)
     (rest-slice-aggregate-rest t)
     (rest-slice-aggregate-rest-2 t)

@@ -1,15 +1,20 @@
 -- `deciding::correction` meets its contract. Assumes nothing.
 use borrow.Author.Needs.{needs}
-use mathlib.Core.Path.{sym, _∙_}
+use Prim.Native.Nat.{ℕ}
 use native.Mathlib.Omega.{arith}
+use mathlib.Core.Path.{_∙_, subst, sym}
+use Rattle.definition.specs.Sheet.{sheetOf}
+use Rattle.edition.specs.Meaning.{editionOf}
+use Rattle.lists.specs.Correcting.{Columned}
+use Rattle.deciding.proofs.Made.{combined-part}
 use Rattle.deciding.proofs.correction.Statement.{statement}
 use Rattle.deciding.proofs.correction.Tie as tie
 
-shared-slice-read-k : tie.Need-shared-slice-read-k
-shared-slice-read-k c = search needs
+add-fold : tie.Need-add-fold
+add-fold c = search needs
 
-cast-k : tie.Need-cast-k
-cast-k c = search needs
+fold-requires : tie.Need-fold-requires
+fold-requires c κs = search needs
 
 shared-slice-read-s : tie.Need-shared-slice-read-s
 shared-slice-read-s c = search needs
@@ -37,9 +42,11 @@ shared-slice-read-correction-2 c = search needs
 
 correction-requires : tie.Need-correction-requires
 correction-requires c κs =
-    let s = c .before .before .before .before .before .before .before .before .before .before .before .before .before in
+    let s = c .before .before .before .before .before .before .before .before .before .before .before .before .before .before in
+    let i = s .pre .0 in
     let n = s .pre .1 .0 in
-    ((n .0, (omega (arith, n .1 .0), n .1 .1 ∙ sym (n .1 .0))), ((omega (arith, s .pre .0 .sheet .fold), s .pre .0 .sheet .folds), (s .pre .1 .1 .0, s .pre .1 .1 .1)))
+    let k = c .before .before .before .before .before .before .before .fold .ensures .0 ∙ i .next in
+    ((n .0, (omega (arith, n .1 .0), n .1 .1 ∙ sym (n .1 .0))), ((omega (arith, k, i .next-large), omega (arith, k, i .next-small)), (s .pre .1 .1 .0, s .pre .1 .1 .1)))
 
 same-length : tie.Need-same-length
 same-length c = search needs
@@ -48,14 +55,20 @@ same-length-2 : tie.Need-same-length-2
 same-length-2 c = search needs
 
 returns : tie.Need-returns
-returns c = search needs
+returns c =
+    let s = c .before .before .before .before .before .before .before .before .before .before .before .before .before .before .before .before .before .before .before in
+    let i = s .pre .0 in
+    let q = c .before .before .before .before .correction in (
+      subst (λ (k : ℕ). Columned k (q .result)) (c .before .before .before .before .before .before .before .before .before .before .before .before .fold .ensures .0 ∙ i .next) (q .ensures .0),
+      combined-part (sheetOf (editionOf (s .args .e)) (s .args .w .now)) (s .args .w .now) (s .args .stand) (i .numbers .outs) (q .ensures .1),
+    )
 
 pub correction-spec : {M : Type 1} → statement M
 correction-spec =
     tie.close
     (tie.spec
-    shared-slice-read-k
-    cast-k
+    add-fold
+    fold-requires
     shared-slice-read-s
     cast-s
     shared-slice-read-correction

@@ -1,7 +1,11 @@
 -- `deciding::decide` meets its contract. Assumes nothing.
-use Rattle.deciding.specs.First.{first-room, shaped}
-use Rattle.deciding.proofs.Ready.{first-decided, first-ready}
 use borrow.Author.Needs.{needs}
+use native.Mathlib.Omega.{arith}
+use mathlib.Core.Path.{_∙_, ap}
+use Prim.Native.Nat.{ℕ, _+_}
+use lib.ListN.{getD}
+use Rattle.edition.specs.Meaning.{editionOf}
+use Rattle.deciding.proofs.Ready.{coin-there, first-decided, first-ready, sheet-shaped, sheet-written}
 use Rattle.deciding.proofs.decide.Statement.{statement}
 use Rattle.deciding.proofs.decide.Tie as tie
 
@@ -14,11 +18,47 @@ double-places-requires c κs = search needs
 first-stand-requires : tie.Need-first-stand-requires
 first-stand-requires c κs =
     let s = c .before .before .before .before in
-    let w = s .args .w .now in
-    (shaped w (s .pre .0 .0) (s .pre .1 .0), first-room w (s .pre .0 .0) (s .pre .1 .0) (s .pre .0 .1))
+    let a = s .args in
+    (sheet-written (editionOf (a .e)) (a .w .now) (s .pre .0 .0) (s .pre .1 .0), sheet-shaped (editionOf (a .e)) (a .w .now) (s .pre .0 .0) (s .pre .1 .0))
+
+sheet-words-requires : tie.Need-sheet-words-requires
+sheet-words-requires c κs = search needs
+
+shared-slice-read-rest : tie.Need-shared-slice-read-rest
+shared-slice-read-rest c =
+    let s = c .before .before .before .before .before .before .before in
+    let v = sheet-written (editionOf (s .args .e)) (s .args .w .now) (s .pre .0 .0) (s .pre .1 .0) in
+    omega (arith, v .long)
+
+cast-rest : tie.Need-cast-rest
+cast-rest c = search needs
+
+add-rest : tie.Need-add-rest
+add-rest c =
+    let s = c .before .before .before .before .before .before .before in
+    let a = s .args in
+    let v = sheet-written (editionOf (a .e)) (a .w .now) (s .pre .0 .0) (s .pre .1 .0) in
+    omega (arith, v .size, coin-there (editionOf (a .e)) (a .w .now) (s .pre .0 .0) (s .pre .1 .0), c .before .sheet-words .ensures)
+
+mul-rest : tie.Need-mul-rest
+mul-rest c =
+    let s = c .before .before .before .before .before .before .before in
+    let a = s .args in
+    let v = sheet-written (editionOf (a .e)) (a .w .now) (s .pre .0 .0) (s .pre .1 .0) in
+    omega (arith, v .size, coin-there (editionOf (a .e)) (a .w .now) (s .pre .0 .0) (s .pre .1 .0), c .before .sheet-words .ensures)
+
+shared-slice-read-rest-2 : tie.Need-shared-slice-read-rest-2
+shared-slice-read-rest-2 c =
+    let s = c .before .before .before .before .before .before .before .before in
+    let a = s .args in
+    let v = sheet-written (editionOf (a .e)) (a .w .now) (s .pre .0 .0) (s .pre .1 .0) in
+    omega (arith, v .size, coin-there (editionOf (a .e)) (a .w .now) (s .pre .0 .0) (s .pre .1 .0), c .before .before .sheet-words .ensures)
 
 first-function-requires : tie.Need-first-function-requires
-first-function-requires c κs = let s = c .before .before .before .before .before in shaped (s .args .w .now) (s .pre .0 .0) (s .pre .1 .0)
+first-function-requires c κs =
+    let s = c .before .before .before .before .before .before .before .before in
+    let a = s .args in
+    (sheet-written (editionOf (a .e)) (a .w .now) (s .pre .0 .0) (s .pre .1 .0), sheet-shaped (editionOf (a .e)) (a .w .now) (s .pre .0 .0) (s .pre .1 .0))
 
 slice-aggregate-rest : tie.Need-slice-aggregate-rest
 slice-aggregate-rest c = search needs
@@ -28,25 +68,27 @@ slice-aggregate-rest-2 c = search needs
 
 rest-requires : tie.Need-rest-requires
 rest-requires c κs =
-    let s = c .before .before .before .before .before .before .before .before in
+    let s = c .before .before .before .before .before .before .before .before .before .before .before in
     let a = s .args in
-    let ac = c .before .before .before .before .before .places in
-    let vg = c .before .before .before .before .double-places in
-    let st = c .before .before .before .first-stand in
-    let how = c .before .before .first-function in
-    first-ready (a .w .now) (a .pw .now) (ac .result) (vg .result) (s .pre .0 .0) (s .pre .0 .1) (s .pre .1 .0) (s .pre .1 .1 .0 .0) (s .pre .1 .1 .0 .1) (s .pre .1 .1 .1)
-    (st .result) (st .ensures) (how .result) (how .ensures) (ac .ensures) (vg .ensures)
+    let ac = c .before .before .before .before .before .before .before .before .places in
+    let vg = c .before .before .before .before .before .before .before .double-places in
+    let st = c .before .before .before .before .before .before .first-stand in
+    let how = c .before .before .first-function in (
+      sheet-written (editionOf (a .e)) (a .w .now) (s .pre .0 .0) (s .pre .1 .0),
+      first-ready (editionOf (a .e)) (a .w .now) (s .pre .0 .0) (s .pre .1 .0) (a .pw .now) (ac .result) (vg .result) (s .pre .0 .1) (s .pre .1 .1 .0 .0) (s .pre .1 .1 .0 .1) (s .pre .1 .1 .1)
+          (st .result) (st .ensures) (how .result) (how .ensures) (ac .ensures) (vg .ensures),
+    )
 
 returns : tie.Need-returns
 returns c =
-    let s = c .before .before .before .before .before .before .before .before .before in
+    let s = c .before .before .before .before .before .before .before .before .before .before .before .before in
     let a = s .args in
-    let ac = c .before .before .before .before .before .before .places in
-    let vg = c .before .before .before .before .before .double-places in
-    let st = c .before .before .before .before .first-stand in
+    let ac = c .before .before .before .before .before .before .before .before .before .places in
+    let vg = c .before .before .before .before .before .before .before .before .double-places in
+    let st = c .before .before .before .before .before .before .before .first-stand in
     let how = c .before .before .before .first-function in
-    first-decided (a .w .now) (a .pw .now) (ac .result) (vg .result) (s .pre .0 .0) (s .pre .0 .1) (s .pre .1 .0) (s .pre .1 .1 .0 .0) (s .pre .1 .1 .0 .1) (s .pre .1 .1 .1)
-    (st .result) (st .ensures) (how .result) (how .ensures) (c .rest .ensures)
+    first-decided (editionOf (a .e)) (a .w .now) (s .pre .0 .0) (s .pre .1 .0) (a .pw .now) (ac .result) (vg .result) (s .pre .0 .1) (s .pre .1 .1 .0 .0) (s .pre .1 .1 .0 .1) (s .pre .1 .1 .1)
+    (st .result) (st .ensures) (how .result) (how .ensures) (ap (λ (n : ℕ). getD (a .w .now) (n + getD (a .w .now) 1 0) 0) (c .before .before .before .before .before .before .sheet-words .ensures)) (c .rest .ensures)
 
 pub decide-spec : {M : Type 1} → statement M
 decide-spec =
@@ -55,6 +97,12 @@ decide-spec =
     places-requires
     double-places-requires
     first-stand-requires
+    sheet-words-requires
+    shared-slice-read-rest
+    cast-rest
+    add-rest
+    mul-rest
+    shared-slice-read-rest-2
     first-function-requires
     slice-aggregate-rest
     slice-aggregate-rest-2

@@ -1,7 +1,8 @@
 -- `deciding::decide_by` meets its contract. Assumes nothing.
-use Rattle.outcome.specs.Meaning.{outcomeOf, verdictOf}
-use Rattle.deciding.proofs.Ready.{out-passed, out-refused, outside-passed}
 use borrow.Author.Needs.{needs}
+use Rattle.outcome.specs.Meaning.{outcomeOf, verdictOf}
+use Rattle.edition.specs.Meaning.{editionOf}
+use Rattle.deciding.proofs.Ready.{out-passed, out-refused, outside-passed, range-rest}
 use Rattle.deciding.proofs.decide_by.Statement.{statement}
 use Rattle.deciding.proofs.decide_by.Tie as tie
 
@@ -14,8 +15,9 @@ enum-known-f c = search needs
 returns : tie.Need-returns
 unfolding verdictOf outcomeOf
 returns c =
+    let a = c .before .before .before .before .before .before .args in
     let q = c .before .before .before .out-in-domain in
-    out-refused (c .before .before .before .before .before .before .args .w .now) (q .result) (q .ensures) (c .before .f .given .1)
+    out-refused (editionOf (a .e)) (a .w .now) (q .result) (q .ensures) (c .before .f .given .1)
 
 enum-told : tie.Need-enum-told
 enum-told c = search needs
@@ -23,13 +25,17 @@ enum-told c = search needs
 decide-requires : tie.Need-decide-requires
 decide-requires c κs =
     let s = c .before .before .before .before .before in
-    let q = c .before .before .out-in-domain in
-    (s .pre .0, (s .pre .1 .0, (s .pre .1 .1, outside-passed (s .args .w .now) (q .result) (q .ensures) (c .enum-told .given .1))))
+    let a = s .args in
+    let q = c .before .before .out-in-domain in (
+      (s .pre .0 .0, range-rest (editionOf (a .e)) (a .w .now) (s .pre .0 .0) (s .pre .1 .0) (s .pre .0 .1)),
+      (s .pre .1 .0, (s .pre .1 .1, outside-passed (editionOf (a .e)) (a .w .now) (q .result) (q .ensures) (c .enum-told .given .1))),
+    )
 
 returns-2 : tie.Need-returns-2
 returns-2 c =
+    let a = c .before .before .before .before .before .before .args in
     let q = c .before .before .before .out-in-domain in
-    out-passed (c .before .before .before .before .before .before .args .w .now) (q .result) (q .ensures) (c .before .enum-told .given .1) (c .decide .ensures)
+    out-passed (editionOf (a .e)) (a .w .now) (q .result) (q .ensures) (c .before .enum-told .given .1) (c .decide .ensures)
 
 pub decide-by-spec : {M : Type 1} → statement M
 decide-by-spec =

@@ -1,14 +1,16 @@
 -- `deciding::deciding` meets its contract. Assumes nothing.
 use native.Mathlib.Omega.{arith}
 use borrow.Author.Needs.{needs}
-use Rattle.deciding.specs.First.{shaped}
+use Rattle.edition.specs.Meaning.{editionOf}
+use Rattle.domain.specs.OfSheet.{points-of-sheet}
+use Rattle.deciding.proofs.Ready.{sheet-fitting}
 use Rattle.deciding.proofs.deciding.Statement.{statement}
 use Rattle.deciding.proofs.deciding.Tie as tie
 
 shared-slice-read-if1 : tie.Need-shared-slice-read-if1
 shared-slice-read-if1 c =
     let s = c .before .before in
-    omega (arith, shaped (s .args .w .now) (s .pre .0 .0) (s .pre .1) .long)
+    omega (arith, sheet-fitting (editionOf (s .args .e)) (s .args .w .now) (s .pre .0 .0) (s .pre .1) .0)
 
 few-points-room-requires : tie.Need-few-points-room-requires
 few-points-room-requires c κs = search needs
@@ -19,7 +21,7 @@ slice-aggregate-of-sheet-within c = search needs
 of-sheet-within-requires : tie.Need-of-sheet-within-requires
 of-sheet-within-requires c κs =
     let s = c .before .before .before .before .before in
-    ((shaped (s .args .w .now) (s .pre .0 .0) (s .pre .1) .long, s .pre .0 .0), search needs)
+    (sheet-fitting (editionOf (s .args .e)) (s .args .w .now) (s .pre .0 .0) (s .pre .1), search needs)
 
 array-share-prefix-few : tie.Need-array-share-prefix-few
 array-share-prefix-few c = search needs
@@ -28,7 +30,11 @@ slice-aggregate-decide-by : tie.Need-slice-aggregate-decide-by
 slice-aggregate-decide-by c = search needs
 
 decide-by-requires : tie.Need-decide-by-requires
-decide-by-requires c κs = search needs
+decide-by-requires c κs =
+    let s = c .before .before .before .before .before .before .before .before in
+    let a = s .args in
+    let q = c .before .before .of-sheet-within in
+    (s .pre .0, (s .pre .1, (points-of-sheet (editionOf (a .e)) (a .w .now) _ (q .ensures .1 .0), q .ensures .1 .1)))
 
 returns : tie.Need-returns
 returns c = search needs
@@ -42,7 +48,7 @@ slice-aggregate-of-sheet c = search needs
 of-sheet-requires : tie.Need-of-sheet-requires
 of-sheet-requires c κs =
     let s = c .before .before .before .before .before in
-    ((shaped (s .args .w .now) (s .pre .0 .0) (s .pre .1) .long, s .pre .0 .0), c .before .points-room .ensures)
+    (sheet-fitting (editionOf (s .args .e)) (s .args .w .now) (s .pre .0 .0) (s .pre .1), c .before .points-room .ensures)
 
 array-share-prefix-pw : tie.Need-array-share-prefix-pw
 array-share-prefix-pw c = search needs
@@ -51,7 +57,11 @@ slice-aggregate-decide-by-2 : tie.Need-slice-aggregate-decide-by-2
 slice-aggregate-decide-by-2 c = search needs
 
 decide-by-requires-2 : tie.Need-decide-by-requires-2
-decide-by-requires-2 c κs = search needs
+decide-by-requires-2 c κs =
+    let s = c .before .before .before .before .before .before .before .before in
+    let a = s .args in
+    let q = c .before .before .of-sheet in
+    (s .pre .0, (s .pre .1, (points-of-sheet (editionOf (a .e)) (a .w .now) _ (q .ensures .1 .0), q .ensures .1 .1)))
 
 returns-2 : tie.Need-returns-2
 returns-2 c = search needs

@@ -1,18 +1,18 @@
 -- `deciding::final_at` meets its contract. Assumes nothing.
-use Prim.Native.Nat.{_+_}
-use native.Mathlib.Omega.{arith}
-use Rattle.deciding.specs.Inside.{final-inside}
-use Rattle.deciding.specs.Stand.{coefficientsOf, finalsOf, tableOf}
-use Rattle.deciding.proofs.Ready.{clear-table, differing-parts, final-ready}
 use borrow.Author.Needs.{needs}
+use Prim.Native.Nat.{ℕ, _/_}
+use native.Mathlib.Omega.{arith}
+use mathlib.Core.Path.{_∙_, ap}
+use Rattle.definition.specs.Sheet.{sheetOf}
+use Rattle.edition.specs.Meaning.{editionOf}
+use Rattle.deciding.specs.Stand.{tableOf}
+use Rattle.deciding.proofs.Made.{coefficients-part, finals-part}
+use Rattle.deciding.proofs.Ready.{clear-table, differing-parts, final-ready}
 use Rattle.deciding.proofs.final_at.Statement.{statement}
 use Rattle.deciding.proofs.final_at.Tie as tie
 
-shared-slice-read-k : tie.Need-shared-slice-read-k
-shared-slice-read-k c = search needs
-
-cast-k : tie.Need-cast-k
-cast-k c = search needs
+fold-requires : tie.Need-fold-requires
+fold-requires c κs = search needs
 
 add-t : tie.Need-add-t
 add-t c = search needs
@@ -24,7 +24,7 @@ shared-slice-read-t : tie.Need-shared-slice-read-t
 shared-slice-read-t c = search needs
 
 cast-t : tie.Need-cast-t
-cast-t c = omega (arith, c .shared-slice-known6 .given (6 + c .before .before .before .before .before .before .before .args .stand .level))
+cast-t c = search needs
 
 div-d : tie.Need-div-d
 div-d c = search needs
@@ -38,47 +38,58 @@ part-requires c κs = search needs
 part-requires-2 : tie.Need-part-requires-2
 part-requires-2 c κs =
     let s = c .before .before .before .before .before .before .before .before .before .before in
-    let i = final-inside (s .args .w .now) (s .args .stand) (s .pre .0 .place) (s .pre .1 .0) in
-    omega (arith, i .there)
+    let i = s .pre .1 .0 in
+    let k = c .before .before .before .before .before .fold .ensures .0 ∙ i .numbers .fold in
+    omega (arith, i .there, i .numbers .times, ap (λ (n : ℕ). s .args .stand .degree / n) k)
 
 add-part : tie.Need-add-part
 add-part c =
     let s = c .before .before .before .before .before .before .before .before .before .before .before .before in
-    let i = final-inside (s .args .w .now) (s .args .stand) (s .pre .0 .place) (s .pre .1 .0) in
-    omega (arith, i .there)
+    let i = s .pre .1 .0 in
+    let k = c .before .before .before .before .before .before .before .fold .ensures .0 ∙ i .numbers .fold in
+    omega (arith, i .there, i .numbers .times, ap (λ (n : ℕ). s .args .stand .degree / n) k)
 
 part-requires-3 : tie.Need-part-requires-3
 part-requires-3 c κs =
     let s = c .before .before .before .before .before .before .before .before .before .before .before .before in
-    let i = final-inside (s .args .w .now) (s .args .stand) (s .pre .0 .place) (s .pre .1 .0) in
-    omega (arith, i .there)
+    let i = s .pre .1 .0 in
+    let k = c .before .before .before .before .before .before .before .fold .ensures .0 ∙ i .numbers .fold in
+    omega (arith, i .there, i .numbers .times, ap (λ (n : ℕ). s .args .stand .degree / n) k)
 
 difference-requires : tie.Need-difference-requires
-unfolding tableOf finalsOf
+unfolding tableOf
 difference-requires c κs =
     let s = c .before .before .before .before .before .before .before .before .before .before .before .before .before in
     let a = s .args in
+    let h = sheetOf (editionOf (a .e)) (a .w .now) in
     let ok = s .pre .0 in
-    let r = final-ready (a .w .now) (a .stand) (a .how) ok (s .pre .1 .0) (c .before .before .before .part .result .now) (c .part3 .result .now) (c .before .before .before .part .ensures) (c .part3 .ensures) in
+    let i = s .pre .1 .0 in
     let p = c .before .before .before .part in
-    ((ok .in-answers, (ok .in-factors, clear-table (a .w .now) (a .stand) (a .how) ok (a .pw .now) (a .vg .now) (p .result .now) (p .ensures) (s .pre .1 .1))), (r .0, r .1))
+    let k = c .before .before .before .before .before .before .before .before .fold .ensures .0 ∙ i .numbers .fold in
+    let r = final-ready h (a .w .now) (a .stand) (a .how) ok _ i (p .result .now) (c .part3 .result .now) k (p .ensures)
+    (c .part3 .ensures ∙ finals-part h (a .w .now) (a .stand) k (i .numbers .times)) in
+    ((ok .in-answers, (ok .in-factors, clear-table h (a .w .now) (a .stand) (a .how) ok (a .pw .now) (a .vg .now) (p .result .now) (p .ensures) (s .pre .1 .1))), (r .0, r .1))
 
 returns : tie.Need-returns
-unfolding tableOf coefficientsOf finalsOf
+unfolding tableOf
 returns c =
-    let a = c .before .before .before .before .before .before .before .before .before .before .before .before .before .before .args in
+    let s = c .before .before .before .before .before .before .before .before .before .before .before .before .before .before in
+    let a = s .args in
+    let h = sheetOf (editionOf (a .e)) (a .w .now) in
+    let i = s .pre .1 .0 in
     let p₁ = c .before .before .before .before .part in
     let p₂ = c .before .before .before .part2 in
     let p₃ = c .before .part3 in
-    differing-parts (a .w .now) (a .pw .now) (a .ac .now) (a .vg .now) (a .stand) (a .how) (p₁ .result .now) (p₁ .ensures)
-    (p₂ .result .now) (p₃ .result .now) (p₂ .ensures) (p₃ .ensures) (c .difference .ensures)
+    let k = c .before .before .before .before .before .before .before .before .before .fold .ensures .0 ∙ i .numbers .fold in
+    differing-parts h (a .w .now) (a .pw .now) (a .ac .now) (a .vg .now) (a .stand) (a .r) (a .how) (p₁ .result .now) (p₁ .ensures) k
+    (p₂ .result .now) (p₃ .result .now) (p₂ .ensures ∙ coefficients-part h (a .w .now) (a .stand) k) (p₃ .ensures ∙ finals-part h (a .w .now) (a .stand) k (i .numbers .times))
+    (c .difference .ensures)
 
 pub final-at-spec : {M : Type 1} → statement M
 final-at-spec =
     tie.close
     (tie.spec
-    shared-slice-read-k
-    cast-k
+    fold-requires
     add-t
     mul-t
     shared-slice-read-t

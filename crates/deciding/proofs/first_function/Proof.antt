@@ -1,35 +1,26 @@
 -- `deciding::first_function` meets its contract. Assumes nothing.
-use mathlib.Core.Path.{refl}
 use borrow.Author.Needs.{needs}
-use Rattle.deciding.specs.Stand.{firstFunction}
+use native.Mathlib.Omega.{arith}
+use mathlib.Core.Path.{_∙_}
+use Rattle.deciding.proofs.Made.{first-way}
 use Rattle.deciding.proofs.first_function.Statement.{statement}
 use Rattle.deciding.proofs.first_function.Tie as tie
 
--- src/lib.rt:79:15
-shared-slice-read-t3 : tie.Need-shared-slice-read-t3
-shared-slice-read-t3 c = search needs
+shared-slice-read-t4 : tie.Need-shared-slice-read-t4
+shared-slice-read-t4 c = search needs
 
--- src/lib.rt:79:15
-cast-t4 : tie.Need-cast-t4
-cast-t4 c = search needs
+cast-t5 : tie.Need-cast-t5
+cast-t5 c = search needs
 
--- src/lib.rt:79:31
-shared-slice-read-t6 : tie.Need-shared-slice-read-t6
-shared-slice-read-t6 c = search needs
+fold-requires : tie.Need-fold-requires
+fold-requires c κs = search needs
 
--- src/lib.rt:79:31
-cast-t7 : tie.Need-cast-t7
-cast-t7 c = search needs
+div-t7 : tie.Need-div-t7
+div-t7 c = let s = c .before .before .before in omega (arith, c .fold .ensures .0, s .pre .0 .folds 0 (omega arith), s .pre .1 .folds 0 (omega arith) .large)
 
--- src/lib.rt:79:15
-div-t8 : tie.Need-div-t8
-div-t8 c = search needs
-
--- src/lib.rt:73:1
 returns : tie.Need-returns
-unfolding firstFunction
-returns c = refl
+returns c = let s = c .before .before .before in first-way _ (s .pre .0 .size) (c .fold .ensures .0 ∙ s .pre .0 .folds 0 (omega arith))
 
 pub first-function-spec : {M : Type 1} → statement M
 first-function-spec =
-    tie.close (tie.spec shared-slice-read-t3 cast-t4 shared-slice-read-t6 cast-t7 div-t8 returns)
+    tie.close (tie.spec shared-slice-read-t4 cast-t5 fold-requires div-t7 returns)

@@ -1,25 +1,24 @@
 -- `deciding::next_function` meets its contract. Assumes nothing.
 use borrow.Author.Needs.{needs}
-use mathlib.Core.Path.{refl}
-use Rattle.deciding.specs.Stand.{nextFunction}
+use mathlib.Core.Path.{_∙_}
+use Rattle.deciding.proofs.Made.{next-way}
 use Rattle.deciding.proofs.next_function.Statement.{statement}
 use Rattle.deciding.proofs.next_function.Tie as tie
 
-mul-t5 : tie.Need-mul-t5
-mul-t5 c = search needs
+mul-t6 : tie.Need-mul-t6
+mul-t6 c = search needs
 
-shared-slice-read-t8 : tie.Need-shared-slice-read-t8
-shared-slice-read-t8 c = search needs
+add-fold : tie.Need-add-fold
+add-fold c = search needs
 
-cast-t9 : tie.Need-cast-t9
-cast-t9 c = search needs
+fold-requires : tie.Need-fold-requires
+fold-requires c κs = search needs
 
 div-t10 : tie.Need-div-t10
 div-t10 c = search needs
 
 returns : tie.Need-returns
-unfolding nextFunction
-returns c = refl
+returns c = let s = c .before .before .before .before in next-way _ (s .args .stand) (s .args .scale) (s .args .words) (c .fold .ensures .0 ∙ s .pre .0 .next)
 
 pub next-function-spec : {M : Type 1} → statement M
-next-function-spec = tie.close (tie.spec mul-t5 shared-slice-read-t8 cast-t9 div-t10 returns)
+next-function-spec = tie.close (tie.spec mul-t6 add-fold fold-requires div-t10 returns)

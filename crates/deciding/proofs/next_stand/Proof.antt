@@ -1,117 +1,93 @@
 -- `deciding::next_stand` meets its contract. Assumes nothing.
-use mathlib.Core.Path.{refl}
 use borrow.Author.Needs.{needs}
-use Rattle.deciding.specs.Stand.{nextStand}
+use native.Mathlib.Omega.{arith}
+use mathlib.Core.Path.{_∙_}
+use Rattle.definition.specs.Sheet.{sheetOf}
+use Rattle.edition.specs.Meaning.{editionOf}
+use Rattle.deciding.proofs.Made.{level-reads, next-place}
 use Rattle.deciding.proofs.next_stand.Statement.{statement}
 use Rattle.deciding.proofs.next_stand.Tie as tie
 
--- src/lib.rt:90:13
-shared-slice-read-k : tie.Need-shared-slice-read-k
-shared-slice-read-k c = search needs
+fold-requires : tie.Need-fold-requires
+fold-requires c κs = search needs
 
--- src/lib.rt:90:13
-cast-k : tie.Need-cast-k
-cast-k c = search needs
-
--- src/lib.rt:91:13
 shared-slice-read-s : tie.Need-shared-slice-read-s
 shared-slice-read-s c = search needs
 
--- src/lib.rt:91:13
 cast-s : tie.Need-cast-s
 cast-s c = search needs
 
--- src/lib.rt:92:15
 add-t : tie.Need-add-t
 add-t c = search needs
 
--- src/lib.rt:92:13
 mul-t : tie.Need-mul-t
 mul-t c = search needs
 
--- src/lib.rt:92:13
 shared-slice-read-t : tie.Need-shared-slice-read-t
 shared-slice-read-t c = search needs
 
--- src/lib.rt:92:13
 cast-t : tie.Need-cast-t
 cast-t c = search needs
 
--- src/lib.rt:93:17
-add-coins : tie.Need-add-coins
-add-coins c = search needs
+add-t9 : tie.Need-add-t9
+add-t9 c = search needs
 
--- src/lib.rt:93:17
-add-coins-2 : tie.Need-add-coins-2
-add-coins-2 c = search needs
+div-t12 : tie.Need-div-t12
+div-t12 c = search needs
 
--- src/lib.rt:93:17
-add-coins-3 : tie.Need-add-coins-3
-add-coins-3 c = search needs
-
--- src/lib.rt:95:16
-add-t10 : tie.Need-add-t10
-add-t10 c = search needs
-
--- src/lib.rt:97:17
-div-t11 : tie.Need-div-t11
-div-t11 c = search needs
-
--- src/lib.rt:99:13
 add-t14 : tie.Need-add-t14
 add-t14 c = search needs
 
--- src/lib.rt:99:13
 add-t15 : tie.Need-add-t15
 add-t15 c = search needs
 
--- src/lib.rt:100:17
 add-t16 : tie.Need-add-t16
 add-t16 c = search needs
 
--- src/lib.rt:100:15
-mul-t17 : tie.Need-mul-t17
-mul-t17 c = search needs
+add-t17 : tie.Need-add-t17
+add-t17 c = search needs
 
--- src/lib.rt:100:15
-shared-slice-read-t8 : tie.Need-shared-slice-read-t8
-shared-slice-read-t8 c = search needs
+add-t18 : tie.Need-add-t18
+add-t18 c = search needs
 
--- src/lib.rt:101:30
 mul-t19 : tie.Need-mul-t19
-mul-t19 c = search needs
+mul-t19 c =
+    let s = c .before .before .before .before .before .before .before .before .before .before in
+    let i = s .pre .numbers in
+    let k = c .before .before .before .before .before .before .before .before .fold .ensures .0 ∙ i .fold in
+    omega (arith, level-reads (sheetOf (editionOf (s .args .e)) (s .args .w .now)) (s .args .stand) k (i .times), i .fewer, i .reads)
 
--- src/lib.rt:101:16
 add-t20 : tie.Need-add-t20
-add-t20 c = search needs
+add-t20 c =
+    let s = c .before .before .before .before .before .before .before .before .before .before .before in
+    let i = s .pre .numbers in
+    let k = c .before .before .before .before .before .before .before .before .before .fold .ensures .0 ∙ i .fold in
+    omega (arith, level-reads (sheetOf (editionOf (s .args .e)) (s .args .w .now)) (s .args .stand) k (i .times), i .fewer, i .reads)
 
--- src/lib.rt:86:1
 returns : tie.Need-returns
-unfolding nextStand
-returns c = refl
+returns c =
+    let s = c .before .before .before .before .before .before .before .before .before .before .before in
+    let i = s .pre .numbers in
+    next-place _ (s .args .stand) (c .before .before .before .before .before .before .before .before .before .fold .ensures .0 ∙ i .fold) (i .outs) (i .times)
 
 pub next-stand-spec : {M : Type 1} → statement M
 next-stand-spec =
     tie.close
     (tie.spec
-    shared-slice-read-k
-    cast-k
+    fold-requires
     shared-slice-read-s
     cast-s
     add-t
     mul-t
     shared-slice-read-t
     cast-t
-    add-coins
-    add-coins-2
-    add-coins-3
-    add-t10
-    div-t11
+    add-t9
+    div-t12
     add-t14
     add-t15
     add-t16
-    mul-t17
-    shared-slice-read-t8
+    add-t17
+    add-t18
     mul-t19
     add-t20
     returns)

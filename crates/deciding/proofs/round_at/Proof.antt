@@ -1,11 +1,14 @@
 -- `deciding::round_at` meets its contract. Assumes nothing.
+use borrow.Author.Needs.{needs}
 use Prim.Native.Nat.{_+_}
 use native.Mathlib.Omega.{arith}
+use mathlib.Core.Path.{_∙_}
 use lib.ListN.{length}
-use Rattle.deciding.specs.Inside.{round-inside}
-use Rattle.deciding.specs.Stand.{outsOf, repliesOf, shiftsOf, tableOf}
+use Rattle.definition.specs.Sheet.{sheetOf}
+use Rattle.edition.specs.Meaning.{editionOf}
+use Rattle.deciding.specs.Stand.{tableOf}
+use Rattle.deciding.proofs.Made.{outs-part, replies-part, shifts-part}
 use Rattle.deciding.proofs.Ready.{answer-ready, clear-table, room-most, sifted-parts}
-use borrow.Author.Needs.{needs}
 use Rattle.deciding.proofs.round_at.Statement.{statement}
 use Rattle.deciding.proofs.round_at.Tie as tie
 
@@ -25,7 +28,7 @@ shared-slice-read-t : tie.Need-shared-slice-read-t
 shared-slice-read-t c = search needs
 
 cast-t : tie.Need-cast-t
-cast-t c = omega (arith, c .shared-slice-known6 .given (6 + c .before .before .before .before .before .before .before .before .before .args .stand .level))
+cast-t c = search needs
 
 add-outs : tie.Need-add-outs
 add-outs c = search needs
@@ -39,11 +42,8 @@ shared-slice-read-answer c = search needs
 part-requires : tie.Need-part-requires
 part-requires c κs = search needs
 
-shared-slice-read-answer-2 : tie.Need-shared-slice-read-answer-2
-shared-slice-read-answer-2 c = search needs
-
-cast-answer : tie.Need-cast-answer
-cast-answer c = search needs
+fold-requires : tie.Need-fold-requires
+fold-requires c κs = search needs
 
 add-part : tie.Need-add-part
 add-part c = search needs
@@ -52,36 +52,30 @@ add-part-2 : tie.Need-add-part-2
 add-part-2 c = search needs
 
 part-requires-2 : tie.Need-part-requires-2
-part-requires-2 c κs =
-    let s = c .before .before .before .before .before .before .before .before .before .before .before .before .before .before in
-    let i = round-inside (s .args .w .now) (s .args .stand) (s .pre .0 .place) (s .pre .1 .0) in
-    omega (arith, i .there)
+part-requires-2 c κs = search needs
 
 part-requires-3 : tie.Need-part-requires-3
-part-requires-3 c κs =
-    let s = c .before .before .before .before .before .before .before .before .before .before .before .before .before .before .before in
-    let i = round-inside (s .args .w .now) (s .args .stand) (s .pre .0 .place) (s .pre .1 .0) in
-    omega (arith, i .there)
+part-requires-3 c κs = let i = c .before .before .before .before .before .before .before .before .before .before .before .before .before .before .before .pre .1 .0 in omega (arith, i .there, i .numbers .outs)
 
 part-requires-4 : tie.Need-part-requires-4
-part-requires-4 c κs =
-    let s = c .before .before .before .before .before .before .before .before .before .before .before .before .before .before .before .before in
-    let i = round-inside (s .args .w .now) (s .args .stand) (s .pre .0 .place) (s .pre .1 .0) in
-    omega (arith, i .there)
+part-requires-4 c κs = let i = c .before .before .before .before .before .before .before .before .before .before .before .before .before .before .before .before .pre .1 .0 in omega (arith, i .there, i .numbers .outs)
 
 answer-requires : tie.Need-answer-requires
-unfolding tableOf shiftsOf outsOf repliesOf
+unfolding tableOf
 answer-requires c κs =
     let s = c .before .before .before .before .before .before .before .before .before .before .before .before .before .before .before .before .before .before .before in
     let a = s .args in
+    let h = sheetOf (editionOf (a .e)) (a .w .now) in
     let ok = s .pre .0 in
+    let i = s .pre .1 .0 in
     let p₁ = c .before .before .before .before .before .before .part in
     let p₂ = c .before .before .before .before .part2 in
     let p₃ = c .before .before .before .part3 in
     let p₄ = c .before .before .part4 in
-    let r = answer-ready (a .w .now) (a .stand) (a .how) ok (s .pre .1 .0) (p₁ .result .now) (p₂ .result .now) (p₃ .result .now) (p₄ .result .now)
-    (p₁ .ensures) (p₂ .ensures) (p₃ .ensures) (p₄ .ensures) in
-    let clear = clear-table (a .w .now) (a .stand) (a .how) ok (a .pw .now) (a .vg .now) (p₁ .result .now) (p₁ .ensures) (s .pre .1 .1 .1) in
+    let r = answer-ready h (a .w .now) (a .stand) (a .how) ok _ i (p₁ .result .now) (p₂ .result .now) (p₃ .result .now) (p₄ .result .now)
+    (c .before .before .before .before .before .fold .ensures .0 ∙ i .numbers .fold) (p₁ .ensures) (p₂ .ensures ∙ shifts-part h (a .w .now) (a .stand) (i .numbers .outs) (i .numbers .times))
+    (p₃ .ensures ∙ outs-part h (a .w .now) (a .stand) (i .numbers .outs)) (p₄ .ensures ∙ replies-part h (a .w .now) (a .stand) (i .numbers .outs)) in
+    let clear = clear-table h (a .w .now) (a .stand) (a .how) ok (a .pw .now) (a .vg .now) (p₁ .result .now) (p₁ .ensures) (s .pre .1 .1 .1) in
     ((ok .in-answers, (ok .in-factors, clear)), (r .0, (r .1 .0, ((omega (arith, s .pre .1 .1 .0), (r .1 .1 .0, omega (arith, s .pre .1 .1 .0, r .1 .1 .1))), omega (arith, s .pre .1 .1 .0)))))
 
 same-length : tie.Need-same-length
@@ -91,20 +85,25 @@ same-length-2 : tie.Need-same-length-2
 same-length-2 c = search needs
 
 returns : tie.Need-returns
-unfolding tableOf shiftsOf outsOf repliesOf
+unfolding tableOf
 returns c =
     let s = c .before .before .before .before .before .before .before .before .before .before .before .before .before .before .before .before .before .before .before .before .before .before .before .before in
     let a = s .args in
+    let h = sheetOf (editionOf (a .e)) (a .w .now) in
     let ok = s .pre .0 in
+    let i = s .pre .1 .0 in
     let p₁ = c .before .before .before .before .before .before .before .before .before .before .before .part in
     let p₂ = c .before .before .before .before .before .before .before .before .before .part2 in
     let p₃ = c .before .before .before .before .before .before .before .before .part3 in
     let p₄ = c .before .before .before .before .before .before .before .part4 in
     let q = c .before .before .before .before .answer in
-    let r = answer-ready (a .w .now) (a .stand) (a .how) ok (s .pre .1 .0) (p₁ .result .now) (p₂ .result .now) (p₃ .result .now) (p₄ .result .now)
-    (p₁ .ensures) (p₂ .ensures) (p₃ .ensures) (p₄ .ensures) in (
-      sifted-parts (a .w .now) (a .pw .now) (a .ac .now) (a .vg .now) (a .stand) (a .how) (p₁ .result .now) (p₁ .ensures)
-          (p₂ .result .now) (p₃ .result .now) (p₄ .result .now) (p₂ .ensures) (p₃ .ensures) (p₄ .ensures) (q .ensures .0),
+    let k = c .before .before .before .before .before .before .before .before .before .before .fold .ensures .0 ∙ i .numbers .fold in
+    let es = p₂ .ensures ∙ shifts-part h (a .w .now) (a .stand) (i .numbers .outs) (i .numbers .times) in
+    let eo = p₃ .ensures ∙ outs-part h (a .w .now) (a .stand) (i .numbers .outs) in
+    let er = p₄ .ensures ∙ replies-part h (a .w .now) (a .stand) (i .numbers .outs) in
+    let r = answer-ready h (a .w .now) (a .stand) (a .how) ok _ i (p₁ .result .now) (p₂ .result .now) (p₃ .result .now) (p₄ .result .now) k (p₁ .ensures) es eo er in (
+      sifted-parts h (a .w .now) (a .pw .now) (a .ac .now) (a .vg .now) (a .stand) (a .r) (a .how) (p₁ .result .now) (p₁ .ensures) k
+          (p₂ .result .now) (p₃ .result .now) (p₄ .result .now) es eo er (q .ensures .0),
       room-most (length (a .px .now)) (length (p₃ .result .now) + length (p₂ .result .now)) (q .result) (s .pre .1 .1 .0 .0) (r .1 .1 .1) (q .ensures .1),
     )
 
@@ -122,8 +121,7 @@ round-at-spec =
     add-replies
     shared-slice-read-answer
     part-requires
-    shared-slice-read-answer-2
-    cast-answer
+    fold-requires
     add-part
     add-part-2
     part-requires-2

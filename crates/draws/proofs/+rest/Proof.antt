@@ -2,10 +2,9 @@
 use Prim.Native.Nat.{ℕ, _-_, _<_}
 use native.Mathlib.Omega.{arith}
 use mathlib.Core.Path.{refl, sym, _∙_}
-use lib.ListN.{length}
+use lib.ListN.{length, getD}
 use lib.Seq.{length-take-le}
 use borrow.Author.Needs.{needs}
-use Rattle.completeness.specs.Numbered.{roundsOf}
 use Rattle.domain.specs.Parts.{begun-long, filled-long, joined, others-long}
 use Rattle.draws.specs.AtLevel.{bounded, next-level, shifts-are}
 use Rattle.draws.proofs.Joins.{Onward, coins-last, coins-more, not-last, onward}
@@ -52,7 +51,7 @@ ahead : (t : ℕ) (c : rest-lts.After-round-coins (calls t) (rest-at t) rest.Pos
 ahead t c =
     let s = c .before .before .before .before .before .before in
     let a = s .args in
-    onward (a .w .now) (a .level) (not-last (a .level) (roundsOf (a .w .now)) (s .pre .1 .0 .level) (c .before .if1 .left)) (s .pre .1 .1) (c .round-coins .ensures)
+    onward (s .pre .1 .0) (not-last (a .level) (getD (a .w .now) 4 0) (s .pre .1 .0 .level) (c .before .if1 .left)) (s .pre .1 .1) (c .round-coins .ensures)
 
 rest-shared-slice-read-if1 : (t : ℕ) → rest-lts.Need-shared-slice-read-if1 (calls t) (rest-at t) rest.Post
 rest-shared-slice-read-if1 t c = omega (arith, c .before .before .before .before .pre .1 .0 .long)
@@ -76,7 +75,7 @@ rest-returns : (t : ℕ) → rest-lts.Need-returns (calls t) (rest-at t) rest.Po
 rest-returns t c =
     let s = c .before .before .before .before .before .before .before .before .before .before .before in
     let a = s .args in
-    coins-last (a .w .now) (a .level) (a .generator .v) (c .before .before .before .before .before .before .if1 .taken) (s .pre .1 .1) (c .before .before .before .before .shift-points .ensures ∙ shifts-are (s .pre .1 .0)) (c .before .before .fill .ensures)
+    coins-last (s .pre .1 .0) (a .generator .v) (c .before .before .before .before .before .before .if1 .taken) (s .pre .1 .1) (c .before .before .before .before .shift-points .ensures ∙ shifts-are (s .pre .1 .0)) (c .before .before .fill .ensures)
 
 rest-round-coins-requires : (t : ℕ) → rest-lts.Need-round-coins-requires (calls t) (rest-at t) rest.Post
 rest-round-coins-requires t c κs =
@@ -148,11 +147,12 @@ rest-same-length-2 t c =
 
 rest-returns-2 : (t : ℕ) → rest-lts.Need-returns-2 (calls t) (rest-at t) rest.Post
 rest-returns-2 t c =
-    let a = c .before .before .before .before .before .before .before .before .before .before .before .before .before .before .args in
+    let s = c .before .before .before .before .before .before .before .before .before .before .before .before .before .before in
+    let a = s .args in
     let o = ahead t (c .before .before .before .before .before .before .before .before) in
     let q = c .before .before .before .before .before .before .round in
     let v = c .before .before .rest in
-    coins-more (a .w .now) (a .level) (a .generator .v) (o .more)
+    coins-more (s .pre .1 .0) (a .generator .v) (o .more)
     (joined (a .out .now) (q .last .1 .1 .1 .1 .1 .0) (c .before .before .before .before .before .before .before .before .round-coins .result) (o .within) (q .kept .1 .1 .1 .1 .1 .0) (v .last .1 .1 .1 .1 .1 .0) refl refl)
     (q .ensures) (v .ensures)
 

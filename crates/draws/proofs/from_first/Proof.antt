@@ -5,7 +5,7 @@ use mathlib.Core.Path.{refl, sym}
 use lib.ListN.{length, getD}
 use lib.Seq.{length-take-le}
 use Rattle.algebra.specs.PrimeField.{suited}
-use Rattle.definition.specs.Sheet.{sheetOf}
+use Rattle.definition.specs.Sheet.{edition1, sheetOf}
 use Rattle.domain.specs.Parts.{begun-long, joined, others-long}
 use Rattle.draws.proofs.Joins.{all-counted, coins-all, one-element}
 use borrow.Author.Needs.{needs}
@@ -64,7 +64,7 @@ returns c =
     let n : 1 ≤ length (a .out .now) = omega (arith, all-counted (s .pre .0) (s .pre .1)) in
     coins-all (a .w .now) (a .pw .now) (a .generator .v) (s .pre .0)
     (joined (a .out .now) (f .last .1 .1 .0) 1 n (f .kept .1 .1 .0) (v .last .1 .1 .1 .1 .1 .0) refl refl)
-    (one-element (getD (a .w .now) 0 0) (a .generator .v) (c .before .before .before .before .before .before .before .before .modulus .ensures) (sheetOf (a .w .now)) refl (length-take-le 1 (a .out .now) n) (f .ensures))
+    (one-element (getD (a .w .now) 0 0) (a .generator .v) (c .before .before .before .before .before .before .before .before .modulus .ensures) (sheetOf edition1 (a .w .now)) refl (length-take-le 1 (a .out .now) n) (f .ensures))
     (v .ensures)
 
 pub from-first-spec : {M : Type 1} → statement M

@@ -7,7 +7,7 @@ use lib.ListN.{length, take, replicate, length-set}
 use lib.Seq.{take-all}
 use Rattle.definition.specs.Layout.{out as outOf}
 use Rattle.definition.specs.Load.{Drawn, drawKind, drawKinds}
-use Rattle.definition.specs.Sheet.{sheetOf}
+use Rattle.definition.specs.Sheet.{edition1, sheetOf}
 use Rattle.completeness.specs.Numbered.{levelOf}
 use Rattle.draws.specs.AtLevel.{bounded, out-drawn}
 use Rattle.draws.specs.Kinds.{drawn-more}
@@ -17,7 +17,7 @@ use Rattle.draws.proofs.out_coins.Tie as tie
 
 abbrev Inv-loop : tie.InvT-loop
 Inv-loop w pw level scale out₀ field current₀ i₀ out current i =
-    (i ≤ length out₀) × ((length out ≡ length out₀) × Is (take i out) (current .v) (drawKinds (sheetOf w) (replicate i (outOf (levelOf w level))) (current₀ .v)))
+    (i ≤ length out₀) × ((length out ≡ length out₀) × Is (take i out) (current .v) (drawKinds (sheetOf edition1 w) (replicate i (outOf (levelOf (sheetOf edition1 w) level))) (current₀ .v)))
 
 abbrev μ-loop : tie.MeasureT-loop
 μ-loop w pw level scale out₀ field current₀ i₀ out current i = length out₀ - i
@@ -54,7 +54,7 @@ loop-again c =
       omega arith,
       (
         length-set (l .out) (l .i) (d .result .value) ∙ l .inv .1 .0,
-        drawn-more (sheetOf (a .w .now)) (outOf (levelOf (a .w .now) (a .level))) (l .i) (a .generator .v) (l .out) (omega arith) (l .inv .1 .1) (out-drawn (s .pre) (l .current .v) (d .ensures)),
+        drawn-more (sheetOf edition1 (a .w .now)) (outOf (levelOf (sheetOf edition1 (a .w .now)) (a .level))) (l .i) (a .generator .v) (l .out) (omega arith) (l .inv .1 .1) (out-drawn (s .pre) (l .current .v) (d .ensures)),
       ),
     )
 
@@ -65,8 +65,8 @@ returns : tie.Need-returns Inv-loop μ-loop
 returns c =
     let l = c .before .loop in
     let a = c .before .before .before .before .before .before .args in
-    let h = sheetOf (a .w .now) in
-    let k = outOf (levelOf (a .w .now) (a .level)) in
+    let h = sheetOf edition1 (a .w .now) in
+    let k = outOf (levelOf (sheetOf edition1 (a .w .now)) (a .level)) in
     let e : l .i ≡ length (a .out .now) = omega arith in
     ap {B = Drawn (List ℕ)} (λ (t : List ℕ). record { value = t; next = l .current .v }) (sym (take-all (l .i) (l .out) (omega arith)))
     ∙ l .inv .1 .1 ∙ ap (λ (n : ℕ). drawKinds h (replicate n k) (a .generator .v)) e

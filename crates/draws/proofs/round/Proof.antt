@@ -2,10 +2,9 @@
 use Prim.Native.Nat.{_≤_}
 use native.Mathlib.Omega.{arith}
 use mathlib.Core.Path.{refl, sym, _∙_}
-use lib.ListN.{length}
+use lib.ListN.{length, getD}
 use lib.Seq.{length-take-le}
-use Rattle.definition.specs.Sheet.{sheetOf}
-use Rattle.completeness.specs.Numbered.{outsOf}
+use Rattle.definition.specs.Sheet.{edition1, sheetOf}
 use Rattle.domain.specs.Parts.{joined, others-long}
 use Rattle.draws.specs.AtLevel.{bounded, next-level, shifts-are}
 use Rattle.draws.proofs.Joins.{round-coins}
@@ -40,7 +39,7 @@ slice-relend-prefix-out-coins c = search needs
 slice-aggregate-out-coins : tie.Need-slice-aggregate-out-coins
 slice-aggregate-out-coins c =
     let s = c .before .before .before .before .before .before .before .before in
-    sym (length-take-le (outsOf (s .args .w .now)) (s .args .out .now) (omega (arith, s .pre .1)))
+    sym (length-take-le (getD (s .args .w .now) 5 0) (s .args .out .now) (omega (arith, s .pre .1)))
 
 out-coins-requires : tie.Need-out-coins-requires
 out-coins-requires c κs = let s = c .before .before .before .before .before .before .before .before in next-level (s .pre .0 .0) (s .pre .0 .1)
@@ -62,9 +61,9 @@ later-coins-requires c κs =
     let s = c .before .before .before .before .before .before .before .before .before .before .before .before in
     let a = s .args in
     let o = c .before .before .before .out-coins in
-    let n : outsOf (a .w .now) ≤ length (a .out .now) = omega (arith, s .pre .1) in (
+    let n : getD (a .w .now) 5 0 ≤ length (a .out .now) = omega (arith, s .pre .1) in (
       omega (arith, c .before .before .before .before .before .shift-points .ensures, bounded (s .pre .0 .0) .shifts),
-      omega (arith, others-long (a .out .now) (o .last .1 .1 .1 .1 .1 .0) (outsOf (a .w .now)) n (o .kept .1 .1 .1 .1 .1 .0), s .pre .1),
+      omega (arith, others-long (a .out .now) (o .last .1 .1 .1 .1 .1 .0) (getD (a .w .now) 5 0) n (o .kept .1 .1 .1 .1 .1 .0), s .pre .1),
     )
 
 same-length : tie.Need-same-length
@@ -77,12 +76,12 @@ returns c =
     let a = s .args in
     let o = c .before .before .before .before .before .before .out-coins in
     let g = c .before .before .later-coins in
-    let n : outsOf (a .w .now) ≤ length (a .out .now) = omega (arith, s .pre .1) in
-    round-coins (a .w .now) (a .level) (a .generator .v)
-    (joined (a .out .now) (o .last .1 .1 .1 .1 .1 .0) (outsOf (a .w .now)) n (o .kept .1 .1 .1 .1 .1 .0) (g .last .1 .1 .1 .0) refl refl)
-    (s .pre .1) (length-take-le (outsOf (a .w .now)) (a .out .now) n)
-    (others-long (a .out .now) (o .last .1 .1 .1 .1 .1 .0) (outsOf (a .w .now)) n (o .kept .1 .1 .1 .1 .1 .0)) (c .before .before .before .before .before .before .before .before .shift-points .ensures ∙ shifts-are (s .pre .0 .0))
-    (o .ensures) (g .ensures (sheetOf (a .w .now)) refl)
+    let n : getD (a .w .now) 5 0 ≤ length (a .out .now) = omega (arith, s .pre .1) in
+    round-coins (s .pre .0 .0) (a .generator .v)
+    (joined (a .out .now) (o .last .1 .1 .1 .1 .1 .0) (getD (a .w .now) 5 0) n (o .kept .1 .1 .1 .1 .1 .0) (g .last .1 .1 .1 .0) refl refl)
+    (s .pre .1) (length-take-le (getD (a .w .now) 5 0) (a .out .now) n)
+    (others-long (a .out .now) (o .last .1 .1 .1 .1 .1 .0) (getD (a .w .now) 5 0) n (o .kept .1 .1 .1 .1 .1 .0)) (c .before .before .before .before .before .before .before .before .shift-points .ensures ∙ shifts-are (s .pre .0 .0))
+    (o .ensures) (g .ensures (sheetOf edition1 (a .w .now)) refl)
 
 pub round-spec : {M : Type 1} → statement M
 round-spec =

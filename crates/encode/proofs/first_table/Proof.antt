@@ -1,5 +1,7 @@
 -- `encode::first_table`: the table of points is as the table's function wants it.
 use native.Mathlib.Omega.{arith}
+use Rattle.definition.specs.Sheet.{edition1}
+use Rattle.domain.specs.OfSheet.{fitting, points-of-sheet}
 use Rattle.encode.proofs.Stages.{halves, table-zero}
 use borrow.Author.Needs.{needs}
 use Rattle.encode.proofs.first_table.Statement.{statement}
@@ -15,7 +17,9 @@ slice-aggregate-of-sheet-within : tie.Need-slice-aggregate-of-sheet-within
 slice-aggregate-of-sheet-within c = search needs
 
 of-sheet-within-requires : tie.Need-of-sheet-within-requires
-of-sheet-within-requires c κs = search needs
+of-sheet-within-requires c κs =
+    let s = c .before .before .before .before .before .before .before in
+    ((s .pre .0 .0, fitting edition1 (s .args .w .now) (s .pre .0 .0) (s .pre .0 .1)), omega (arith, c .before .few-points-room .ensures, c .before .before .if1 .taken))
 
 shared-slice-read-on-domain : tie.Need-shared-slice-read-on-domain
 shared-slice-read-on-domain c = search needs
@@ -31,7 +35,7 @@ on-domain-requires c κs =
     let s = c .before .before .before .before .before .before .before .before .before .before .before .before in
     let w = s .args .w .now in
     let n = c .before .before .before .before .of-sheet-within .ensures .1 .1 in
-    (halves w (s .pre .0 .1) (s .pre .1 .0) (s .pre .1 .1), (omega arith, omega (arith, n, s .pre .1 .1)))
+    (halves w (s .pre .0 .0) (s .pre .0 .1) (s .pre .1 .0) (s .pre .1 .1), (omega arith, omega (arith, n, s .pre .1 .1)))
 
 points-room-requires : tie.Need-points-room-requires
 points-room-requires c κs = search needs
@@ -40,7 +44,9 @@ slice-aggregate-of-sheet : tie.Need-slice-aggregate-of-sheet
 slice-aggregate-of-sheet c = search needs
 
 of-sheet-requires : tie.Need-of-sheet-requires
-of-sheet-requires c κs = search needs
+of-sheet-requires c κs =
+    let s = c .before .before .before .before .before .before .before in
+    ((s .pre .0 .0, fitting edition1 (s .args .w .now) (s .pre .0 .0) (s .pre .0 .1)), c .before .points-room .ensures)
 
 shared-slice-read-on-domain-2 : tie.Need-shared-slice-read-on-domain-2
 shared-slice-read-on-domain-2 c = search needs
@@ -56,7 +62,7 @@ on-domain-requires-2 c κs =
     let s = c .before .before .before .before .before .before .before .before .before .before .before .before in
     let w = s .args .w .now in
     let n = c .before .before .before .before .of-sheet .ensures .1 .1 in
-    (halves w (s .pre .0 .1) (s .pre .1 .0) (s .pre .1 .1), (omega arith, omega (arith, n, s .pre .1 .1)))
+    (halves w (s .pre .0 .0) (s .pre .0 .1) (s .pre .1 .0) (s .pre .1 .1), (omega arith, omega (arith, n, s .pre .1 .1)))
 
 same-length : tie.Need-same-length
 same-length c = search needs
@@ -65,7 +71,7 @@ returns : tie.Need-returns
 returns c =
     let s = c .before .before .before .before .before .before .before .before .before .before .before .before .before .before .before in
     let t = c .before .before .on-domain in
-    table-zero (s .args .w .now) (s .args .f .now) _ (t .last .1 .1 .1 .1 .0) (c .before .before .before .before .before .before .before .of-sheet-within .ensures .1 .0) (s .pre .1 .1) (t .ensures)
+    table-zero (s .args .w .now) (s .args .f .now) _ (t .last .1 .1 .1 .1 .0) (points-of-sheet edition1 (s .args .w .now) _ (c .before .before .before .before .before .before .before .of-sheet-within .ensures .1 .0)) (s .pre .1 .1) (t .ensures)
 
 same-length-2 : tie.Need-same-length-2
 same-length-2 c = search needs
@@ -74,7 +80,7 @@ returns-2 : tie.Need-returns-2
 returns-2 c =
     let s = c .before .before .before .before .before .before .before .before .before .before .before .before .before .before .before in
     let t = c .before .before .on-domain2 in
-    table-zero (s .args .w .now) (s .args .f .now) _ (t .last .1 .1 .1 .1 .0) (c .before .before .before .before .before .before .before .of-sheet .ensures .1 .0) (s .pre .1 .1) (t .ensures)
+    table-zero (s .args .w .now) (s .args .f .now) _ (t .last .1 .1 .1 .1 .0) (points-of-sheet edition1 (s .args .w .now) _ (c .before .before .before .before .before .before .before .of-sheet .ensures .1 .0)) (s .pre .1 .1) (t .ensures)
 
 pub first-table-spec : {M : Type 1} → statement M
 first-table-spec =

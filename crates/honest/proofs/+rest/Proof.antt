@@ -1,14 +1,16 @@
 -- `honest::rest` meets its contract, by recursion over the levels: the measure is what is left of 6 levels. Assumes nothing.
-use Prim.Native.Nat.{ℕ, _+_, _-_, _*_, _≤_, _<_}
+use Prim.Native.Nat.{ℕ, _+_, _-_, _*_, _<_}
 use native.Mathlib.Nat.{div-le-self}
 use native.Mathlib.Omega.{arith}
 use mathlib.Core.Path.{_∙_, refl, subst, sym}
-use lib.ListN.{length, getD, take}
+use lib.ListN.{length, take}
 use lib.Seq.{length-take-le}
 use borrow.Author.Needs.{needs}
-use Rattle.honest_words.specs.Sizes.{sizes}
+use Rattle.definition.specs.Sheet.{sheetOf}
+use Rattle.edition.specs.Meaning.{editionOf}
+use Rattle.honest_words.specs.Sizes.{next-place, numbers, sizes}
 use Rattle.honest_words.specs.Standing.{DealtFrom}
-use Rattle.honest.proofs.Onward.{Onward, all-left, not-last, onward, words-end, words-join, words-last}
+use Rattle.honest.proofs.Onward.{Onward, all-left, last-level, not-last, onward, words-end, words-join, words-last}
 use Rattle.domain.specs.Parts.{begun-long, filled-long, joined, others-long}
 use borrow.Fn.Kinds.{In}
 use borrow.Fn.PlainCycle.{Measures, is, falls, and}
@@ -24,7 +26,7 @@ use Rattle.honest.proofs.+rest.{statement}
 use Rattle.honest.proofs.+rest.Tie.{close}
 
 abbrev μ-rest : Measures 5 rest-kinds.ps ℕ
-μ-rest κs a = 6 - a .1 .1 .0
+μ-rest κs a = 6 - a .1 .1 .1 .0
 
 abbrev rest-at : ℕ → In 5 rest-kinds.ps
 rest-at t = and 5 rest-kinds.ps (is 5 rest-kinds.ps μ-rest t) rest.Pre
@@ -52,62 +54,66 @@ calls t = (
 -- what is known once the numbers of the round are worked out
 ahead : (t : ℕ) (c : rest-lts.After-round-words (calls t) (rest-at t) rest.Post) →
     let a = c .before .before .before .before .before .before .before .before .before .before .args in
-    Onward (a .w .now) (a .pw .now) (a .level) (a .scale) (a .d) (a .coins .now) (length (a .out .now))
+    Onward (editionOf (a .e)) (a .w .now) (a .pw .now) (a .level) (a .scale) (a .d) (a .coins .now) (length (a .out .now))
     (c .before .before .fold-length .result) (c .before .round-coins .result) (c .round-words .result)
 ahead t c =
     let s = c .before .before .before .before .before .before .before .before .before .before in
-    let a = s .args in
-    let more = not-last (a .level) (getD (a .w .now) 4 0) (s .pre .1 .0 .0 .level) (c .before .before .before .if1 .left) in
-    onward (a .w .now) (a .pw .now) (a .level) (a .scale) (a .d) (a .coins .now) (length (a .out .now))
-    (c .before .before .fold-length .result) (c .before .round-coins .result) (c .round-words .result)
-    (s .pre .1 .0 .0) (s .pre .1 .1 .0) (s .pre .1 .1 .1) more (c .before .before .fold-length .ensures) (c .before .round-coins .ensures) (c .round-words .ensures)
+    let st = s .pre .1 .0 .0 in
+    onward st (s .pre .1 .0 .1 .0) (s .pre .1 .1 .0) (s .pre .1 .1 .1) (not-last (st .place) (c .before .before .before .if1 .left))
+    (c .before .before .fold-length .ensures) (c .before .round-coins .ensures) (c .round-words .ensures)
 
 rest-shared-slice-read-if1 : (t : ℕ) → rest-lts.Need-shared-slice-read-if1 (calls t) (rest-at t) rest.Post
-rest-shared-slice-read-if1 t c = omega (arith, c .before .before .before .before .before .before .pre .1 .0 .0 .long)
+rest-shared-slice-read-if1 t c = omega (arith, numbers (c .before .before .before .before .before .before .pre .1 .0 .0 .place) .twelve)
 
 rest-cast-if1 : (t : ℕ) → rest-lts.Need-cast-if1 (calls t) (rest-at t) rest.Post
 rest-cast-if1 t c =
     let s = c .before .before .before .before .before .before in
-    let a = s .args in
-    let z = sizes (a .w .now) (a .pw .now) (a .level) (a .scale) (getD (a .w .now) 3 0 * a .d) (s .pre .1 .0 .0) in
-    omega (arith, z .rounds)
+    let v = numbers (s .pre .1 .0 .0 .place) in
+    omega (arith, v .rounds, v .most-rounds)
 
 rest-slice-reshare-prefix-finals : (t : ℕ) → rest-lts.Need-slice-reshare-prefix-finals (calls t) (rest-at t) rest.Post
-rest-slice-reshare-prefix-finals t c = c .before .before .before .before .before .before .before .pre .1 .0 .1
+rest-slice-reshare-prefix-finals t c = c .before .before .before .before .before .before .before .pre .1 .0 .1 .1
 
 rest-slice-aggregate-finals : (t : ℕ) → rest-lts.Need-slice-aggregate-finals (calls t) (rest-at t) rest.Post
 rest-slice-aggregate-finals t c =
     let s = c .before .before .before .before .before .before .before .before in
-    sym (length-take-le (s .args .d) (s .args .g .now) (s .pre .1 .0 .1))
+    sym (length-take-le (s .args .d) (s .args .g .now) (s .pre .1 .0 .1 .1))
 
 rest-finals-requires : (t : ℕ) → rest-lts.Need-finals-requires (calls t) (rest-at t) rest.Post
 rest-finals-requires t c κs =
     let s = c .before .before .before .before .before .before .before .before .before in
     let a = s .args in
-    let n = length-take-le (a .d) (a .g .now) (s .pre .1 .0 .1) in
-    let e = words-last (a .w .now) (a .pw .now) (a .level) (a .scale) (a .d) (a .coins .now) (length (a .out .now)) (s .pre .1 .0 .0) (s .pre .1 .1 .0) (s .pre .1 .1 .1) (c .before .before .if1 .taken) in
+    let n = length-take-le (a .d) (a .g .now) (s .pre .1 .0 .1 .1) in
+    let st = s .pre .1 .0 .0 in
+    let e = words-last (st .place) (a .coins .now) (s .pre .1 .0 .1 .0) (s .pre .1 .1 .0) (s .pre .1 .1 .1) (last-level (st .place) (c .before .before .if1 .taken)) in
     omega (arith, n, e)
+
+rest-add-next : (t : ℕ) → rest-lts.Need-add-next (calls t) (rest-at t) rest.Post
+rest-add-next t c =
+    let s = c .before .before .before .before .before .before .before in
+    omega (arith, s .pre .1 .0 .0 .place .level, numbers (s .pre .1 .0 .0 .place) .most-rounds)
 
 rest-fold-length-requires : (t : ℕ) → rest-lts.Need-fold-length-requires (calls t) (rest-at t) rest.Post
 rest-fold-length-requires t c κs =
     let s = c .before .before .before .before .before .before .before in
-    let a = s .args in
-    let z = sizes (a .w .now) (a .pw .now) (a .level) (a .scale) (getD (a .w .now) 3 0 * a .d) (s .pre .1 .0 .0) in
-    (s .pre .1 .0 .0 .long, (omega (arith, z .fold), z .folds))
+    let st = s .pre .1 .0 .0 in
+    next-place st (not-last (st .place) (c .if1 .left))
 
 rest-round-coins-requires : (t : ℕ) → rest-lts.Need-round-coins-requires (calls t) (rest-at t) rest.Post
 rest-round-coins-requires t c κs =
     let s = c .before .before .before .before .before .before .before .before in
-    let a = s .args in
-    let z = sizes (a .w .now) (a .pw .now) (a .level) (a .scale) (getD (a .w .now) 3 0 * a .d) (s .pre .1 .0 .0) in
-    (s .pre .1 .0 .0 .long, (omega (arith, s .pre .1 .0 .0 .level, z .rounds), (z .outs, z .repetitions)))
+    let p = s .pre .1 .0 .0 .place in
+    let v = numbers p in
+    (v .twelve, (omega (arith, p .level, v .most-rounds), (omega (arith, v .outs, v .most-outs), omega (arith, v .repetitions, v .most-repetitions))))
 
 rest-round-words-requires : (t : ℕ) → rest-lts.Need-round-words-requires (calls t) (rest-at t) rest.Post
 rest-round-words-requires t c κs =
     let s = c .before .before .before .before .before .before .before .before .before in
     let a = s .args in
-    let z = sizes (a .w .now) (a .pw .now) (a .level) (a .scale) (getD (a .w .now) 3 0 * a .d) (s .pre .1 .0 .0) in (
-      (s .pre .1 .0 .0 .long, (omega (arith, s .pre .1 .0 .0 .level, z .rounds), (z .outs, z .repetitions))),
+    let p = s .pre .1 .0 .0 .place in
+    let v = numbers p in
+    let z = sizes (s .pre .1 .0 .0) in (
+      (v .twelve, (omega (arith, p .level, v .most-rounds), (omega (arith, v .outs, v .most-outs), omega (arith, v .repetitions, v .most-repetitions)))),
       (z .scaled, (z .small, omega (arith, z .points-most, div-le-self (length (a .pw .now)) (2 * a .scale)))),
     )
 
@@ -121,20 +127,12 @@ rest-step-requires : (t : ℕ) → rest-lts.Need-step-requires (calls t) (rest-a
 rest-step-requires t c κs =
     let s = c .before .before .before .before .before .before .before .before .before .before .before .before in
     let o = ahead t (c .before .before) in
-    ((s .pre .1 .0 .0, (o .more, o .fold)), ((o .round, s .pre .1 .0 .1), length-take-le (c .before .before .round-words .result) (s .args .out .now) (o .within) ∙ o .words))
-
-rest-add-rest : (t : ℕ) → rest-lts.Need-add-rest (calls t) (rest-at t) rest.Post
-rest-add-rest t c =
-    let s = c .before .before .before .before .before .before .before .before .before .before .before .before .before .before .before .before .before in
-    let a = s .args in
-    let z = sizes (a .w .now) (a .pw .now) (a .level) (a .scale) (getD (a .w .now) 3 0 * a .d) (s .pre .1 .0 .0) in
-    omega (arith, s .pre .1 .0 .0 .level, z .rounds)
+    ((s .pre .1 .0 .0, o .more), ((s .pre .1 .0 .1 .0, o .degree), ((o .round, s .pre .1 .0 .1 .1), length-take-le (c .before .before .round-words .result) (s .args .out .now) (o .within) ∙ o .words)))
 
 rest-mul-rest : (t : ℕ) → rest-lts.Need-mul-rest (calls t) (rest-at t) rest.Post
 rest-mul-rest t c =
     let s = c .before .before .before .before .before .before .before .before .before .before .before .before .before .before .before .before .before in
-    let a = s .args in
-    let z = sizes (a .w .now) (a .pw .now) (a .level) (a .scale) (getD (a .w .now) 3 0 * a .d) (s .pre .1 .0 .0) in
+    let z = sizes (s .pre .1 .0 .0) in
     omega (arith, z .small)
 
 rest-mul-rest-2 : (t : ℕ) → rest-lts.Need-mul-rest-2 (calls t) (rest-at t) rest.Post
@@ -159,7 +157,7 @@ rest-sub-rest-2 t c =
     let o = ahead t (c .before .before .before .before .before .before .before .before .before) in
     let n = c .before .before .before .before .before .before .before .before .before .round-words .result in
     let q = c .before .before .before .before .before .before .step in
-    omega (arith, o .within, begun-long (a .out .now) (q .last .1 .1 .1 .1 .1 .1 .1 .1 .0) n (o .within) (q .kept .1 .1 .1 .1 .1 .1 .1 .1 .0))
+    omega (arith, o .within, begun-long (a .out .now) (q .last .1 .1 .1 .1 .1 .1 .1 .1 .1 .0) n (o .within) (q .kept .1 .1 .1 .1 .1 .1 .1 .1 .1 .0))
 
 rest-part-rest-start-2 : (t : ℕ) → rest-lts.Need-part-rest-start-2 (calls t) (rest-at t) rest.Post
 rest-part-rest-start-2 t c =
@@ -168,7 +166,7 @@ rest-part-rest-start-2 t c =
     let o = ahead t (c .before .before .before .before .before .before .before .before .before) in
     let n = c .before .before .before .before .before .before .before .before .before .round-words .result in
     let q = c .before .before .before .before .before .before .step in
-    omega (arith, o .within, begun-long (a .out .now) (q .last .1 .1 .1 .1 .1 .1 .1 .1 .0) n (o .within) (q .kept .1 .1 .1 .1 .1 .1 .1 .1 .0))
+    omega (arith, o .within, begun-long (a .out .now) (q .last .1 .1 .1 .1 .1 .1 .1 .1 .1 .0) n (o .within) (q .kept .1 .1 .1 .1 .1 .1 .1 .1 .1 .0))
 
 rest-part-rest-end-2 : (t : ℕ) → rest-lts.Need-part-rest-end-2 (calls t) (rest-at t) rest.Post
 rest-part-rest-end-2 t c = search needs
@@ -180,13 +178,13 @@ rest-rest-requires t c κs =
     let o = ahead t (c .before .before .before .before .before .before .before .before .before .before) in
     let n = c .before .before .before .before .before .before .before .before .before .before .round-words .result in
     let q = c .before .before .before .before .before .before .before .step in
-    let z = sizes (a .w .now) (a .pw .now) (a .level) (a .scale) (getD (a .w .now) 3 0 * a .d) (s .pre .1 .0 .0) in
+    let v = numbers (s .pre .1 .0 .0 .place) in
     let l = all-left (c .before .before .before .before .before .before .before .before .before .before .before .round-coins .result) (a .coins .now) in
-    let g = q .kept .1 .1 .1 .1 .1 .1 .1 .0 in (
-      omega (arith, s .pre .0, o .more, z .rounds),
+    let g = q .kept .1 .1 .1 .1 .1 .1 .1 .1 .0 in (
+      omega (arith, s .pre .0, o .more, v .most-rounds),
       (
-        (o .next, omega (arith, o .fewer, g, s .pre .1 .0 .1)),
-        (subst (DealtFrom (a .w .now) (a .level + 1)) (sym l) (o .dealt), others-long (a .out .now) (q .last .1 .1 .1 .1 .1 .1 .1 .1 .0) n (o .within) (q .kept .1 .1 .1 .1 .1 .1 .1 .1 .0) ∙ o .left),
+        (o .next, (o .degree, omega (arith, o .fewer, g, s .pre .1 .0 .1 .1))),
+        (subst (DealtFrom (sheetOf (editionOf (a .e)) (a .w .now)) (a .level + 1)) (sym l) (o .dealt), others-long (a .out .now) (q .last .1 .1 .1 .1 .1 .1 .1 .1 .1 .0) n (o .within) (q .kept .1 .1 .1 .1 .1 .1 .1 .1 .1 .0) ∙ o .left),
       ),
     )
 
@@ -198,8 +196,9 @@ rest-same-length-2 t c = search needs
 
 rest-returns : (t : ℕ) → rest-lts.Need-returns (calls t) (rest-at t) rest.Post
 rest-returns t c =
-    let a = c .before .before .before .before .before .before .before .before .before .before .before .before .args in
-    words-end (a .w .now) (a .level) (take (a .d) (a .g .now)) (a .coins .now) (c .before .before .before .before .before .if1 .taken) (c .before .before .finals .ensures)
+    let s = c .before .before .before .before .before .before .before .before .before .before .before .before in
+    let a = s .args in
+    words-end (sheetOf (editionOf (a .e)) (a .w .now)) (a .level) (take (a .d) (a .g .now)) (a .coins .now) (last-level (s .pre .1 .0 .0 .place) (c .before .before .before .before .before .if1 .taken)) (c .before .before .finals .ensures)
 
 rest-same-length-3 : (t : ℕ) → rest-lts.Need-same-length-3 (calls t) (rest-at t) rest.Post
 rest-same-length-3 t c = search needs
@@ -212,7 +211,7 @@ rest-same-length-4 t c =
     let n = c .before .before .before .before .before .before .before .before .before .before .before .before .before .before .before .round-words .result in
     let q = c .before .before .before .before .before .before .before .before .before .before .before .before .step in
     let v = c .before .before .before .before .rest in
-    filled-long (a .out .now) (q .last .1 .1 .1 .1 .1 .1 .1 .1 .0) n (o .within) (q .kept .1 .1 .1 .1 .1 .1 .1 .1 .0) (v .last .1 .1 .1 .1 .1 .1 .1 .0) (v .kept .1 .1 .1 .1 .1 .1 .1 .0)
+    filled-long (a .out .now) (q .last .1 .1 .1 .1 .1 .1 .1 .1 .1 .0) n (o .within) (q .kept .1 .1 .1 .1 .1 .1 .1 .1 .1 .0) (v .last .1 .1 .1 .1 .1 .1 .1 .1 .0) (v .kept .1 .1 .1 .1 .1 .1 .1 .1 .0)
 
 rest-returns-2 : (t : ℕ) → rest-lts.Need-returns-2 (calls t) (rest-at t) rest.Post
 rest-returns-2 t c =
@@ -223,9 +222,9 @@ rest-returns-2 t c =
     let q = c .before .before .before .before .before .before .before .before .before .before .before .before .step in
     let v = c .before .before .before .before .rest in
     let u = c .before .before .before .before .before .before .before .before .before .before .before .before .before .before .before .before .round-coins in
-    words-join (a .w .now) (a .level) (take (a .d) (a .g .now)) (a .coins .now) (u .result) (o .more)
-    (joined (a .out .now) (q .last .1 .1 .1 .1 .1 .1 .1 .1 .0) n (o .within) (q .kept .1 .1 .1 .1 .1 .1 .1 .1 .0) (v .last .1 .1 .1 .1 .1 .1 .1 .0) refl refl)
-    (q .ensures .0) (q .ensures .1) (all-left (u .result) (a .coins .now)) (u .ensures) (v .ensures)
+    words-join (sheetOf (editionOf (a .e)) (a .w .now)) (a .level) (take (a .d) (a .g .now)) (a .coins .now) (u .result) (o .more)
+    (joined (a .out .now) (q .last .1 .1 .1 .1 .1 .1 .1 .1 .1 .0) n (o .within) (q .kept .1 .1 .1 .1 .1 .1 .1 .1 .1 .0) (v .last .1 .1 .1 .1 .1 .1 .1 .1 .0) refl refl)
+    (q .ensures .0) (q .ensures .1) (all-left (u .result) (a .coins .now)) (o .coins-are) (v .ensures)
 
 pub +rest-spec : {M : Type 1} → statement M
 +rest-spec = close μ-rest λ t. rest-lts.spec (calls t)
@@ -236,13 +235,13 @@ pub +rest-spec : {M : Type 1} → statement M
     (rest-slice-reshare-prefix-finals t)
     (rest-slice-aggregate-finals t)
     (rest-finals-requires t)
+    (rest-add-next t)
     (rest-fold-length-requires t)
     (rest-round-coins-requires t)
     (rest-round-words-requires t)
     (rest-slice-relend-prefix-step t)
     (rest-slice-aggregate-step t)
     (rest-step-requires t)
-    (rest-add-rest t)
     (rest-mul-rest t)
     (rest-mul-rest-2 t)
     (rest-sub-rest t)

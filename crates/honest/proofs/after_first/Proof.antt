@@ -3,11 +3,12 @@ use Prim.Native.Nat.{ℕ, _*_}
 use native.Mathlib.Omega.{arith}
 use mathlib.Core.List.{List, _∷_}
 use mathlib.Core.Path.{_∙_, ap, subst, sym}
-use lib.ListN.{length, getD, length-set}
+use lib.ListN.{getD, length-set}
 use lib.Seq.{length-take-le}
 use Rattle.domain.specs.Parts.{begun-long, front-stays}
-use Rattle.honest_words.specs.Sizes.{sizes}
-use Rattle.honest_words.specs.Standing.{DealtFrom, Standing, restFrom}
+use Rattle.definition.specs.Sheet.{sheetOf}
+use Rattle.edition.specs.Meaning.{editionOf}
+use Rattle.honest_words.specs.Standing.{DealtFrom, foldOf, restFrom}
 use Rattle.honest.proofs.Onward.{all-left, first-fold}
 use Rattle.honest.proofs.Stored.{stored-join, stored-long, stored-others}
 use borrow.Author.Needs.{needs}
@@ -19,32 +20,27 @@ shared-slice-read-r c = search needs
 
 fold-length-requires : tie.Need-fold-length-requires
 fold-length-requires c κs =
-    let s = c .before .before .before .before .before .before .before in
-    let a = s .args in
-    let z = sizes (a .w .now) (a .pw .now) 0 1 (length (a .f .now)) (s .pre .0 .0) in
-    (s .pre .0 .0 .long, (omega (arith, z .fold), z .folds))
+    c .before .before .before .before .before .before .before .pre .0 .0 .place
 
 slice-relend-prefix-fold : tie.Need-slice-relend-prefix-fold
 slice-relend-prefix-fold c =
     let s = c .before .before .before .before .before .before .before .before in
-    let a = s .args in
-    let p = first-fold (a .w .now) (a .pw .now) (length (a .f .now)) (c .fold-length .result) (length (a .g .now)) (s .pre .0 .0) (s .pre .0 .1) (c .fold-length .ensures) in
-    p .1
+    let p = first-fold (s .pre .0 .0 .place) (s .pre .0 .1 .0) (s .pre .0 .1 .1) (c .fold-length .ensures) in
+    p .within
 
 slice-aggregate-fold : tie.Need-slice-aggregate-fold
 slice-aggregate-fold c =
     let s = c .before .before .before .before .before .before .before .before .before in
     let a = s .args in
-    let p = first-fold (a .w .now) (a .pw .now) (length (a .f .now)) (c .before .fold-length .result) (length (a .g .now)) (s .pre .0 .0) (s .pre .0 .1) (c .before .fold-length .ensures) in
-    sym (length-take-le (c .before .fold-length .result) (a .g .now) (p .1))
+    let p = first-fold (s .pre .0 .0 .place) (s .pre .0 .1 .0) (s .pre .0 .1 .1) (c .before .fold-length .ensures) in
+    sym (length-take-le (c .before .fold-length .result) (a .g .now) (p .within))
 
 fold-requires : tie.Need-fold-requires
 fold-requires c κs =
     let s = c .before .before .before .before .before .before .before .before .before in
     let a = s .args in
-    let p = first-fold (a .w .now) (a .pw .now) (length (a .f .now)) (c .before .fold-length .result) (length (a .g .now)) (s .pre .0 .0) (s .pre .0 .1) (c .before .fold-length .ensures) in
-    let z = sizes (a .w .now) (a .pw .now) 0 1 (length (a .f .now)) (s .pre .0 .0) in
-    ((s .pre .0 .0 .long, (omega (arith, z .fold), z .folds)), p .0 ∙ ap (λ (m : ℕ). getD (a .w .now) 3 0 * m) (sym (length-take-le (c .before .fold-length .result) (a .g .now) (p .1))))
+    let p = first-fold (s .pre .0 .0 .place) (s .pre .0 .1 .0) (s .pre .0 .1 .1) (c .before .fold-length .ensures) in
+    (s .pre .0 .0 .place, p .fold ∙ ap (λ (m : ℕ). foldOf (sheetOf (editionOf (a .e)) (a .w .now)) 0 * m) (sym (length-take-le (c .before .fold-length .result) (a .g .now) (p .within))))
 
 slice-write-out : tie.Need-slice-write-out
 slice-write-out c = search needs
@@ -71,11 +67,11 @@ rest-requires : tie.Need-rest-requires
 rest-requires c κs =
     let s = c .before .before .before .before .before .before .before .before .before .before .before .before .before .before .before in
     let a = s .args in
-    let p = first-fold (a .w .now) (a .pw .now) (length (a .f .now)) (c .before .before .before .before .before .before .before .fold-length .result) (length (a .g .now)) (s .pre .0 .0) (s .pre .0 .1) (c .before .before .before .before .before .before .before .fold-length .ensures) in
-    let g = begun-long (a .g .now) (c .before .before .before .before .before .fold .last .1 .1 .1 .0) (c .before .before .before .before .before .before .before .fold-length .result) (p .1) (c .before .before .before .before .before .fold .kept .1 .1 .1 .0) in (
-      (subst (Standing (a .w .now) (a .pw .now) 0 1) (p .0) (s .pre .0 .0), omega (arith, g, p .1)),
+    let p = first-fold (s .pre .0 .0 .place) (s .pre .0 .1 .0) (s .pre .0 .1 .1) (c .before .before .before .before .before .before .before .fold-length .ensures) in
+    let g = begun-long (a .g .now) (c .before .before .before .before .before .fold .last .1 .1 .1 .1 .1 .0) (c .before .before .before .before .before .before .before .fold-length .result) (p .within) (c .before .before .before .before .before .fold .kept .1 .1 .1 .1 .1 .0) in (
+      (s .pre .0 .0, (p .degree, omega (arith, g, p .within))),
       (
-        subst (DealtFrom (a .w .now) 0) (sym (all-left 1 (a .coins .now))) (s .pre .1 .1 .0),
+        subst (DealtFrom (sheetOf (editionOf (a .e)) (a .w .now)) 0) (sym (all-left 1 (a .coins .now))) (s .pre .1 .1 .0),
         stored-others (a .out .now) (getD (a .coins .now) 0 0) ∙ omega (arith, s .pre .1 .1 .1),
       ),
     )
@@ -88,19 +84,19 @@ same-length-2 c =
     let s = c .before .before .before .before .before .before .before .before .before .before .before .before .before .before .before .before .before .before .before .before in
     let a = s .args in
     let v = c .before .before .before .before .rest in
-    stored-long (a .out .now) (getD (a .coins .now) 0 0) (v .last .1 .1 .1 .1 .1 .1 .1 .0) (omega (arith, s .pre .1 .1 .1)) (v .kept .1 .1 .1 .1 .1 .1 .1 .0)
+    stored-long (a .out .now) (getD (a .coins .now) 0 0) (v .last .1 .1 .1 .1 .1 .1 .1 .1 .0) (omega (arith, s .pre .1 .1 .1)) (v .kept .1 .1 .1 .1 .1 .1 .1 .1 .0)
 
 returns : tie.Need-returns
 returns c =
     let s = c .before .before .before .before .before .before .before .before .before .before .before .before .before .before .before .before .before .before .before .before in
     let a = s .args in
-    let p = first-fold (a .w .now) (a .pw .now) (length (a .f .now)) (c .before .before .before .before .before .before .before .before .before .before .before .before .fold-length .result) (length (a .g .now)) (s .pre .0 .0) (s .pre .0 .1) (c .before .before .before .before .before .before .before .before .before .before .before .before .fold-length .ensures) in
+    let p = first-fold (s .pre .0 .0 .place) (s .pre .0 .1 .0) (s .pre .0 .1 .1) (c .before .before .before .before .before .before .before .before .before .before .before .before .fold-length .ensures) in
     let r = getD (a .coins .now) 0 0 in
     let q = c .before .before .before .before .before .before .before .before .before .before .fold in
     let v = c .before .before .before .before .rest in
-    let g = front-stays (a .g .now) (q .last .1 .1 .1 .0) (c .before .before .before .before .before .before .before .before .before .before .before .before .fold-length .result) (p .1) (q .kept .1 .1 .1 .0) ∙ q .ensures in
-    stored-join (a .out .now) r (v .last .1 .1 .1 .1 .1 .1 .1 .0) (omega (arith, s .pre .1 .1 .1))
-    ∙ ap {B = List ℕ} (λ l. r ∷ l) (v .ensures (a .f .now) r (sym g) ∙ ap (restFrom (a .w .now) 0 (a .f .now) r) (all-left 1 (a .coins .now)))
+    let g = front-stays (a .g .now) (q .last .1 .1 .1 .1 .1 .0) (c .before .before .before .before .before .before .before .before .before .before .before .before .fold-length .result) (p .within) (q .kept .1 .1 .1 .1 .1 .0) ∙ q .ensures in
+    stored-join (a .out .now) r (v .last .1 .1 .1 .1 .1 .1 .1 .1 .0) (omega (arith, s .pre .1 .1 .1))
+    ∙ ap {B = List ℕ} (λ l. r ∷ l) (v .ensures (a .f .now) r (sym g) ∙ ap (restFrom (sheetOf (editionOf (a .e)) (a .w .now)) 0 (a .f .now) r) (all-left 1 (a .coins .now)))
 
 pub after-first-spec : {M : Type 1} → statement M
 after-first-spec =

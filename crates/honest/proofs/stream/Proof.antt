@@ -1,12 +1,16 @@
 -- `honest::stream` meets its contract. Assumes nothing.
 use native.Mathlib.Omega.{arith}
-use Rattle.completeness.specs.Allowed.{allowed-long}
+use Rattle.completeness.specs.Allowed.{allowed-enough}
+use Rattle.completeness.specs.SheetRules.{long-enough}
+use Rattle.edition.specs.Meaning.{editionOf}
 use borrow.Author.Needs.{needs}
 use Rattle.honest.proofs.stream.Statement.{statement}
 use Rattle.honest.proofs.stream.Tie as tie
 
 shared-slice-read-if1 : tie.Need-shared-slice-read-if1
-shared-slice-read-if1 c = omega (arith, allowed-long (c .before .before .before .before .before .pre .0))
+shared-slice-read-if1 c =
+    let s = c .before .before .before .before .before in
+    omega (arith, long-enough (editionOf (s .args .e)) (s .args .w .now) (allowed-enough (s .pre .0)))
 
 stream-with-few-requires : tie.Need-stream-with-few-requires
 stream-with-few-requires c κs = search needs

@@ -1,7 +1,10 @@
 -- `honest::stream_with_all` meets its contract: the table of points, and the stream by it; the places are enough for every sheet. Assumes nothing.
 use native.Mathlib.Omega.{arith}
-use Rattle.completeness.specs.Allowed.{allowed-long}
-use Rattle.sheet.specs.Bounds.{ranges}
+use Rattle.completeness.specs.Allowed.{allowed-enough}
+use Rattle.completeness.specs.SheetRules.{long-enough}
+use Rattle.domain.specs.OfSheet.{fitting, points-of-sheet}
+use Rattle.edition.specs.Meaning.{editionOf}
+use Rattle.honest.specs.Beginning.{first-half}
 use borrow.Author.Needs.{needs}
 use Rattle.honest.proofs.stream_with_all.Statement.{statement}
 use Rattle.honest.proofs.stream_with_all.Tie as tie
@@ -18,8 +21,9 @@ slice-aggregate-of-sheet c = search needs
 of-sheet-requires : tie.Need-of-sheet-requires
 of-sheet-requires c κs =
     let s = c .before .before .before .before .before .before .before in
+    let a = s .args in
     let ok = s .pre .0 in
-    ((omega (arith, allowed-long ok), ok .sheet), c .before .before .points-room .ensures)
+    ((long-enough (editionOf (a .e)) (a .w .now) (allowed-enough ok), fitting (editionOf (a .e)) (a .w .now) (allowed-enough ok) (ok .sheet)), c .before .before .points-room .ensures)
 
 array-share-prefix-pw : tie.Need-array-share-prefix-pw
 array-share-prefix-pw c = search needs
@@ -34,9 +38,10 @@ stream-by-requires : tie.Need-stream-by-requires
 stream-by-requires c κs =
     let s = c .before .before .before .before .before .before .before .before .before .before .before .before in
     let ok = s .pre .0 in
-    let r = ranges (s .args .w .now) (ok .sheet) in
+    let a = s .args in
+    let d = c .before .before .before .before .of-sheet in
     let g = c .before .before .before .before .before .before .fold-room in
-    ((ok, omega (arith, r .degree, r .size, g .ensures)), (c .before .before .before .before .of-sheet .ensures .1, s .pre .1))
+    ((ok, omega (arith, first-half ok, d .ensures .0, g .ensures)), ((points-of-sheet (editionOf (a .e)) (a .w .now) _ (d .ensures .1 .0), d .ensures .1 .1), s .pre .1))
 
 same-length : tie.Need-same-length
 same-length c = search needs

@@ -1,11 +1,13 @@
 -- `honest::transcript` meets its contract. Assumes nothing.
 use native.Mathlib.Omega.{arith}
 use mathlib.Core.Path.{_∙_, refl, sym}
-use lib.ListN.{length, getD}
+use lib.ListN.{length}
 use lib.Seq.{length-take-le}
+use Rattle.definition.specs.Sheet.{sheetOf}
 use Rattle.completeness.specs.LevelsByNumber.{undivided}
 use Rattle.completeness.specs.Numbered.{levelOf}
 use Rattle.domain.specs.Parts.{joined, others-long}
+use Rattle.edition.specs.Meaning.{editionOf}
 use Rattle.honest_words.specs.Standing.{openingFrom}
 use borrow.Author.Needs.{needs}
 use Rattle.honest.proofs.transcript.Statement.{statement}
@@ -18,15 +20,15 @@ slice-aggregate-table : tie.Need-slice-aggregate-table
 slice-aggregate-table c =
     let s = c .before .before .before .before .before .before .before in
     let a = s .args in
-    let n = length-take-le (length (a .pw .now)) (a .out .now) (omega (arith, s .pre .0 .0 .points, s .pre .1 .1 .1)) in
+    let n = length-take-le (length (a .pw .now)) (a .out .now) (omega (arith, s .pre .1 .1 .1)) in
     sym n
 
 table-requires : tie.Need-table-requires
 table-requires c κs =
     let s = c .before .before .before .before .before .before .before in
     let a = s .args in
-    let n = length-take-le (length (a .pw .now)) (a .out .now) (omega (arith, s .pre .0 .0 .points, s .pre .1 .1 .1)) in
-    record { number = 0; standing = s .pre .0 .0; size = n ∙ s .pre .0 .0 .points ∙ sym (undivided (getD (a .w .now) 1 0) 2) }
+    let n = length-take-le (length (a .pw .now)) (a .out .now) (omega (arith, s .pre .1 .1 .1)) in
+    record { number = 0; standing = s .pre .0 .0; degree = s .pre .0 .1 .0; size = n ∙ s .pre .0 .0 .points ∙ sym (undivided (sheetOf (editionOf (a .e)) (a .w .now) .size)) }
 
 mul-after-first : tie.Need-mul-after-first
 mul-after-first c = search needs
@@ -45,8 +47,8 @@ after-first-requires c κs =
     let s = c .before .before .before .before .before .before .before .before .before .before .before .before in
     let a = s .args in
     let t = c .before .before .before .before .table in
-    let n = others-long (a .out .now) (t .last .1 .1 .1 .1 .0) (length (a .pw .now)) (omega (arith, s .pre .0 .0 .points, s .pre .1 .1 .1)) (t .kept .1 .1 .1 .1 .0) in
-    (s .pre .0, (s .pre .1 .0, (s .pre .1 .1 .0, n ∙ omega (arith, s .pre .0 .0 .points, s .pre .1 .1 .1))))
+    let n = others-long (a .out .now) (t .last .1 .1 .1 .1 .1 .0) (length (a .pw .now)) (omega (arith, s .pre .1 .1 .1)) (t .kept .1 .1 .1 .1 .1 .0) in
+    (s .pre .0, (s .pre .1 .0, (s .pre .1 .1 .0, n ∙ omega (arith, s .pre .1 .1 .1))))
 
 same-length : tie.Need-same-length
 same-length c = search needs
@@ -58,12 +60,12 @@ returns : tie.Need-returns
 returns c =
     let s = c .before .before .before .before .before .before .before .before .before .before .before .before .before .before .before .before .before in
     let a = s .args in
-    let n = length-take-le (length (a .pw .now)) (a .out .now) (omega (arith, s .pre .0 .0 .points, s .pre .1 .1 .1)) in
+    let n = length-take-le (length (a .pw .now)) (a .out .now) (omega (arith, s .pre .1 .1 .1)) in
     let t = c .before .before .before .before .before .before .before .before .before .table in
     let v = c .before .before .before .before .after-first in
-    let own = t .ensures (levelOf (a .w .now) 0) refl (sym (n ∙ s .pre .0 .0 .points ∙ sym (undivided (getD (a .w .now) 1 0) 2))) in
-    joined (a .out .now) (t .last .1 .1 .1 .1 .0) (length (a .pw .now)) (omega (arith, s .pre .0 .0 .points, s .pre .1 .1 .1)) (t .kept .1 .1 .1 .1 .0) (v .last .1 .1 .1 .1 .1 .0)
-    {y = openingFrom (a .w .now) (a .f .now) (a .coins .now)} own (v .ensures)
+    let own = t .ensures (levelOf (sheetOf (editionOf (a .e)) (a .w .now)) 0) refl (sym (n ∙ s .pre .0 .0 .points ∙ sym (undivided (sheetOf (editionOf (a .e)) (a .w .now) .size)))) in
+    joined (a .out .now) (t .last .1 .1 .1 .1 .1 .0) (length (a .pw .now)) (omega (arith, s .pre .1 .1 .1)) (t .kept .1 .1 .1 .1 .1 .0) (v .last .1 .1 .1 .1 .1 .1 .0)
+    {y = openingFrom (sheetOf (editionOf (a .e)) (a .w .now)) (a .f .now) (a .coins .now)} own (v .ensures)
 
 pub transcript-spec : {M : Type 1} → statement M
 transcript-spec =

@@ -1,6 +1,6 @@
 -- `honest_round::step` meets its contract: the places are enough. Assumes nothing.
 use native.Mathlib.Omega.{arith}
-use Rattle.honest_words.specs.Sizes.{fold-most}
+use Rattle.honest_words.specs.Sizes.{sizes}
 use borrow.Author.Needs.{needs}
 use Rattle.honest_round.proofs.step.Statement.{statement}
 use Rattle.honest_round.proofs.step.Tie as tie
@@ -14,7 +14,7 @@ slice-aggregate-step-by c = search needs
 step-by-requires : tie.Need-step-by-requires
 step-by-requires c κs =
     let s = c .before .before .before .before .before .before .before .before .before .before in
-    (s .pre .0, ((s .pre .1 .0 .0, (s .pre .1 .0 .1, omega (arith, c .before .before .before .few-fold-room .ensures, c .before .before .before .before .if1 .taken))), s .pre .1 .1))
+    (s .pre .0, (s .pre .1 .0, ((s .pre .1 .1 .0 .0, (s .pre .1 .1 .0 .1, omega (arith, c .before .before .before .few-fold-room .ensures, c .before .before .before .before .if1 .taken))), s .pre .1 .1 .1)))
 
 fold-room-requires : tie.Need-fold-room-requires
 fold-room-requires c κs = search needs
@@ -25,9 +25,7 @@ slice-aggregate-step-by-2 c = search needs
 step-by-requires-2 : tie.Need-step-by-requires-2
 step-by-requires-2 c κs =
     let s = c .before .before .before .before .before .before .before .before .before .before in
-    let a = s .args in
-    let most = fold-most (a .w .now) (a .pw .now) (a .level) (a .scale) (a .d) (s .pre .0 .0) in
-    (s .pre .0, ((s .pre .1 .0 .0, (s .pre .1 .0 .1, omega (arith, c .before .before .before .fold-room .ensures, most))), s .pre .1 .1))
+    (s .pre .0, (s .pre .1 .0, ((s .pre .1 .1 .0 .0, (s .pre .1 .1 .0 .1, omega (arith, c .before .before .before .fold-room .ensures, s .pre .1 .0 .0, sizes (s .pre .0 .0) .most))), s .pre .1 .1 .1)))
 
 same-length : tie.Need-same-length
 same-length c = search needs

@@ -1,12 +1,15 @@
 -- `honest_round::step_by` meets its contract: the fold stands at the front of g, for the words and for the correction, and then the next one. Assumes nothing.
-use Prim.Native.Nat.{ℕ, _*_, _≤_}
+use Prim.Native.Nat.{ℕ, _+_, _*_}
 use native.Mathlib.Omega.{arith}
 use mathlib.Core.Path.{_∙_, ap, sym}
-use lib.ListN.{length, getD}
+use lib.ListN.{getD}
 use lib.Seq.{length-take-le}
-use Rattle.domain.specs.Parts.{front-there}
-use Rattle.honest_words.specs.Sizes.{sizes}
-use Rattle.honest_round.proofs.Rounds.{fewer, folded-next, lent}
+use Rattle.domain.specs.Parts.{begun-long, front-there}
+use Rattle.definition.specs.Sheet.{sheetOf}
+use Rattle.edition.specs.Meaning.{editionOf}
+use Rattle.honest_words.specs.Sizes.{multiplied, next-place, numbers}
+use Rattle.honest_words.specs.Standing.{foldOf}
+use Rattle.honest_round.proofs.Rounds.{folded-next, room}
 use borrow.Author.Needs.{needs}
 use Rattle.honest_round.proofs.step_by.Statement.{statement}
 use Rattle.honest_round.proofs.step_by.Tie as tie
@@ -17,14 +20,14 @@ slice-reshare-prefix-round c = search needs
 slice-aggregate-round : tie.Need-slice-aggregate-round
 slice-aggregate-round c =
     let s = c .before .before .before .before .before .before .before in
-    sym (length-take-le (s .args .d) (s .args .g .now) (s .pre .1 .0 .1 .0))
+    sym (length-take-le (s .args .d) (s .args .g .now) (s .pre .1 .1 .0 .1 .0))
 
 round-requires : tie.Need-round-requires
 round-requires c κs =
     let s = c .before .before .before .before .before .before .before .before in
     let a = s .args in
-    let n = length-take-le (a .d) (a .g .now) (s .pre .1 .0 .1 .0) in
-    ((lent (a .w .now) (a .pw .now) (a .level) (a .scale) (a .d) (s .pre .0 .0) n, s .pre .0 .1 .0), (s .pre .1 .0 .0, s .pre .1 .1))
+    let n = length-take-le (a .d) (a .g .now) (s .pre .1 .1 .0 .1 .0) in
+    ((s .pre .0 .0, s .pre .0 .1), (n ∙ s .pre .1 .0 .0, (s .pre .1 .1 .0 .0, s .pre .1 .1 .1)))
 
 slice-relend-prefix-correct : tie.Need-slice-relend-prefix-correct
 slice-relend-prefix-correct c = search needs
@@ -32,54 +35,63 @@ slice-relend-prefix-correct c = search needs
 slice-aggregate-correct : tie.Need-slice-aggregate-correct
 slice-aggregate-correct c =
     let s = c .before .before .before .before .before .before .before .before .before .before .before .before .before in
-    sym (length-take-le (s .args .d) (s .args .next .now) (s .pre .1 .0 .1 .1))
+    sym (length-take-le (s .args .d) (s .args .next .now) (s .pre .1 .1 .0 .1 .1))
 
 correct-requires : tie.Need-correct-requires
 correct-requires c κs =
     let s = c .before .before .before .before .before .before .before .before .before .before .before .before .before in
     let a = s .args in
-    let n = length-take-le (a .d) (a .next .now) (s .pre .1 .0 .1 .1) in
-    ((lent (a .w .now) (a .pw .now) (a .level) (a .scale) (a .d) (s .pre .0 .0) n, s .pre .0 .1 .0), (s .pre .1 .0 .0, omega (arith, n, s .pre .1 .0 .1 .0)))
+    let n = length-take-le (a .d) (a .next .now) (s .pre .1 .1 .0 .1 .1) in
+    ((s .pre .0 .0, s .pre .0 .1), (n ∙ s .pre .1 .0 .0, (s .pre .1 .1 .0 .0, omega (arith, n, s .pre .1 .1 .0 .1 .0))))
+
+add-fold : tie.Need-add-fold
+add-fold c =
+    let s = c .before .before .before .before .before .before .before .before .before .before .before .before .before .before .before .before .before .before in
+    omega (arith, s .pre .0 .1, numbers (s .pre .0 .0 .place) .most-rounds)
 
 fold-coin-requires : tie.Need-fold-coin-requires
-fold-coin-requires c κs = search needs
+fold-coin-requires c κs =
+    let s = c .before .before .before .before .before .before .before .before .before .before .before .before .before .before .before .before .before .before in
+    let v = numbers (s .pre .0 .0 .place) in
+    (v .twelve, omega (arith, v .outs, s .pre .1 .1 .0 .0 .there))
 
 slice-reshare-prefix-fold : tie.Need-slice-reshare-prefix-fold
-slice-reshare-prefix-fold c = search needs
+slice-reshare-prefix-fold c =
+    let s = c .before .before .before .before .before .before .before .before .before .before .before .before .before .before .before .before .before .before .before in
+    let q = c .before .before .before .before .before .correct in
+    let fits = s .pre .1 .1 .0 .1 .1 in
+    omega (arith, fits, begun-long (s .args .next .now) (q .last .1 .1 .1 .1 .1 .1 .1 .0) (s .args .d) fits (q .kept .1 .1 .1 .1 .1 .1 .1 .0))
 
 slice-aggregate-fold : tie.Need-slice-aggregate-fold
 slice-aggregate-fold c =
     let s = c .before .before .before .before .before .before .before .before .before .before .before .before .before .before .before .before .before .before .before .before in
     let q = c .before .before .before .before .before .before .correct in
-    sym (front-there (s .args .next .now) (q .last .1 .1 .1 .1 .1 .1 .0) (s .args .d) (s .pre .1 .0 .1 .1) (q .kept .1 .1 .1 .1 .1 .1 .0))
+    sym (front-there (s .args .next .now) (q .last .1 .1 .1 .1 .1 .1 .1 .0) (s .args .d) (s .pre .1 .1 .0 .1 .1) (q .kept .1 .1 .1 .1 .1 .1 .1 .0))
 
 slice-relend-prefix-fold : tie.Need-slice-relend-prefix-fold
 slice-relend-prefix-fold c =
     let s = c .before .before .before .before .before .before .before .before .before .before .before .before .before .before .before .before .before .before .before .before in
-    let a = s .args in
-    let z = sizes (a .w .now) (a .pw .now) (a .level) (a .scale) (getD (a .w .now) 3 0 * a .d) (s .pre .0 .0) in
-    let few = fewer (getD (a .w .now) 3 0) (a .d) (a .folded) (length (a .g .now)) (omega (arith, z .fold)) (s .pre .0 .1 .1) (s .pre .1 .0 .1 .0) in
-    omega (arith, few, c .before .before .before .before .before .before .correct .kept .1 .1 .1 .1 .1 .0)
+    let few = room (s .pre .0 .0) (s .pre .0 .1) (s .pre .1 .0 .0) (s .pre .1 .0 .1) (s .pre .1 .1 .0 .1 .0) in
+    omega (arith, few, c .before .before .before .before .before .before .correct .kept .1 .1 .1 .1 .1 .1 .0)
 
 slice-aggregate-fold-2 : tie.Need-slice-aggregate-fold-2
 slice-aggregate-fold-2 c =
     let s = c .before .before .before .before .before .before .before .before .before .before .before .before .before .before .before .before .before .before .before .before .before in
     let a = s .args in
     let q = c .before .before .before .before .before .before .before .correct in
-    let z = sizes (a .w .now) (a .pw .now) (a .level) (a .scale) (getD (a .w .now) 3 0 * a .d) (s .pre .0 .0) in
-    let few = fewer (getD (a .w .now) 3 0) (a .d) (a .folded) (length (a .g .now)) (omega (arith, z .fold)) (s .pre .0 .1 .1) (s .pre .1 .0 .1 .0) in
-    sym (length-take-le (a .folded) (q .last .1 .1 .1 .1 .1 .0) (omega (arith, few, q .kept .1 .1 .1 .1 .1 .0)))
+    let few = room (s .pre .0 .0) (s .pre .0 .1) (s .pre .1 .0 .0) (s .pre .1 .0 .1) (s .pre .1 .1 .0 .1 .0) in
+    sym (length-take-le (a .folded) (q .last .1 .1 .1 .1 .1 .1 .0) (omega (arith, few, q .kept .1 .1 .1 .1 .1 .1 .0)))
 
 fold-requires : tie.Need-fold-requires
 fold-requires c κs =
     let s = c .before .before .before .before .before .before .before .before .before .before .before .before .before .before .before .before .before .before .before .before .before in
     let a = s .args in
     let q = c .before .before .before .before .before .before .before .correct in
-    let z = sizes (a .w .now) (a .pw .now) (a .level) (a .scale) (getD (a .w .now) 3 0 * a .d) (s .pre .0 .0) in
-    let few = fewer (getD (a .w .now) 3 0) (a .d) (a .folded) (length (a .g .now)) (omega (arith, z .fold)) (s .pre .0 .1 .1) (s .pre .1 .0 .1 .0) in
-    let n = front-there (a .next .now) (q .last .1 .1 .1 .1 .1 .1 .0) (a .d) (s .pre .1 .0 .1 .1) (q .kept .1 .1 .1 .1 .1 .1 .0) in
-    let m = length-take-le (a .folded) (q .last .1 .1 .1 .1 .1 .0) (omega (arith, few, q .kept .1 .1 .1 .1 .1 .0)) in
-    ((s .pre .0 .0 .long, (omega (arith, z .fold), z .folds)), n ∙ s .pre .0 .1 .1 ∙ ap (λ (j : ℕ). getD (a .w .now) 3 0 * j) (sym m))
+    let few = room (s .pre .0 .0) (s .pre .0 .1) (s .pre .1 .0 .0) (s .pre .1 .0 .1) (s .pre .1 .1 .0 .1 .0) in
+    let p = next-place (s .pre .0 .0) (s .pre .0 .1) in
+    let n = front-there (a .next .now) (q .last .1 .1 .1 .1 .1 .1 .1 .0) (a .d) (s .pre .1 .1 .0 .1 .1) (q .kept .1 .1 .1 .1 .1 .1 .1 .0) in
+    let m = length-take-le (a .folded) (q .last .1 .1 .1 .1 .1 .1 .0) (omega (arith, few, q .kept .1 .1 .1 .1 .1 .1 .0)) in
+    (p, n ∙ s .pre .1 .0 .0 ∙ multiplied p ∙ ap (λ (j : ℕ). foldOf (sheetOf (editionOf (a .e)) (a .w .now)) (a .level + 1) * j) (sym (m ∙ s .pre .1 .0 .1)))
 
 same-length : tie.Need-same-length
 same-length c = search needs
@@ -96,11 +108,10 @@ returns c =
     let a = s .args in
     let q = c .before .before .before .before .before .before .before .before .before .before .correct in
     let v = c .before .before .fold in
-    let z = sizes (a .w .now) (a .pw .now) (a .level) (a .scale) (getD (a .w .now) 3 0 * a .d) (s .pre .0 .0) in
-    let few = fewer (getD (a .w .now) 3 0) (a .d) (a .folded) (length (a .g .now)) (omega (arith, z .fold)) (s .pre .0 .1 .1) (s .pre .1 .0 .1 .0) in (
+    let few = room (s .pre .0 .0) (s .pre .0 .1) (s .pre .1 .0 .0) (s .pre .1 .0 .1) (s .pre .1 .1 .0 .1 .0) in (
       c .before .before .before .before .before .before .before .before .before .before .before .before .before .before .before .round .ensures,
-      folded-next (a .w .now) (a .level) (a .d) (a .folded) (a .coins .now) (a .g .now) (q .last .1 .1 .1 .1 .1 .0) (a .next .now) (q .last .1 .1 .1 .1 .1 .1 .0) (v .last .1 .1 .1 .0)
-          (s .pre .1 .0 .1 .1) (q .kept .1 .1 .1 .1 .1 .1 .0) (q .ensures) (c .before .before .before .before .before .fold-coin .ensures) (omega (arith, few, q .kept .1 .1 .1 .1 .1 .0)) (v .kept .1 .1 .1 .0) (v .ensures),
+      folded-next (sheetOf (editionOf (a .e)) (a .w .now)) (a .level) (a .d) (a .folded) (a .coins .now) (a .g .now) (q .last .1 .1 .1 .1 .1 .1 .0) (a .next .now) (q .last .1 .1 .1 .1 .1 .1 .1 .0) (v .last .1 .1 .1 .1 .1 .0)
+          (s .pre .1 .1 .0 .1 .1) (q .kept .1 .1 .1 .1 .1 .1 .1 .0) (q .ensures) (c .before .before .before .before .before .fold-coin .ensures ∙ ap (λ (n : ℕ). getD (a .coins .now) (n + 1) 0) (sym (numbers (s .pre .0 .0 .place) .outs))) (omega (arith, few, q .kept .1 .1 .1 .1 .1 .1 .0)) (v .kept .1 .1 .1 .1 .1 .0) (v .ensures),
     )
 
 pub step-by-spec : {M : Type 1} → statement M
@@ -113,6 +124,7 @@ step-by-spec =
     slice-relend-prefix-correct
     slice-aggregate-correct
     correct-requires
+    add-fold
     fold-coin-requires
     slice-reshare-prefix-fold
     slice-aggregate-fold

@@ -2,10 +2,12 @@
 use Prim.Native.Nat.{_+_, _*_, _/_}
 use native.Mathlib.Omega.{arith}
 use mathlib.Core.Path.{_∙_, sym}
-use lib.ListN.{length, getD, take}
+use lib.ListN.{length}
 use lib.Seq.{length-take-le}
 use Rattle.completeness.specs.Numbered.{levelOf}
-use Rattle.honest_words.specs.Sizes.{next-on-level, next-scale, next-size, sizes}
+use Rattle.edition.specs.Meaning.{editionOf}
+use Rattle.definition.specs.Sheet.{sheetOf}
+use Rattle.honest_words.specs.Sizes.{field-word, next-on-level, next-scale, next-size, numbers, sizes}
 use Rattle.domain.specs.Parts.{begun-long, joined, others-long}
 use Rattle.honest_words.proofs.Words.{later-long, outs-long, round-is}
 use borrow.Author.Needs.{needs}
@@ -13,126 +15,149 @@ use Rattle.honest_words.proofs.round.Statement.{statement}
 use Rattle.honest_words.proofs.round.Tie as tie
 
 shared-slice-read-s : tie.Need-shared-slice-read-s
-shared-slice-read-s c = search needs
+shared-slice-read-s c =
+    let s = c .before .before .before .before .before .before in
+    let v = numbers (s .pre .0 .0 .place) in
+    omega (arith, v .twelve, v .outs, v .most-outs, v .repetitions, v .most-repetitions, s .pre .1 .1 .0 .there)
 
 cast-s : tie.Need-cast-s
-cast-s c = search needs
+cast-s c =
+    let s = c .before .before .before .before .before .before in
+    let v = numbers (s .pre .0 .0 .place) in
+    omega (arith, v .twelve, v .outs, v .most-outs, v .repetitions, v .most-repetitions, s .pre .1 .1 .0 .there)
 
 add-t : tie.Need-add-t
 add-t c =
     let s = c .before .before .before .before .before .before in
-    let a = s .args in
-    let z = sizes (a .w .now) (a .pw .now) (a .level) (a .scale) (getD (a .w .now) 3 0 * length (a .g .now)) (s .pre .0 .0) in
-    omega (arith, z .rounds, s .pre .0 .1)
+    let v = numbers (s .pre .0 .0 .place) in
+    omega (arith, v .most-rounds, s .pre .0 .1)
 
 mul-t : tie.Need-mul-t
 mul-t c =
     let s = c .before .before .before .before .before .before in
-    let a = s .args in
-    let z = sizes (a .w .now) (a .pw .now) (a .level) (a .scale) (getD (a .w .now) 3 0 * length (a .g .now)) (s .pre .0 .0) in
-    omega (arith, z .rounds, s .pre .0 .1)
+    let v = numbers (s .pre .0 .0 .place) in
+    omega (arith, v .most-rounds, s .pre .0 .1)
 
 shared-slice-read-t : tie.Need-shared-slice-read-t
 shared-slice-read-t c =
     let s = c .before .before .before .before .before .before .before in
-    let a = s .args in
-    let z = sizes (a .w .now) (a .pw .now) (a .level) (a .scale) (getD (a .w .now) 3 0 * length (a .g .now)) (s .pre .0 .0) in
-    omega (arith, z .rounds, s .pre .0 .1, s .pre .0 .0 .long)
+    let v = numbers (s .pre .0 .0 .place) in
+    omega (arith, v .most-rounds, s .pre .0 .1, v .twelve)
 
 cast-t : tie.Need-cast-t
-cast-t c = search needs
+cast-t c =
+    let s = c .before .before .before .before .before .before .before in
+    let v = numbers (s .pre .0 .0 .place) in
+    omega (arith, v .twelve, v .outs, v .most-outs, v .repetitions, v .most-repetitions, s .pre .1 .1 .0 .there)
 
 mul-n : tie.Need-mul-n
 mul-n c =
     let s = c .before .before .before .before .before .before .before in
-    let a = s .args in
-    let z = sizes (a .w .now) (a .pw .now) (a .level) (a .scale) (getD (a .w .now) 3 0 * length (a .g .now)) (s .pre .0 .0) in
+    let z = sizes (s .pre .0 .0) in
     omega (arith, z .small)
 
 div-n : tie.Need-div-n
 div-n c =
     let s = c .before .before .before .before .before .before .before in
-    let a = s .args in
-    let z = sizes (a .w .now) (a .pw .now) (a .level) (a .scale) (getD (a .w .now) 3 0 * length (a .g .now)) (s .pre .0 .0) in
+    let z = sizes (s .pre .0 .0) in
     omega (arith, z .scaled)
 
 mul-table : tie.Need-mul-table
 mul-table c =
     let s = c .before .before .before .before .before .before .before in
-    let a = s .args in
-    let z = sizes (a .w .now) (a .pw .now) (a .level) (a .scale) (getD (a .w .now) 3 0 * length (a .g .now)) (s .pre .0 .0) in
+    let z = sizes (s .pre .0 .0) in
     omega (arith, z .small)
 
 slice-relend-prefix-table : tie.Need-slice-relend-prefix-table
 slice-relend-prefix-table c =
     let s = c .before .before .before .before .before .before .before in
-    let a = s .args in
-    let e = next-size (a .w .now) (a .pw .now) (a .level) (a .scale) (length (a .g .now)) (s .pre .0 .0) in
-    omega (arith, e, s .pre .1 .1)
+    let e = next-size (s .pre .0 .0) in
+    omega (arith, e, s .pre .1 .1 .1)
 
 slice-aggregate-table : tie.Need-slice-aggregate-table
 slice-aggregate-table c =
     let s = c .before .before .before .before .before .before .before .before in
     let a = s .args in
-    let e = next-size (a .w .now) (a .pw .now) (a .level) (a .scale) (length (a .g .now)) (s .pre .0 .0) in
-    sym (length-take-le (length (a .pw .now) / (2 * a .scale)) (a .out .now) (omega (arith, e, s .pre .1 .1)))
+    let e = next-size (s .pre .0 .0) in
+    sym (length-take-le (length (a .pw .now) / (2 * a .scale)) (a .out .now) (omega (arith, e, s .pre .1 .1 .1)))
 
 table-requires : tie.Need-table-requires
 table-requires c κs =
     let s = c .before .before .before .before .before .before .before .before in
     let a = s .args in
-    let e = next-size (a .w .now) (a .pw .now) (a .level) (a .scale) (length (a .g .now)) (s .pre .0 .0) in
-    let n = length-take-le (length (a .pw .now) / (2 * a .scale)) (a .out .now) (omega (arith, e, s .pre .1 .1)) in
-    next-on-level (a .w .now) (a .pw .now) (a .level) (a .scale) (length (a .g .now)) (s .pre .0 .0) (length (take (length (a .pw .now) / (2 * a .scale)) (a .out .now))) n (s .pre .0 .1)
+    let e = next-size (s .pre .0 .0) in
+    let n = length-take-le (length (a .pw .now) / (2 * a .scale)) (a .out .now) (omega (arith, e, s .pre .1 .1 .1)) in
+    next-on-level (s .pre .0 .0) (s .pre .0 .1) _ _ (s .pre .1 .0) n
 
 shared-slice-read-after-table : tie.Need-shared-slice-read-after-table
-shared-slice-read-after-table c = search needs
+shared-slice-read-after-table c =
+    let s = c .before .before .before .before .before .before .before .before .before .before .before .before in
+    let v = numbers (s .pre .0 .0 .place) in
+    omega (arith, v .twelve, v .outs, v .most-outs, v .repetitions, v .most-repetitions, s .pre .1 .1 .0 .there)
 
 slice-aggregate-after-table : tie.Need-slice-aggregate-after-table
 slice-aggregate-after-table c =
     let s = c .before .before .before .before .before .before .before .before .before .before .before .before .before in
-    sym (outs-long (s .args .w .now) (s .args .level) (s .args .coins .now) (s .pre .1 .0))
+    let v = numbers (s .pre .0 .0 .place) in
+    sym (outs-long (s .pre .1 .1 .0) (v .outs) (v .repetitions))
 
 add-after-table : tie.Need-add-after-table
-add-after-table c = search needs
+add-after-table c =
+    let s = c .before .before .before .before .before .before .before .before .before .before .before .before .before in
+    let v = numbers (s .pre .0 .0 .place) in
+    omega (arith, v .twelve, v .outs, v .most-outs, v .repetitions, v .most-repetitions, s .pre .1 .1 .0 .there)
 
 add-after-table-2 : tie.Need-add-after-table-2
-add-after-table-2 c = search needs
+add-after-table-2 c =
+    let s = c .before .before .before .before .before .before .before .before .before .before .before .before .before in
+    let v = numbers (s .pre .0 .0 .place) in
+    omega (arith, v .twelve, v .outs, v .most-outs, v .repetitions, v .most-repetitions, s .pre .1 .1 .0 .there)
 
 mul-after-table : tie.Need-mul-after-table
-mul-after-table c = search needs
+mul-after-table c =
+    let s = c .before .before .before .before .before .before .before .before .before .before .before .before .before in
+    let v = numbers (s .pre .0 .0 .place) in
+    omega (arith, v .twelve, v .outs, v .most-outs, v .repetitions, v .most-repetitions, s .pre .1 .1 .0 .there)
 
 sub-after-table : tie.Need-sub-after-table
-sub-after-table c = search needs
+sub-after-table c =
+    let s = c .before .before .before .before .before .before .before .before .before .before .before .before .before in
+    let v = numbers (s .pre .0 .0 .place) in
+    omega (arith, v .twelve, v .outs, v .most-outs, v .repetitions, v .most-repetitions, s .pre .1 .1 .0 .there)
 
 part-after-table-start : tie.Need-part-after-table-start
-part-after-table-start c = search needs
+part-after-table-start c =
+    let s = c .before .before .before .before .before .before .before .before .before .before .before .before .before in
+    let v = numbers (s .pre .0 .0 .place) in
+    omega (arith, v .twelve, v .outs, v .most-outs, v .repetitions, v .most-repetitions, s .pre .1 .1 .0 .there)
 
 part-after-table-end : tie.Need-part-after-table-end
-part-after-table-end c = search needs
+part-after-table-end c =
+    let s = c .before .before .before .before .before .before .before .before .before .before .before .before .before in
+    let v = numbers (s .pre .0 .0 .place) in
+    omega (arith, v .twelve, v .outs, v .most-outs, v .repetitions, v .most-repetitions, s .pre .1 .1 .0 .there)
 
 mul-after-table-2 : tie.Need-mul-after-table-2
 mul-after-table-2 c =
     let s = c .before .before .before .before .before .before .before .before .before .before .before .before .before .before in
-    let a = s .args in
-    let e = next-size (a .w .now) (a .pw .now) (a .level) (a .scale) (length (a .g .now)) (s .pre .0 .0) in
-    omega (arith, e, s .pre .1 .1)
+    let e = next-size (s .pre .0 .0) in
+    omega (arith, e, s .pre .1 .1 .1)
 
 sub-after-table-2 : tie.Need-sub-after-table-2
 sub-after-table-2 c =
     let s = c .before .before .before .before .before .before .before .before .before .before .before .before .before .before in
     let a = s .args in
-    let e = next-size (a .w .now) (a .pw .now) (a .level) (a .scale) (length (a .g .now)) (s .pre .0 .0) in
+    let e = next-size (s .pre .0 .0) in
     let t = c .before .before .before .before .before .table in
-    omega (arith, e, s .pre .1 .1, begun-long (a .out .now) (t .last .1 .1 .1 .1 .0) (length (a .pw .now) / (2 * a .scale)) (omega (arith, e, s .pre .1 .1)) (t .kept .1 .1 .1 .1 .0))
+    omega (arith, e, s .pre .1 .1 .1, begun-long (a .out .now) (t .last .1 .1 .1 .1 .1 .0) (length (a .pw .now) / (2 * a .scale)) (omega (arith, e, s .pre .1 .1 .1)) (t .kept .1 .1 .1 .1 .1 .0))
 
 part-after-table-start-2 : tie.Need-part-after-table-start-2
 part-after-table-start-2 c =
     let s = c .before .before .before .before .before .before .before .before .before .before .before .before .before .before in
     let a = s .args in
-    let e = next-size (a .w .now) (a .pw .now) (a .level) (a .scale) (length (a .g .now)) (s .pre .0 .0) in
+    let e = next-size (s .pre .0 .0) in
     let t = c .before .before .before .before .before .table in
-    omega (arith, e, s .pre .1 .1, begun-long (a .out .now) (t .last .1 .1 .1 .1 .0) (length (a .pw .now) / (2 * a .scale)) (omega (arith, e, s .pre .1 .1)) (t .kept .1 .1 .1 .1 .0))
+    omega (arith, e, s .pre .1 .1 .1, begun-long (a .out .now) (t .last .1 .1 .1 .1 .1 .0) (length (a .pw .now) / (2 * a .scale)) (omega (arith, e, s .pre .1 .1 .1)) (t .kept .1 .1 .1 .1 .1 .0))
 
 part-after-table-end-2 : tie.Need-part-after-table-end-2
 part-after-table-end-2 c = search needs
@@ -141,11 +166,12 @@ after-table-requires : tie.Need-after-table-requires
 after-table-requires c κs =
     let s = c .before .before .before .before .before .before .before .before .before .before .before .before .before .before .before in
     let a = s .args in
-    let e = next-size (a .w .now) (a .pw .now) (a .level) (a .scale) (length (a .g .now)) (s .pre .0 .0) in
+    let e = next-size (s .pre .0 .0) in
     let t = c .before .before .before .before .before .before .table in
     let n = length (a .pw .now) / (2 * a .scale) in
-    others-long (a .out .now) (t .last .1 .1 .1 .1 .0) n (omega (arith, e, s .pre .1 .1)) (t .kept .1 .1 .1 .1 .0)
-    ∙ omega (arith, e, s .pre .1 .1, outs-long (a .w .now) (a .level) (a .coins .now) (s .pre .1 .0), later-long (a .w .now) (a .level) (a .coins .now) (s .pre .1 .0))
+    let v = numbers (s .pre .0 .0 .place) in
+    others-long (a .out .now) (t .last .1 .1 .1 .1 .1 .0) n (omega (arith, e, s .pre .1 .1 .1)) (t .kept .1 .1 .1 .1 .1 .0)
+    ∙ omega (arith, e, s .pre .1 .1 .1, v .outs, v .repetitions, outs-long (s .pre .1 .1 .0) (v .outs) (v .repetitions), later-long (s .pre .1 .1 .0) (v .outs) (v .repetitions))
 
 same-length : tie.Need-same-length
 same-length c = search needs
@@ -154,14 +180,14 @@ returns : tie.Need-returns
 returns c =
     let s = c .before .before .before .before .before .before .before .before .before .before .before .before .before .before .before .before .before .before in
     let a = s .args in
-    let e = next-size (a .w .now) (a .pw .now) (a .level) (a .scale) (length (a .g .now)) (s .pre .0 .0) in
+    let e = next-size (s .pre .0 .0) in
     let t = c .before .before .before .before .before .before .before .before .before .table in
     let v = c .before .before .after-table in
     let n = length (a .pw .now) / (2 * a .scale) in
-    let m = length-take-le n (a .out .now) (omega (arith, e, s .pre .1 .1)) in
-    let own = t .ensures (levelOf (a .w .now) (a .level + 1)) (sym (next-scale (a .w .now) (a .pw .now) (a .level) (a .scale) (length (a .g .now)) (s .pre .0 .0))) (sym (m ∙ e)) in
-    joined (a .out .now) (t .last .1 .1 .1 .1 .0) n (omega (arith, e, s .pre .1 .1)) (t .kept .1 .1 .1 .1 .0) (v .last .1 .1 .1 .1 .0) own (v .ensures)
-    ∙ round-is (a .w .now) (a .level) (a .coins .now) (s .pre .1 .0) (a .g .now)
+    let m = length-take-le n (a .out .now) (omega (arith, e, s .pre .1 .1 .1)) in
+    let own = t .ensures (levelOf (sheetOf (editionOf (a .e)) (a .w .now)) (a .level + 1)) (sym (next-scale (s .pre .0 .0))) (sym (m ∙ e)) in
+    joined (a .out .now) (t .last .1 .1 .1 .1 .1 .0) n (omega (arith, e, s .pre .1 .1 .1)) (t .kept .1 .1 .1 .1 .1 .0) (v .last .1 .1 .1 .1 .0) own (v .ensures)
+    ∙ round-is (s .pre .1 .1 .0) (numbers (s .pre .0 .0 .place) .outs) (numbers (s .pre .0 .0 .place) .repetitions) (field-word (editionOf (a .e)) (a .w .now)) (a .g .now)
 
 pub round-spec : {M : Type 1} → statement M
 round-spec =

@@ -1,5 +1,8 @@
 -- `intake::prove_words` meets its contract.
-use Rattle.word_input.specs.Input.{proveWords}
+use mathlib.Core.Path.{ap, _∙_}
+use Rattle.definition.specs.Prove.{proveIn}
+use Rattle.edition.specs.Meaning.{editionOf}
+use Rattle.word_input.specs.Input.{sheetPart, coefficientsPart, coinsPart, proveWords}
 use borrow.Author.Needs.{needs}
 use Rattle.intake.proofs.prove_words.Statement.{statement}
 use Rattle.intake.proofs.prove_words.Tie as tie
@@ -16,8 +19,8 @@ coefficients-requires c κs = search needs
 coins-requires : tie.Need-coins-requires
 coins-requires c κs = search needs
 
-prove-requires : tie.Need-prove-requires
-prove-requires c κs = search needs
+prove-in-requires : tie.Need-prove-in-requires
+prove-in-requires c κs = search needs
 
 same-length : tie.Need-same-length
 same-length c = search needs
@@ -25,12 +28,17 @@ same-length c = search needs
 returns : tie.Need-returns
 unfolding proveWords
 returns c =
-    let p = c .before .before .prove .ensures in
-    let coins = c .before .before .before .before .coins .ensures in
-    let coefficients = c .before .before .before .before .before .coefficients .ensures in
-    let sheet = c .before .before .before .before .before .before .sheet .ensures in
+    let a = c .before .before .before .before .before .before .before .before .before .before .args in
+    let ed = editionOf (a .e) in
+    let p = c .before .before .prove-in .ensures in
     let words = c .before .before .before .before .before .before .before .front .ensures in
-    (cc (p .0, coins, coefficients, sheet, words), cc (p .1, coins, coefficients, sheet, words))
+    let sheet = c .before .before .before .before .before .before .sheet .ensures ∙ ap (sheetPart ed) words in
+    let coefficients = c .before .before .before .before .before .coefficients .ensures ∙ ap (coefficientsPart ed) words in
+    let coins = c .before .before .before .before .coins .ensures ∙ ap (coinsPart ed) words in
+    let out = a .output .now in (
+      p .0 ∙ (λ t. proveIn ed (sheet t) (coefficients t) (coins t) out .answer),
+      p .1 ∙ (λ t. proveIn ed (sheet t) (coefficients t) (coins t) out .output),
+    )
 
 pub prove-words-spec : {M : Type 1} → statement M
 prove-words-spec =
@@ -40,6 +48,6 @@ prove-words-spec =
     sheet-requires
     coefficients-requires
     coins-requires
-    prove-requires
+    prove-in-requires
     same-length
     returns)

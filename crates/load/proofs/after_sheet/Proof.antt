@@ -5,7 +5,7 @@ use lib.ListN.{replicate}
 use borrow.Author.Needs.{needs}
 use Rattle.definition.specs.Layout.{message}
 use Rattle.definition.specs.Load.{drawKinds}
-use Rattle.definition.specs.Sheet.{sheetOf}
+use Rattle.definition.specs.Sheet.{edition1, sheetOf}
 use Rattle.load.proofs.Orders.{drawn-next, drawn-verdict}
 use Rattle.load.proofs.after_sheet.Statement.{statement}
 use Rattle.load.proofs.after_sheet.Tie as tie
@@ -36,7 +36,7 @@ unfolding sheetOf
 returns c =
     let s = c .before .before .before .before .before .before .before .before .before .before .before .before .before .before .before .before .before .before .before .before in
     let a = s .args in
-    let h = sheetOf (a .w .now) in
+    let h = sheetOf edition1 (a .w .now) in
     let f = c .before .before .before .before .before .before .before .before .before .before .before .before .before .coefficients in
     let coins = c .before .before .before .before .before .before .before .before .before .coins in
     let p = c .before .before .before .prove-then-verify in

@@ -5,6 +5,7 @@ use lib.ListN.{getD}
 use lib.Seq.{length-take-le}
 use borrow.Author.Needs.{needs}
 use Rattle.definition.specs.Sheet.{sheetOf}
+use Rattle.edition.specs.Meaning.{editionOf}
 use Rattle.load.proofs.Orders.{drawn-coins, drawn-degree, drawn-sheet}
 use Rattle.load.proofs.run.Statement.{statement}
 use Rattle.load.proofs.run.Tie as tie
@@ -34,6 +35,7 @@ slice-aggregate-coins-due : tie.Need-slice-aggregate-coins-due
 slice-aggregate-coins-due c = search needs
 
 coins-due-requires : tie.Need-coins-due-requires
+unfolding editionOf
 coins-due-requires c κs =
     let d = drawn-sheet (c .before .before .before .before .before .before .before .args .generator .v) (c .before .before .before .before .before .draw .ensures) in
     (omega (arith, d .0), d .1)
@@ -50,9 +52,11 @@ slice-aggregate-after-sheet-2 c =
     sym (length-take-le (getD (c .before .before .before .before .before .before .before .before .draw .last .1 .0) 2 0) (c .before .before .before .before .before .before .coefficients-room .result) (omega (arith, d, c .before .before .before .before .before .before .coefficients-room .ensures)))
 
 array-borrow-prefix-coins : tie.Need-array-borrow-prefix-coins
+unfolding editionOf
 array-borrow-prefix-coins c = omega (arith, drawn-coins (c .before .before .before .before .before .before .before .before .before .before .args .generator .v) (c .before .before .before .before .before .before .before .before .draw .ensures), c .before .before .coins-due .ensures, c .before .before .before .before .before .coins-room .ensures)
 
 slice-aggregate-after-sheet-3 : tie.Need-slice-aggregate-after-sheet-3
+unfolding editionOf
 slice-aggregate-after-sheet-3 c =
     let d = drawn-coins (c .before .before .before .before .before .before .before .before .before .before .before .args .generator .v) (c .before .before .before .before .before .before .before .before .before .draw .ensures) in
     let n = c .before .before .before .coins-due in
@@ -62,7 +66,7 @@ slice-aggregate-after-sheet-4 : tie.Need-slice-aggregate-after-sheet-4
 slice-aggregate-after-sheet-4 c = search needs
 
 after-sheet-requires : tie.Need-after-sheet-requires
-unfolding sheetOf
+unfolding sheetOf editionOf
 after-sheet-requires c κs =
     let v = c .before .before .before .before .before .before .before .before .before .before .before .before .args .generator .v in
     let e = c .before .before .before .before .before .before .before .before .before .before .draw .ensures in

@@ -1,6 +1,7 @@
 -- `orders::encode_after_sheet`: one test after the other.
 use native.Mathlib.Omega.{arith}
 use borrow.Author.Needs.{needs}
+use Rattle.definition.specs.Sheet.{edition1}
 use Rattle.outcome.specs.Meaning.{outcomeOf}
 use Rattle.orders.proofs.Range.{coefficients-test}
 use Rattle.orders.proofs.Stages.{other-count, no-element, few-words, encodes}
@@ -15,7 +16,7 @@ cast-if1 c = omega (arith, c .shared-slice-known3 .given 2)
 
 returns : tie.Need-returns
 unfolding outcomeOf
-returns c = λ output l. let a = c .before .before .before .before .args in other-count (a .w .now) (a .f .now) output (c .if1 .taken)
+returns c = λ output l. let a = c .before .before .before .before .args in other-count edition1 (a .w .now) (a .f .now) output (c .if1 .taken)
 
 shared-slice-read-coefficient-out-of-range : tie.Need-shared-slice-read-coefficient-out-of-range
 shared-slice-read-coefficient-out-of-range c = search needs
@@ -32,7 +33,7 @@ returns-2 c = λ output l.
     let r = c .before .before .before in
     let a = r .before .before .before .before .before .before .args in
     let right = r .before .before .if1 .left in
-    no-element (a .w .now) (a .f .now) output right (coefficients-test (a .w .now) (a .f .now) right (r .coefficient-out-of-range .ensures)) (c .before .range .given .1)
+    no-element edition1 (a .w .now) (a .f .now) output right (coefficients-test edition1 (a .w .now) (a .f .now) right (r .coefficient-out-of-range .ensures)) (c .before .range .given .1)
 
 enum-told : tie.Need-enum-told
 enum-told c = search needs
@@ -49,7 +50,7 @@ returns-3 c = λ output l.
     let r = c .before .before .before .before in
     let a = r .before .before .before .before .before .before .args in
     let right = r .before .before .if1 .left in
-    few-words (a .w .now) (a .f .now) output right (coefficients-test (a .w .now) (a .f .now) right (r .coefficient-out-of-range .ensures))
+    few-words edition1 (a .w .now) (a .f .now) output right (coefficients-test edition1 (a .w .now) (a .f .now) right (r .coefficient-out-of-range .ensures))
     (c .before .before .enum-told .given .1) l (c .if2 .taken)
 
 returns-4 : tie.Need-returns-4
@@ -58,7 +59,7 @@ returns-4 c = λ output l.
     let r = c .before .before .before .before in
     let a = r .before .before .before .before .before .before .args in
     let right = r .before .before .if1 .left in
-    encodes (a .w .now) (a .f .now) output right (coefficients-test (a .w .now) (a .f .now) right (r .coefficient-out-of-range .ensures))
+    encodes edition1 (a .w .now) (a .f .now) output right (coefficients-test edition1 (a .w .now) (a .f .now) right (r .coefficient-out-of-range .ensures))
     (c .before .before .enum-told .given .1) l (c .if2 .left)
 
 pub encode-after-sheet-spec : {M : Type 1} → statement M

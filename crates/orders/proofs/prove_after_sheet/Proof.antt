@@ -2,13 +2,15 @@
 use mathlib.Core.Path.{_∙_}
 use native.Mathlib.Omega.{arith}
 use borrow.Author.Needs.{needs}
+use Rattle.completeness.specs.SheetRules.{long-enough}
+use Rattle.edition.specs.Meaning.{editionOf}
 use Rattle.outcome.specs.Meaning.{outcomeOf}
 use Rattle.orders.proofs.Stages.{other-coefficients, other-coins, out-of-range, in-domain, few-bytes, proves}
 use Rattle.orders.proofs.prove_after_sheet.Statement.{statement}
 use Rattle.orders.proofs.prove_after_sheet.Tie as tie
 
 shared-slice-read-if1 : tie.Need-shared-slice-read-if1
-shared-slice-read-if1 c = search needs
+shared-slice-read-if1 c = let s = c .before .before .before .before in omega (arith, long-enough (editionOf (s .args .e)) (s .args .w .now) (s .pre .0))
 
 cast-if1 : tie.Need-cast-if1
 cast-if1 c = omega (arith, c .shared-slice-known4 .given 2)
@@ -17,7 +19,7 @@ returns : tie.Need-returns
 unfolding outcomeOf
 returns c = λ output l.
     let a = c .before .before .before .before .before .args in
-    other-coefficients (a .w .now) (a .f .now) (a .coins .now) output (c .if1 .taken)
+    other-coefficients (editionOf (a .e)) (a .w .now) (a .f .now) (a .coins .now) output (c .if1 .taken)
 
 coins-due-requires : tie.Need-coins-due-requires
 coins-due-requires c κs = search needs
@@ -27,7 +29,7 @@ unfolding outcomeOf
 returns-2 c = λ output l.
     let n = c .before in
     let a = n .before .before .before .before .before .before .args in
-    other-coins (a .w .now) (a .f .now) (a .coins .now) output (n .before .if1 .left) (n .coins-due .ensures) (c .if2 .taken)
+    other-coins (editionOf (a .e)) (a .w .now) (a .f .now) (a .coins .now) output (n .before .if1 .left) (n .coins-due .ensures) (c .if2 .taken)
 
 input-out-of-range-requires : tie.Need-input-out-of-range-requires
 input-out-of-range-requires c κs = search needs
@@ -41,7 +43,7 @@ returns-3 c = λ output l.
     let i = c .before .before .before in
     let n = i .before .before in
     let a = n .before .before .before .before .before .before .args in
-    out-of-range (a .w .now) (a .f .now) (a .coins .now) output (n .before .if1 .left) (i .before .if2 .left ∙ n .coins-due .ensures)
+    out-of-range (editionOf (a .e)) (a .w .now) (a .f .now) (a .coins .now) output (n .before .if1 .left) (i .before .if2 .left ∙ n .coins-due .ensures)
     (i .input-out-of-range .ensures) (c .before .range .given .1)
 
 enum-told : tie.Need-enum-told
@@ -60,7 +62,7 @@ returns-4 c = λ output l.
     let i = d .before .before .before in
     let n = i .before .before in
     let a = n .before .before .before .before .before .before .args in
-    in-domain (a .w .now) (a .f .now) (a .coins .now) output (n .before .if1 .left) (i .before .if2 .left ∙ n .coins-due .ensures)
+    in-domain (editionOf (a .e)) (a .w .now) (a .f .now) (a .coins .now) output (n .before .if1 .left) (i .before .if2 .left ∙ n .coins-due .ensures)
     (i .input-out-of-range .ensures) (d .before .enum-told .given .1) (d .coin-in-domain .ensures) (c .before .inside .given .1)
 
 enum-told-2 : tie.Need-enum-told-2
@@ -80,7 +82,7 @@ returns-5 c = λ output l.
     let i = d .before .before .before in
     let n = i .before .before in
     let a = n .before .before .before .before .before .before .args in
-    few-bytes (a .w .now) (a .f .now) (a .coins .now) output (n .before .if1 .left) (i .before .if2 .left ∙ n .coins-due .ensures)
+    few-bytes (editionOf (a .e)) (a .w .now) (a .f .now) (a .coins .now) output (n .before .if1 .left) (i .before .if2 .left ∙ n .coins-due .ensures)
     (i .input-out-of-range .ensures) (d .before .enum-told .given .1) (d .coin-in-domain .ensures) (b .before .enum-told2 .given .1)
     (b .blocks-due .ensures .0) l (c .if3 .taken)
 
@@ -92,7 +94,7 @@ returns-6 c = λ output l.
     let i = d .before .before .before in
     let n = i .before .before in
     let a = n .before .before .before .before .before .before .args in
-    proves (a .w .now) (a .f .now) (a .coins .now) output (n .before .if1 .left) (i .before .if2 .left ∙ n .coins-due .ensures)
+    proves (editionOf (a .e)) (a .w .now) (a .f .now) (a .coins .now) output (n .before .if1 .left) (i .before .if2 .left ∙ n .coins-due .ensures)
     (i .input-out-of-range .ensures) (d .before .enum-told .given .1) (d .coin-in-domain .ensures) (b .before .enum-told2 .given .1)
     (b .blocks-due .ensures .0) l (c .if3 .left)
 

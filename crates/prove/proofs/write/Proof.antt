@@ -32,10 +32,10 @@ seal-requires c κs =
     let s = c .before .before .before .before .before .before .before .before .before .before .before in
     let a = s .args in
     let p = c .before .before .before .before .stream in
-    (omega (arith, s .pre .1 .1 .0, begun-long (a .words .now) (p .last .1 .1 .1 .0) (a .due) (s .pre .1 .1 .0) (p .kept .1 .1 .1 .0)), s .pre .1 .1 .1)
+    (omega (arith, s .pre .1 .1 .0, begun-long (a .words .now) (p .last .1 .1 .1 .1 .0) (a .due) (s .pre .1 .1 .0) (p .kept .1 .1 .1 .1 .0)), s .pre .1 .1 .1)
 
-add-t14 : tie.Need-add-t14
-add-t14 c = search needs
+add-t15 : tie.Need-add-t15
+add-t15 c = search needs
 
 same-length : tie.Need-same-length
 same-length c = search needs
@@ -49,7 +49,7 @@ returns c =
     let s = c .before .before .before .before .before .before .before .before .before .before .before .before .before .before in
     let a = s .args in
     let p = c .before .before .before .before .before .before .before .stream in
-    let e = front-stays (a .words .now) (p .last .1 .1 .1 .0) (a .due) (s .pre .1 .1 .0) (p .kept .1 .1 .1 .0) ∙ p .ensures in
+    let e = front-stays (a .words .now) (p .last .1 .1 .1 .1 .0) (a .due) (s .pre .1 .1 .0) (p .kept .1 .1 .1 .1 .0) ∙ p .ensures in
     (refl, c .before .before .seal .ensures ∙ ap (λ (v : List ℕ). fileOf v ++ drop (length (fileOf v)) (a .output .now)) e)
 
 pub write-spec : {M : Type 1} → statement M
@@ -60,7 +60,7 @@ write-spec =
     slice-aggregate-stream
     stream-requires
     seal-requires
-    add-t14
+    add-t15
     same-length
     same-length-2
     returns)

@@ -1,16 +1,12 @@
 -- `reading::body` meets its contract. Assumes nothing.
 use borrow.Author.Needs.{needs}
+use Rattle.edition.specs.Meaning.{editionOf}
 use Rattle.outcome.specs.Meaning.{outcomeOf}
 use Rattle.outcome.specs.Answers.{at-place, nowhere}
 use Rattle.ranges.specs.RoundsOfLayout.{long-enough}
 use Rattle.reading.proofs.StageLaws.{range, fill-from, out-of-range, not-filled, body-passes}
 use Rattle.reading.proofs.body.Statement.{statement}
 use Rattle.reading.proofs.body.Tie as tie
-use Rattle.reading.proofs.body.Reads as reads
-use Rattle.reading.proofs.body.Lts as lts
-use Rattle.ranges.proofs.fill_not_zero.Reads as fill-not-zero-reads
-use Rattle.ranges.proofs.out_of_range.Reads as out-of-range-reads
-use Rattle.sheet.proofs.words_due.Reads as words-due-reads
 
 -- src/lib.rt:22:9
 out-of-range-requires : tie.Need-out-of-range-requires
@@ -25,7 +21,7 @@ returns : tie.Need-returns
 unfolding outcomeOf range
 returns c =
     let r = c .before .before .before in
-    out-of-range (r .before .before .args .w .now) (c .before .range .given .0 .0) (at-place (r .out-of-range .ensures) (c .before .range .given .1))
+    out-of-range (editionOf (r .before .before .args .e)) (r .before .before .args .w .now) (c .before .range .given .0 .0) (at-place (r .out-of-range .ensures) (c .before .range .given .1))
 
 enum-told : tie.Need-enum-told
 enum-told c = search needs
@@ -34,7 +30,7 @@ enum-told c = search needs
 words-due-requires : tie.Need-words-due-requires
 words-due-requires c κs =
     let s = c .before .before .before .before in
-    (long-enough (s .args .w .now) (s .pre .1), s .pre .0)
+    (long-enough (editionOf (s .args .e)) (s .args .w .now) (s .pre .1), s .pre .0)
 
 -- src/lib.rt:26:9
 fill-not-zero-requires : tie.Need-fill-not-zero-requires
@@ -53,8 +49,9 @@ returns-2 c =
     let t = d .before in
     let r = t .before .before in
     let w = r .before .before .args .w .now in
-    not-filled w (c .before .fill .given .0 .0) (nowhere (r .out-of-range .ensures) (t .enum-told .given .1))
-    (fill-from w (d .words-due .ensures .0) (at-place (f .fill-not-zero .ensures) (c .before .fill .given .1)))
+    let ed = editionOf (r .before .before .args .e) in
+    not-filled ed w (c .before .fill .given .0 .0) (nowhere (r .out-of-range .ensures) (t .enum-told .given .1))
+    (fill-from ed w (d .words-due .ensures .0) (at-place (f .fill-not-zero .ensures) (c .before .fill .given .1)))
 
 enum-told-2 : tie.Need-enum-told-2
 enum-told-2 c = search needs
@@ -68,8 +65,9 @@ returns-3 c =
     let t = d .before in
     let r = t .before .before in
     let w = r .before .before .args .w .now in
-    body-passes w (nowhere (r .out-of-range .ensures) (t .enum-told .given .1))
-    (fill-from w (d .words-due .ensures .0) (nowhere (f .fill-not-zero .ensures) (c .enum-told2 .given .1)))
+    let ed = editionOf (r .before .before .args .e) in
+    body-passes ed w (nowhere (r .out-of-range .ensures) (t .enum-told .given .1))
+    (fill-from ed w (d .words-due .ensures .0) (nowhere (f .fill-not-zero .ensures) (c .enum-told2 .given .1)))
 
 pub body-spec : {M : Type 1} → statement M
 body-spec =

@@ -1,9 +1,11 @@
--- `sheet::blocks_due` meets its contract. A division of at most 8509 words. Assumes nothing.
+-- `sheet::blocks_due` meets its contract. A division of at most 8433 words. Assumes nothing.
 use native.Mathlib.Omega.{arith}
 use mathlib.Core.Path.{ap}
 use borrow.Author.Needs.{needs}
+use Rattle.completeness.specs.DueSizes.{blocks-most}
 use Rattle.definition.specs.Block.{blockCount}
-use Rattle.sheet.specs.Bounds.{blocks-least}
+use Rattle.edition.specs.Meaning.{editionOf}
+use Rattle.sheet.proofs.SizeLaws.{blocks-least}
 use Rattle.sheet.proofs.blocks_due.Statement.{statement}
 use Rattle.sheet.proofs.blocks_due.Tie as tie
 
@@ -15,7 +17,12 @@ add-result c = search needs
 
 returns : tie.Need-returns
 unfolding blockCount
-returns c = let r = c .words-due in let s = c .before .before in (ap blockCount (r .ensures .0), (omega (arith, r .ensures .0, blocks-least _ (s .pre .0) (s .pre .1)), omega (arith, r .ensures .1)))
+returns c =
+    let r = c .words-due .ensures in
+    let s = c .before .before in
+    let w = s .args .w .now in
+    let ed = editionOf (s .args .e) in
+    (ap blockCount (r .0), (omega (arith, r .0, blocks-least ed w (s .pre .0) (s .pre .1)), omega (arith, r .0, blocks-most ed w (s .pre .0) (s .pre .1))))
 
 pub blocks-due-spec : {M : Type 1} → statement M
 blocks-due-spec = tie.close (tie.spec words-due-requires add-result returns)

@@ -1,146 +1,71 @@
--- `sheet::broken` meets its contract. Each exit knows that the rules before held and that its own failed. Assumes nothing.
-use mathlib.Core.Path.{_∙_}
+-- `sheet::broken` meets its contract: part after part, in the order of the tests. Assumes nothing.
 use borrow.Author.Needs.{needs}
-use Rattle.definition.specs.Lists.{firstTrue}
-use Rattle.definition.specs.Sheet.{sheetRules}
+use Rattle.completeness.specs.SheetRules.{long-enough}
+use Rattle.edition.specs.Meaning.{editionOf}
+use Rattle.outcome.specs.Answers.{at-place, nowhere}
 use Rattle.outcome.specs.Meaning.{placeOf}
-use Rattle.sheet.proofs.RuleLaws.{failed, held}
+use Rattle.sheet.proofs.FirstBroken.{in-front, in-last, in-later}
+use Rattle.sheet.proofs.FoldLaws.{all-folds, shape}
 use Rattle.sheet.proofs.broken.Statement.{statement}
 use Rattle.sheet.proofs.broken.Tie as tie
 
-field-rule-requires : tie.Need-field-rule-requires
-field-rule-requires c κs = search needs
+broken-front-requires : tie.Need-broken-front-requires
+broken-front-requires c κs = let s = c .before in long-enough (editionOf (s .args .e)) (s .args .w .now) (s .pre)
+
+enum-known-front : tie.Need-enum-known-front
+enum-known-front c = search needs
 
 returns : tie.Need-returns
-unfolding placeOf firstTrue sheetRules
-returns c = simp (failed (c .before .field-rule .ensures) (c .if1 .taken))
+unfolding placeOf
+returns c = in-front _ _ (at-place (c .before .before .before .broken-front .ensures) (c .before .front .given .1))
 
-size-rule-requires : tie.Need-size-rule-requires
-size-rule-requires c κs = search needs
+enum-told : tie.Need-enum-told
+enum-told c = search needs
+
+broken-later-requires : tie.Need-broken-later-requires
+broken-later-requires c κs =
+    let s = c .before .before .before .before in
+    (s .pre, shape _ _ (nowhere (c .before .before .broken-front .ensures) (c .enum-told .given .1)))
+
+enum-known-later : tie.Need-enum-known-later
+enum-known-later c = search needs
 
 returns-2 : tie.Need-returns-2
-unfolding placeOf firstTrue sheetRules
+unfolding placeOf
 returns-2 c =
-    let c₁ = c .before .before in
-    simp (
-      held (c₁ .before .field-rule .ensures) (c₁ .if1 .left),
-      failed (c .before .size-rule .ensures) (c .if2 .taken),
-    )
+    let l = c .before .before .before in
+    let t = l .before in
+    in-later _ _ (nowhere (t .before .before .broken-front .ensures) (t .enum-told .given .1)) (at-place (l .broken-later .ensures) (c .before .later .given .1))
 
-degree-rule-requires : tie.Need-degree-rule-requires
-degree-rule-requires c κs = search needs
-
-returns-3 : tie.Need-returns-3
-unfolding placeOf firstTrue sheetRules
-returns-3 c =
-    let c₂ = c .before .before in
-    let c₁ = c₂ .before .before in
-    simp (
-      held (c₁ .before .field-rule .ensures) (c₁ .if1 .left),
-      held (c₂ .before .size-rule .ensures) (c₂ .if2 .left),
-      failed (c .before .degree-rule .ensures) (c .if3 .taken),
-    )
-
-fold-rule-requires : tie.Need-fold-rule-requires
-fold-rule-requires c κs = search needs
-
-returns-4 : tie.Need-returns-4
-unfolding placeOf firstTrue sheetRules
-returns-4 c =
-    let c₃ = c .before .before in
-    let c₂ = c₃ .before .before in
-    let c₁ = c₂ .before .before in
-    simp (
-      held (c₁ .before .field-rule .ensures) (c₁ .if1 .left),
-      held (c₂ .before .size-rule .ensures) (c₂ .if2 .left),
-      held (c₃ .before .degree-rule .ensures) (c₃ .if3 .left),
-      failed (c .before .fold-rule .ensures) (c .if4 .taken),
-    )
-
-rounds-rule-requires : tie.Need-rounds-rule-requires
-rounds-rule-requires c κs =
-    let c₃ = c .before .before in
-    let c₂ = c₃ .before .before in
-    let c₁ = c₂ .before .before in
-    (c₁ .before .before .before .pre, (held (c₃ .before .degree-rule .ensures) (c₃ .if3 .left), held (c .before .fold-rule .ensures) (c .if4 .left)))
-
-returns-5 : tie.Need-returns-5
-unfolding placeOf firstTrue sheetRules
-returns-5 c =
-    let c₄ = c .before .before in
-    let c₃ = c₄ .before .before in
-    let c₂ = c₃ .before .before in
-    let c₁ = c₂ .before .before in
-    simp (
-      held (c₁ .before .field-rule .ensures) (c₁ .if1 .left),
-      held (c₂ .before .size-rule .ensures) (c₂ .if2 .left),
-      held (c₃ .before .degree-rule .ensures) (c₃ .if3 .left),
-      held (c₄ .before .fold-rule .ensures) (c₄ .if4 .left),
-      failed (c .before .rounds-rule .ensures) (c .if5 .taken),
-    )
-
-out-coins-rule-requires : tie.Need-out-coins-rule-requires
-out-coins-rule-requires c κs = search needs
-
-returns-6 : tie.Need-returns-6
-unfolding placeOf firstTrue sheetRules
-returns-6 c =
-    let c₅ = c .before .before in
-    let c₄ = c₅ .before .before in
-    let c₃ = c₄ .before .before in
-    let c₂ = c₃ .before .before in
-    let c₁ = c₂ .before .before in
-    simp (
-      held (c₁ .before .field-rule .ensures) (c₁ .if1 .left),
-      held (c₂ .before .size-rule .ensures) (c₂ .if2 .left),
-      held (c₃ .before .degree-rule .ensures) (c₃ .if3 .left),
-      held (c₄ .before .fold-rule .ensures) (c₄ .if4 .left),
-      held (c₅ .before .rounds-rule .ensures) (c₅ .if5 .left),
-      failed (c .before .out-coins-rule .ensures) (c .if6 .taken),
-    )
+enum-told-2 : tie.Need-enum-told-2
+enum-told-2 c = search needs
 
 broken-repetitions-requires : tie.Need-broken-repetitions-requires
 broken-repetitions-requires c κs =
-    let c₅ = c .before .before in
-    let c₄ = c₅ .before .before in
-    let c₃ = c₄ .before .before in
-    let c₂ = c₃ .before .before in
-    let c₁ = c₂ .before .before in
-    (c₁ .before .before .before .pre, record { degree = held (c₃ .before .degree-rule .ensures) (c₃ .if3 .left); fold = held (c₄ .before .fold-rule .ensures) (c₄ .if4 .left); rounds = held (c₅ .before .rounds-rule .ensures) (c₅ .if5 .left); outCoins = held (c .before .out-coins-rule .ensures) (c .if6 .left) })
+    let s = c .before .before .before .before .before .before .before in
+    let l = c .before .before in
+    let t = l .before in
+    let held = shape _ _ (nowhere (t .before .before .broken-front .ensures) (t .enum-told .given .1)) in
+    ((s .pre, held), all-folds held (nowhere (l .broken-later .ensures) (c .enum-told2 .given .1)))
 
-returns-7 : tie.Need-returns-7
-unfolding firstTrue sheetRules
-returns-7 c =
-    let c₆ = c .before in
-    let c₅ = c₆ .before .before in
-    let c₄ = c₅ .before .before in
-    let c₃ = c₄ .before .before in
-    let c₂ = c₃ .before .before in
-    let c₁ = c₂ .before .before in
-    c .broken-repetitions .ensures ∙ simp (
-      held (c₁ .before .field-rule .ensures) (c₁ .if1 .left),
-      held (c₂ .before .size-rule .ensures) (c₂ .if2 .left),
-      held (c₃ .before .degree-rule .ensures) (c₃ .if3 .left),
-      held (c₄ .before .fold-rule .ensures) (c₄ .if4 .left),
-      held (c₅ .before .rounds-rule .ensures) (c₅ .if5 .left),
-      held (c₆ .before .out-coins-rule .ensures) (c₆ .if6 .left),
-    )
+returns-3 : tie.Need-returns-3
+returns-3 c =
+    let u = c .before in
+    let l = u .before .before in
+    let t = l .before in
+    in-last _ _ (nowhere (t .before .before .broken-front .ensures) (t .enum-told .given .1)) (nowhere (l .broken-later .ensures) (u .enum-told2 .given .1)) (c .broken-repetitions .ensures)
 
 pub broken-spec : {M : Type 1} → statement M
 broken-spec =
     tie.close
     (tie.spec
-    field-rule-requires
+    broken-front-requires
+    enum-known-front
     returns
-    size-rule-requires
+    enum-told
+    broken-later-requires
+    enum-known-later
     returns-2
-    degree-rule-requires
-    returns-3
-    fold-rule-requires
-    returns-4
-    rounds-rule-requires
-    returns-5
-    out-coins-rule-requires
-    returns-6
+    enum-told-2
     broken-repetitions-requires
-    returns-7)
+    returns-3)

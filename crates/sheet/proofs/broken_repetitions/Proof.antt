@@ -1,34 +1,49 @@
--- `sheet::broken_repetitions` meets its contract. The invariant: from t_i on the first broken word is that of all. The measure is what is left of the six. Assumes nothing.
+-- `sheet::broken_repetitions` meets its contract. The invariant: d is d_i, and from t_i on the first broken word is that of all. The measure is what is left of the six.
+-- Assumes nothing.
 use Prim.Native.Nat.{_-_, _≤_}
 use native.Mathlib.Omega.{arith}
 use mathlib.Core.Path.{_≡_, refl, sym, _∙_}
+use Rattle.completeness.specs.SheetRules.{long-enough}
 use Rattle.definition.specs.Sheet.{repetitionsRule}
+use Rattle.edition.specs.Meaning.{editionOf}
 use Rattle.outcome.specs.Meaning.{placeOf}
-use Rattle.sheet.proofs.RuleLaws.{failed, held, brokenFrom, broken-here, broken-next, broken-none}
+use Rattle.sheet.specs.Rules.{DegreeAt}
+use Rattle.sheet.proofs.FirstBroken.{brokenFrom, broken-here, broken-next, broken-none}
+use Rattle.sheet.proofs.FoldLaws.{degree-first, fewer-folds}
+use Rattle.sheet.proofs.RuleLaws.{failed, held}
 use Rattle.sheet.proofs.broken_repetitions.Statement.{statement}
 use Rattle.sheet.proofs.broken_repetitions.Tie as tie
 
 abbrev Inv-loop : tie.InvT-loop
-Inv-loop w i₀ i = (i ≤ 6) × (brokenFrom (repetitionsRule w) i ≡ brokenFrom (repetitionsRule w) 0)
+Inv-loop e w d₀ i₀ d i = (i ≤ 6) × ((DegreeAt (editionOf e) w i d) × (brokenFrom 6 (repetitionsRule (editionOf e) w) i ≡ brokenFrom 6 (repetitionsRule (editionOf e) w) 0))
 
 abbrev μ-loop : tie.MeasureT-loop
-μ-loop w i₀ i = 6 - i
+μ-loop e w d₀ i₀ d i = 6 - i
+
+shared-slice-read-d : tie.Need-shared-slice-read-d Inv-loop μ-loop
+shared-slice-read-d c = let s = c .before .before in omega (arith, long-enough (editionOf (s .args .e)) (s .args .w .now) (s .pre .0 .0))
 
 loop-holds : tie.Need-loop-holds Inv-loop μ-loop
-loop-holds c = (omega arith, refl)
+loop-holds c = (omega arith, (degree-first _ _, refl))
+
+next-degree-requires : tie.Need-next-degree-requires Inv-loop μ-loop
+next-degree-requires c κs =
+    let s = c .before .before .before .before in
+    ((s .pre .0 .0, c .loop-test .taken), (fewer-folds _ (omega arith) (s .pre .1), c .before .loop .inv .1 .0))
 
 repetitions-rule-requires : tie.Need-repetitions-rule-requires Inv-loop μ-loop
-repetitions-rule-requires c κs = (c .before .before .before .pre .0, (c .loop-test .taken, c .before .before .before .pre .1))
+repetitions-rule-requires c κs =
+    let s = c .before .before .before .before .before in
+    ((long-enough (editionOf (s .args .e)) (s .args .w .now) (s .pre .0 .0), c .before .loop-test .taken), (s .pre .0 .1, c .next-degree .ensures))
 
-cast-t5 : tie.Need-cast-t5 Inv-loop μ-loop
-cast-t5 c = omega arith
-
-add-t6 : tie.Need-add-t6 Inv-loop μ-loop
-add-t6 c = omega arith
+add-t9 : tie.Need-add-t9 Inv-loop μ-loop
+add-t9 c = omega arith
 
 returns : tie.Need-returns Inv-loop μ-loop
 unfolding placeOf
-returns c = sym (broken-here _ _ (c .before .before .loop-test .taken) (failed (c .before .repetitions-rule .ensures) (c .if1 .taken))) ∙ c .before .before .before .loop .inv .1
+returns c =
+    let l = c .before .before .before in
+    sym (broken-here 6 _ _ (l .loop-test .taken) (failed (c .before .repetitions-rule .ensures) (c .if1 .taken))) ∙ l .before .loop .inv .1 .1
 
 add-i : tie.Need-add-i Inv-loop μ-loop
 add-i c = omega arith
@@ -37,11 +52,18 @@ loop-less : tie.Need-loop-less Inv-loop μ-loop
 loop-less c = omega arith
 
 loop-again : tie.Need-loop-again Inv-loop μ-loop
-loop-again c = (omega arith, sym (broken-next _ _ (c .before .before .loop-test .taken) (held (c .before .repetitions-rule .ensures) (c .if1 .left))) ∙ c .before .before .before .loop .inv .1)
+loop-again c =
+    let l = c .before .before .before in (
+      omega arith,
+      (
+        c .before .before .next-degree .ensures,
+        sym (broken-next 6 _ _ (l .loop-test .taken) (held (c .before .repetitions-rule .ensures) (c .if1 .left))) ∙ l .before .loop .inv .1 .1,
+      ),
+    )
 
 returns-2 : tie.Need-returns-2 Inv-loop μ-loop
 unfolding placeOf
-returns-2 c = sym (broken-none _ _ (c .loop-test .left)) ∙ c .before .loop .inv .1
+returns-2 c = sym (broken-none 6 _ _ (c .loop-test .left)) ∙ c .before .loop .inv .1 .1
 
 pub broken-repetitions-spec : {M : Type 1} → statement M
 broken-repetitions-spec =
@@ -49,10 +71,11 @@ broken-repetitions-spec =
     (tie.spec
     Inv-loop
     μ-loop
+    shared-slice-read-d
     loop-holds
+    next-degree-requires
     repetitions-rule-requires
-    cast-t5
-    add-t6
+    add-t9
     returns
     add-i
     loop-less

@@ -5,6 +5,7 @@ use borrow.Author.Needs.{needs}
 use lib.ListN.{length-set}
 use Rattle.definition.specs.Field.{knownField}
 use Rattle.definition.specs.Load.{permits}
+use Rattle.edition.specs.Meaning.{editionOf}
 use Rattle.outcome.specs.Answers.{at-place, nowhere}
 use Rattle.sheets.proofs.RuleLaws.{permitted-at, permitted-field, permitted-nowhere}
 use Rattle.sheets.proofs.permits.Statement.{statement}
@@ -26,6 +27,7 @@ returns c =
     (permitted-field (a .w .now) (a .j) (a .x) (c .if1 .taken) refl, refl)
 
 broken-requires : tie.Need-broken-requires
+unfolding editionOf
 broken-requires c κs = simp length-set (omega arith)
 
 enum-known-broken : tie.Need-enum-known-broken
@@ -35,6 +37,7 @@ same-length-2 : tie.Need-same-length-2
 same-length-2 c = search needs
 
 returns-2 : tie.Need-returns-2
+unfolding editionOf
 returns-2 c =
     let b = c .before .before .before in
     let s = b .before .before .before .before in
@@ -48,6 +51,7 @@ same-length-3 : tie.Need-same-length-3
 same-length-3 c = search needs
 
 returns-3 : tie.Need-returns-3
+unfolding editionOf
 returns-3 c =
     let b = c .before .before in
     let s = b .before .before .before .before in

@@ -20,7 +20,7 @@ returns : tie.Need-returns
 returns c =
     let s = c .before .before .before .before .before .sheet-of in
     let g = c .before .answer .given in
-    (order-numbers (s .result) (done-numbers (s .result) (g .0 .0) (g .1)) (s .ensures .0) .0, s .ensures .1)
+    (order-numbers (done-numbers (s .result) (g .0 .0) (g .1)) (s .ensures .0) .0, s .ensures .1)
 
 same-length-2 : tie.Need-same-length-2
 same-length-2 c = search needs
@@ -29,7 +29,7 @@ returns-2 : tie.Need-returns-2
 returns-2 c =
     let s = c .before .before .before .before .before .sheet-of in
     let g = c .before .answer2 .given in
-    (order-numbers (s .result) (refusal-numbers (s .result) (g .0 .0) (g .0 .1 .0) (g .1)) (s .ensures .0) .0, s .ensures .1)
+    (order-numbers (refusal-numbers (s .result) (g .0 .0) (g .0 .1 .0) (g .1)) (s .ensures .0) .0, s .ensures .1)
 
 pub tevrolig-sheet-of-spec : {M : Type 1} → statement M
 tevrolig-sheet-of-spec =

@@ -5,6 +5,7 @@ use native.Mathlib.Omega.{arith}
 use lib.ListN.{length}
 use lib.Seq.{length-take-le}
 use borrow.Author.Needs.{needs}
+use Rattle.edition.specs.Meaning.{editionOf}
 use Rattle.outcome.specs.Meaning.{outcomeOf, verdictOf}
 use Rattle.verify.proofs.Joined.{decided-is, few, handed, refused-is}
 use Rattle.verify.proofs.judge.Statement.{statement}
@@ -23,7 +24,7 @@ returns : tie.Need-returns
 unfolding verdictOf outcomeOf
 returns c =
     let r = c .before .before .before .before .before in
-    refused-is (r .before .before .before .before .args .file .now) (r .read .ensures) (c .before .read2 .given .1)
+    refused-is (editionOf (r .before .before .before .before .args .e)) (r .before .before .before .before .args .file .now) (r .read .ensures) (c .before .read2 .given .1)
 
 enum-told : tie.Need-enum-told
 enum-told c = search needs
@@ -36,21 +37,21 @@ slice-reshare-prefix-deciding c =
     let r = c .before .before .before .before in
     let s = r .before .before .before .before in
     let f = s .args .file .now in
-    let e = few f (r .read .ensures) (c .enum-told .given .1) in
-    omega (arith, e, s .pre, r .read .kept .1 .0)
+    let e = few (editionOf (s .args .e)) f (r .read .ensures) (c .enum-told .given .1) in
+    omega (arith, e, s .pre, r .read .kept .1 .1 .0)
 
 slice-aggregate-deciding : tie.Need-slice-aggregate-deciding
 slice-aggregate-deciding c =
     let r = c .before .before .before .before .before in
     let s = r .before .before .before .before in
     let f = s .args .file .now in
-    let e = few f (r .read .ensures) (c .before .enum-told .given .1) in
-    sym (length-take-le (127 * (length f / 512)) (r .read .last .1 .0) (omega (arith, e, s .pre, r .read .kept .1 .0)))
+    let e = few (editionOf (s .args .e)) f (r .read .ensures) (c .before .enum-told .given .1) in
+    sym (length-take-le (127 * (length f / 512)) (r .read .last .1 .1 .0) (omega (arith, e, s .pre, r .read .kept .1 .1 .0)))
 
 deciding-requires : tie.Need-deciding-requires
 deciding-requires c κs =
     let r = c .before .before .before .before .before in
-    let h = handed (r .before .before .before .before .args .file .now) (r .read .ensures) (c .before .enum-told .given .1) in
+    let h = handed (editionOf (r .before .before .before .before .args .e)) (r .before .before .before .before .args .file .now) (r .read .ensures) (c .before .enum-told .given .1) in
     ((h .sheet, h .range), h .there)
 
 same-length-2 : tie.Need-same-length-2
@@ -59,7 +60,7 @@ same-length-2 c = search needs
 returns-2 : tie.Need-returns-2
 returns-2 c =
     let r = c .before .before .before .before .before .before in
-    decided-is (r .before .before .before .before .args .file .now) (r .read .ensures) (c .before .before .enum-told .given .1) (c .deciding .ensures)
+    decided-is (editionOf (r .before .before .before .before .args .e)) (r .before .before .before .before .args .file .now) (r .read .ensures) (c .before .before .enum-told .given .1) (c .deciding .ensures)
 
 pub judge-spec : {M : Type 1} → statement M
 judge-spec =

@@ -1,0 +1,144 @@
+-- THE PAGE ON THE EDITIONS (02, CR 5): the notions of the other two pages by the words of a sheet, in edition 1 with its one folding number, which is word 3; and the
+-- converter. It holds theorems and nothing else; each proof is one citation. To read it: the definition (crate `definition`) and the vocabularies Numbered.antt and
+-- Faults.antt.
+use Prim.Native.Nat.{ℕ, suc, _+_, _-_, _*_, _/_, _^_, _≤_, _<_}
+use mathlib.Core.List.{List, _++_, map}
+use mathlib.Core.Logic.{_↔_}
+use mathlib.Core.Path.{_≡_}
+use lib.ListN.{length, getD, take, drop}
+use Rattle.definition.specs.Block.{blockCount, fileOf}
+use Rattle.definition.specs.Convert.{foldsTest, toEdition1, toEdition2}
+use Rattle.definition.specs.Layout.{wordsDue}
+use Rattle.definition.specs.Lists.{productOf, range}
+use Rattle.definition.specs.Prove.{done, refusal}
+use Rattle.definition.specs.Prover.{honestStream}
+use Rattle.definition.specs.Reading.{reading, sheetTest}
+use Rattle.definition.specs.Sheet.{Edition, Sheet, edition1, edition2, foldWords, sheetLength, sheetOf}
+use Rattle.definition.specs.Verdict.{accepted, refused}
+use Rattle.definition.specs.Verify.{verify, verifyIn}
+use Rattle.completeness.specs.Converter
+use Rattle.completeness.specs.EditionOne
+use Rattle.completeness.specs.Faults.{KeepsRule, PlainSheet1, readsBefore, sheetIn, sixHigher, turnOf}
+use Rattle.completeness.specs.Lawful
+use Rattle.completeness.specs.Numbered.{Allowed, correctedOf, levelOf, quotientPoly, readsDue, roundPoly, roundsOf, samplesAt, total}
+use Rattle.completeness.specs.PlainSheet
+
+-- 1. LEVELS BY THE WORDS OF A SHEET without a fault, in either edition. M is word 4; d_i is d0 over the product of k_0 to k_(i-1), and k_i is the edition's word for it.
+module _ (ed : Edition) (w : List ℕ) (long : sheetLength ed ≤ length w) (sheet : sheetTest ed w ≡ accepted) where
+  pub rounds-are : roundsOf (sheetOf ed w) ≡ getD w 4 0
+  rounds-are = Lawful.rounds-word ed w long sheet
+
+  pub level-is : (i : ℕ) → i ≤ getD w 4 0 → levelOf (sheetOf ed w) i ≡ record {
+    number = i;
+    size = getD w 1 0 / 2 ^ i;
+    degree = getD w 2 0 / productOf (take i (foldWords ed w));
+    fold = getD (foldWords ed w) i 0;
+    repetitions = getD w (6 + i) 0;
+  }
+  level-is = EditionOne.level-is ed w long sheet
+
+-- 2. EDITION 1 IN ITS OWN TERMS. With k = word 3, d_i is d0/k^i, every level folds by k,
+module _ (w : List ℕ) (long : 12 ≤ length w) (sheet : sheetTest edition1 w ≡ accepted) where
+  pub level-of-edition-1 : (i : ℕ) → i ≤ getD w 4 0 → levelOf (sheetOf edition1 w) i ≡ record {
+    number = i;
+    size = getD w 1 0 / 2 ^ i;
+    degree = getD w 2 0 / getD w 3 0 ^ i;
+    fold = getD w 3 0;
+    repetitions = getD w (6 + i) 0;
+  }
+  level-of-edition-1 = EditionOne.level-one w long sheet
+
+  -- the reads of an accepted file are k·(t_0 + .. + t_M), and those of its first m rounds k·(t_0 + .. + t_(m-1)).
+  pub reads-of-edition-1 : readsDue (sheetOf edition1 w) ≡ getD w 3 0 * total (sheetOf edition1 w .repetitions)
+  reads-of-edition-1 = EditionOne.reads-one w long sheet
+
+  pub reads-before-of-edition-1 : (m : ℕ) → m ≤ suc (getD w 4 0) → readsBefore (sheetOf edition1 w) m ≡ getD w 3 0 * total (map (λ j. getD w (6 + j) 0) (range 0 m))
+  reads-before-of-edition-1 = EditionOne.reads-before-one w long sheet
+
+-- Its rules are those of one folding number, with k^(M+1) at most d0;
+pub rules-of-edition-1 : (w : List ℕ) → ((i : ℕ) → i < 12 → KeepsRule edition1 w i) ↔ PlainSheet1 w
+rules-of-edition-1 = PlainSheet.rules-exactly-1
+
+-- all tests go up from place to place.
+pub turns-of-edition-1 : (n q : ℕ) → turnOf edition1 n q ≡ q
+turns-of-edition-1 = EditionOne.turn-one
+
+-- So completeness and the degrees are, for 12 words without a broken rule, d0 elements and an allowed coin list:
+module _ (w f coins : List ℕ) (ok : Allowed edition1 w f coins) where
+  pub completeness-of-edition-1 : verify (fileOf (honestStream edition1 w f coins)) ≡ record { outcome = accepted; reads = getD w 3 0 * total (sheetOf edition1 w .repetitions) }
+  completeness-of-edition-1 = EditionOne.accepted-one ok
+
+  pub round-degree-of-edition-1 : (i : ℕ) → i ≤ getD w 4 0 → length (roundPoly (sheetOf edition1 w) f coins i) ≡ getD w 2 0 / getD w 3 0 ^ i
+  round-degree-of-edition-1 = EditionOne.round-degree-one ok
+
+  pub corrected-degree-of-edition-1 : (i : ℕ) → i ≤ getD w 4 0 → length (correctedOf (sheetOf edition1 w) f coins i) ≡ getD w 2 0 / getD w 3 0 ^ i
+  corrected-degree-of-edition-1 = EditionOne.corrected-degree-one ok
+
+  pub quotient-degree-of-edition-1 : (i : ℕ) → i < getD w 4 0 →
+      length (quotientPoly (sheetOf edition1 w) f coins (suc i)) ≡ getD w 2 0 / getD w 3 0 ^ suc i - length (samplesAt (sheetOf edition1 w) f coins (suc i))
+  quotient-degree-of-edition-1 = EditionOne.quotient-degree-one ok
+
+  pub samples-fewer-of-edition-1 : (i : ℕ) → i < getD w 4 0 → length (samplesAt (sheetOf edition1 w) f coins (suc i)) < getD w 2 0 / getD w 3 0 ^ suc i
+  samples-fewer-of-edition-1 = EditionOne.samples-fewer-one ok
+
+-- 3. THE CONVERTER TO EDITION 2. It answers done exactly when the file passes refusals 1 to 6 of edition 1 and the output holds the blocks that are due then;
+module _ (bytes output : List ℕ) (n : ℕ) where
+  pub to-2-done-exactly : (toEdition2 bytes output .answer ≡ done n)
+      ↔ ((reading edition1 bytes ≡ accepted) × (n ≡ blockCount (wordsDue edition2 (sheetIn edition1 bytes))) × (512 * n ≤ length output))
+  to-2-done-exactly = Converter.to-2-exactly bytes output n
+
+  module _ (e : toEdition2 bytes output .answer ≡ done n) where
+    -- then the blocks that it wrote pass reading in edition 2,
+    pub to-2-reads : reading edition2 (take (512 * n) (toEdition2 bytes output .output)) ≡ accepted
+    to-2-reads = Converter.to-2-reads bytes output n e
+
+    -- get the original's verdict, but for the word number of a 7, which is six higher,
+    pub to-2-verdict : verifyIn edition2 (take (512 * n) (toEdition2 bytes output .output)) ≡ record { outcome = sixHigher (verify bytes .outcome); reads = verify bytes .reads }
+    to-2-verdict = Converter.to-2-verdict bytes output n e
+
+    -- and converted back they are the original's bytes, where these are bytes; what stands after the blocks is as before.
+    pub there-and-back : ((i : ℕ) → i < length bytes → getD bytes i 0 < 256) → (back : List ℕ) → length bytes ≤ length back →
+        toEdition1 (take (512 * n) (toEdition2 bytes output .output)) back ≡ record { answer = done (length bytes / 512); output = bytes ++ drop (length bytes) back }
+    there-and-back = Converter.there-and-back bytes output n e
+
+    pub to-2-after : drop (512 * n) (toEdition2 bytes output .output) ≡ drop (512 * n) output
+    to-2-after = Converter.to-2-after bytes output n e
+
+-- Refused: the output as before.
+pub to-2-refused : (bytes output : List ℕ) (n q : ℕ) → toEdition2 bytes output .answer ≡ refusal n q → toEdition2 bytes output .output ≡ output
+to-2-refused = Converter.to-2-refused
+
+-- 4. THE CONVERTER TO EDITION 1. It answers done exactly when the file passes refusals 1 to 6 of edition 2, its folding numbers are equal, and the output holds the blocks;
+module _ (bytes output : List ℕ) (n : ℕ) where
+  pub to-1-done-exactly : (toEdition1 bytes output .answer ≡ done n)
+      ↔ ((reading edition2 bytes ≡ accepted) × (foldsTest (sheetIn edition2 bytes) ≡ accepted)
+      × (n ≡ blockCount (wordsDue edition1 (sheetIn edition2 bytes))) × (512 * n ≤ length output))
+  to-1-done-exactly = Converter.to-1-exactly bytes output n
+
+  module _ (e : toEdition1 bytes output .answer ≡ done n) where
+    pub to-1-reads : reading edition1 (take (512 * n) (toEdition1 bytes output .output)) ≡ accepted
+    to-1-reads = Converter.to-1-reads bytes output n e
+
+    pub to-1-verdict : verifyIn edition2 bytes ≡ record {
+      outcome = sixHigher (verify (take (512 * n) (toEdition1 bytes output .output)) .outcome);
+      reads = verify (take (512 * n) (toEdition1 bytes output .output)) .reads;
+    }
+    to-1-verdict = Converter.to-1-verdict bytes output n e
+
+    pub back-and-there : ((i : ℕ) → i < length bytes → getD bytes i 0 < 256) → (again : List ℕ) → length bytes ≤ length again →
+        toEdition2 (take (512 * n) (toEdition1 bytes output .output)) again ≡ record { answer = done (length bytes / 512); output = bytes ++ drop (length bytes) again }
+    back-and-there = Converter.back-and-there bytes output n e
+
+    pub to-1-after : drop (512 * n) (toEdition1 bytes output .output) ≡ drop (512 * n) output
+    to-1-after = Converter.to-1-after bytes output n e
+
+pub to-1-refused : (bytes output : List ℕ) (n q : ℕ) → toEdition1 bytes output .answer ≡ refusal n q → toEdition1 bytes output .output ≡ output
+to-1-refused = Converter.to-1-refused
+
+-- 13: the folding numbers are equal exactly when each is k_0, and else its place is the first that is not.
+pub folds-exactly : (h : Sheet) → (foldsTest h ≡ accepted) ↔ ((i : ℕ) → i < length (h .folds) → getD (h .folds) i 0 ≡ getD (h .folds) 0 0)
+folds-exactly = Converter.folds-exactly
+
+pub folds-refused : (h : Sheet) (n i : ℕ) → foldsTest h ≡ refused n i →
+    (n ≡ 13) × (i < length (h .folds)) × (getD (h .folds) i 0 ≡ getD (h .folds) 0 0 → ⊥) × ((j : ℕ) → j < i → getD (h .folds) j 0 ≡ getD (h .folds) 0 0)
+folds-refused = Converter.folds-refused

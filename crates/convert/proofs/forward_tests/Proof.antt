@@ -1,0 +1,82 @@
+-- `convert::forward_tests` meets its contract. Assumes nothing.
+use mathlib.Core.Path.{sym}
+use lib.Seq.{length-take-le}
+use native.Mathlib.Omega.{arith}
+use borrow.Author.Needs.{needs}
+use Rattle.definition.specs.Block.{streamOf}
+use Rattle.definition.specs.Convert.{forward}
+use Rattle.definition.specs.Sheet.{edition1}
+use Rattle.edition.specs.Meaning.{editionOf}
+use Rattle.convert.specs.Stages.{due-is, forward-count, head-passes, output-for, read-refused, read-then, told}
+use Rattle.convert.proofs.forward_tests.Statement.{statement}
+use Rattle.convert.proofs.forward_tests.Tie as tie
+
+read-requires : tie.Need-read-requires
+read-requires c κs = search needs
+
+enum-known-read : tie.Need-enum-known-read
+enum-known-read c = search needs
+
+same-length : tie.Need-same-length
+same-length c = search needs
+
+returns : tie.Need-returns
+unfolding editionOf
+returns c =
+    let r = c .before .before .before .before .before in
+    read-refused edition1 (r .before .before .before .before .args .file .now) (r .read .ensures) _ (c .before .read2 .given .1)
+
+enum-told : tie.Need-enum-told
+enum-told c = search needs
+
+slice-reshare-prefix-words-due : tie.Need-slice-reshare-prefix-words-due
+slice-reshare-prefix-words-due c = search needs
+
+slice-aggregate-words-due : tie.Need-slice-aggregate-words-due
+slice-aggregate-words-due c =
+    let r = c .before .before .before .before .before in
+    sym (length-take-le 12 (r .read .last .1 .1 .0) (omega (arith, r .before .before .before .before .pre .1, r .read .kept .1 .1 .0)))
+
+words-due-requires : tie.Need-words-due-requires
+unfolding editionOf
+words-due-requires c κs =
+    let r = c .before .before .before .before .before in
+    let p = told (r .read .ensures .outcome) (c .before .enum-told .given .1) in
+    head-passes edition1 (r .before .before .before .before .args .file .now) (r .read .last .1 .1 .0) p (r .read .ensures .stream p)
+
+add-output-test : tie.Need-add-output-test
+add-output-test c = search needs
+
+output-test-requires : tie.Need-output-test-requires
+output-test-requires c κs = search needs
+
+same-length-2 : tie.Need-same-length-2
+same-length-2 c = search needs
+
+returns-2 : tie.Need-returns-2
+unfolding editionOf
+returns-2 c =
+    let r = c .before .before .before .before .before .before .before in
+    let a = r .before .before .before .before .args in
+    let f = a .file .now in
+    let e = c .before .before .before .enum-told .given .1 in
+    let p = told (r .read .ensures .outcome) e in
+    let is = due-is edition1 f (r .read .last .1 .1 .0) p (r .read .ensures .stream p) (c .before .words-due .ensures .0) in
+    read-then edition1 f (r .read .ensures) e (output-for (forward (streamOf f)) (a .size) (forward-count f p is) (c .output-test .ensures))
+
+pub forward-tests-spec : {M : Type 1} → statement M
+forward-tests-spec =
+    tie.close
+    (tie.spec
+    read-requires
+    enum-known-read
+    same-length
+    returns
+    enum-told
+    slice-reshare-prefix-words-due
+    slice-aggregate-words-due
+    words-due-requires
+    add-output-test
+    output-test-requires
+    same-length-2
+    returns-2)

@@ -1,0 +1,119 @@
+-- Edition 2 and the converter (02, CR 5): the rules of its 18 words and their order, whole files, and both ways of the converter, by computation.
+use Prim.Native.Nat.{ℕ}
+use mathlib.Core.Path.{_≡_, refl}
+use mathlib.Core.List.{List, [], _∷_, _++_}
+use lib.ListN.{drop, set, replicate}
+use Rattle.definition.specs.Block.{fileOf}
+use Rattle.definition.specs.Sheet.{edition2}
+use Rattle.definition.specs.Verdict.{accepted, refused}
+use Rattle.definition.specs.Reading.{sheetTest}
+use Rattle.definition.specs.Verify.{verifyIn}
+use Rattle.definition.specs.Prover.{honestStream}
+use Rattle.definition.specs.Prove.{proveIn, done, Result}
+use Rattle.definition.specs.Convert.{toEdition1, toEdition2}
+use Rattle.definition.specs.WorkedTranscript.{sheetWords, coefficients, coins, stream, file, oneToEight, accept, refuse, kept, definitions}
+
+-- the sheet of the transcript by hand in edition 2, and its stream
+abbrev sheet2 : List ℕ
+sheet2 = 0 ∷ 16 ∷ 8 ∷ 2 ∷ 1 ∷ 1 ∷ 1 ∷ 1 ∷ 0 ∷ 0 ∷ 0 ∷ 0 ∷ 2 ∷ 0 ∷ 0 ∷ 0 ∷ 0 ∷ 2 ∷ []
+
+abbrev stream2 : List ℕ
+stream2 = sheet2 ++ drop 12 stream
+
+-- k_0 = 2 and k_1 = 4: table 0 18 to 33, fold coin 34, table 1 35 to 42, out coin 43, reply 44, coins 45 46, shift indices 47 48, final
+-- coefficient 49, final indices 50 51
+abbrev mixedSheet : List ℕ
+mixedSheet = 0 ∷ 16 ∷ 8 ∷ 2 ∷ 1 ∷ 1 ∷ 2 ∷ 2 ∷ 0 ∷ 0 ∷ 0 ∷ 0 ∷ 4 ∷ 0 ∷ 0 ∷ 0 ∷ 0 ∷ 2 ∷ []
+
+abbrev mixed : List ℕ
+mixed =
+    mixedSheet ++ (5 ∷ 1 ∷ 9 ∷ 12 ∷ 13 ∷ 3 ∷ 5 ∷ 13 ∷ 0 ∷ 6 ∷ 11 ∷ 14 ∷ 8 ∷ 8 ∷ 8 ∷ 2 ∷ 2 ∷ 13 ∷ 12 ∷ 11 ∷ 3 ∷ 14 ∷ 15 ∷ 16 ∷ 7
+    ∷ 0 ∷ 5 ∷ 2 ∷ 4 ∷ 0 ∷ 5 ∷ 8 ∷ 1 ∷ 0 ∷ [])
+
+abbrev largeFirst : List ℕ
+largeFirst = 1 ∷ 64 ∷ 32 ∷ 8 ∷ 1 ∷ 1 ∷ 2 ∷ 1 ∷ 0 ∷ 0 ∷ 0 ∷ 0 ∷ 2 ∷ 0 ∷ 0 ∷ 0 ∷ 0 ∷ 2 ∷ []
+
+abbrev threeFolds : List ℕ
+threeFolds = 1 ∷ 64 ∷ 32 ∷ 2 ∷ 2 ∷ 1 ∷ 14 ∷ 2 ∷ 1 ∷ 0 ∷ 0 ∷ 0 ∷ 4 ∷ 2 ∷ 0 ∷ 0 ∷ 0 ∷ 2 ∷ []
+
+pub record EditionCases : Type 0 where
+  -- the rules of words 12 to 17, tested after word 5 and before word 6
+  pub sheet·fine : sheetTest edition2 sheet2 ≡ accepted
+  pub mixed·fine : sheetTest edition2 mixedSheet ≡ accepted
+  pub k1·8 : sheetTest edition2 (set mixedSheet 12 8) ≡ refused 3 12
+  pub k1·0 : sheetTest edition2 (set mixedSheet 12 0) ≡ refused 3 12
+  pub k1·1 : sheetTest edition2 (set mixedSheet 12 1) ≡ refused 3 12
+  pub k1·3 : sheetTest edition2 (set mixedSheet 12 3) ≡ refused 3 12
+  pub k2·past·M : sheetTest edition2 (set mixedSheet 13 2) ≡ refused 3 13
+  pub k5·past·M : sheetTest edition2 (set mixedSheet 16 2) ≡ refused 3 16
+  pub edition·0 : sheetTest edition2 (set mixedSheet 17 0) ≡ refused 3 17
+  pub M·2·needs·k2 : sheetTest edition2 (set mixedSheet 4 2) ≡ refused 3 13
+  pub M·5 : sheetTest edition2 (set (set mixedSheet 4 5) 2 2) ≡ refused 3 12
+  pub M·6 : sheetTest edition2 (set mixedSheet 4 6) ≡ refused 3 4
+  pub t0·after·17 : sheetTest edition2 (set (set mixedSheet 6 0) 17 1) ≡ refused 3 17
+  pub t0·3 : sheetTest edition2 (set mixedSheet 6 3) ≡ refused 3 6
+  pub t1·after·t0 : sheetTest edition2 (set (set mixedSheet 6 0) 7 0) ≡ refused 3 6
+  -- k_0 = 8 and k_1 = 2 with d0 = 32: k_0² is above d0 and their product is not; k_0 = 2, k_1 = 4, k_2 = 2: the product is tested at each k, and t_1
+  -- goes by d_2 = 32/8
+  pub large·first : sheetTest edition2 largeFirst ≡ accepted
+  pub three·folds : sheetTest edition2 threeFolds ≡ accepted
+  pub product·at·k2 : sheetTest edition2 (set threeFolds 13 8) ≡ refused 3 13
+  pub product·at·k1 : sheetTest edition2 (set (set threeFolds 3 16) 13 0) ≡ refused 3 12
+  pub t1·with·s·is·d2 : sheetTest edition2 (set threeFolds 7 3) ≡ refused 3 7
+  pub k3·past·M : sheetTest edition2 (set threeFolds 14 2) ≡ refused 3 14
+  -- whole files
+  pub worked : verifyIn edition2 (fileOf stream2) ≡ accept 4
+  pub mixed·accepted : verifyIn edition2 (fileOf mixed) ≡ accept 12
+  pub mixed·stream : honestStream edition2 mixedSheet oneToEight (2 ∷ 0 ∷ 2 ∷ 4 ∷ 0 ∷ 5 ∷ 1 ∷ 0 ∷ []) ≡ mixed
+  pub mixed·wrong : verifyIn edition2 (fileOf (set mixed 49 9)) ≡ refuse 9 0 8
+  pub mixed·out : verifyIn edition2 (fileOf (set mixed 43 3)) ≡ refuse 7 43 0
+  pub mixed·index : verifyIn edition2 (fileOf (set mixed 51 2)) ≡ refuse 5 51 0
+  pub prove·18 : proveIn edition2 sheetWords coefficients coins (replicate 512 7) ≡ kept 10 0 (replicate 512 7)
+  -- the converter
+  pub forth : toEdition2 file (replicate 513 7) ≡ record { answer = done 1; output = fileOf stream2 ++ (7 ∷ []) }
+  pub forth·short : toEdition2 file (replicate 511 7) ≡ kept 11 1 (replicate 511 7)
+  pub forth·empty : toEdition2 [] (replicate 511 7) ≡ kept 1 0 (replicate 511 7)
+  pub back : toEdition1 (fileOf stream2) (replicate 513 7) ≡ record { answer = done 1; output = file ++ (7 ∷ []) }
+  pub back·differ : toEdition1 (fileOf mixed) [] ≡ kept 13 1 []
+  pub back·short : toEdition1 (fileOf stream2) [] ≡ kept 11 1 []
+  pub back·check·wrong : toEdition1 (set (fileOf mixed) 0 1) [] ≡ kept 2 0 []
+
+pub editionCases : EditionCases
+unfolding definitions
+editionCases = record {
+  sheet·fine = refl;
+  mixed·fine = refl;
+  k1·8 = refl;
+  k1·0 = refl;
+  k1·1 = refl;
+  k1·3 = refl;
+  k2·past·M = refl;
+  k5·past·M = refl;
+  edition·0 = refl;
+  M·2·needs·k2 = refl;
+  M·5 = refl;
+  M·6 = refl;
+  t0·after·17 = refl;
+  t0·3 = refl;
+  t1·after·t0 = refl;
+  large·first = refl;
+  three·folds = refl;
+  product·at·k2 = refl;
+  product·at·k1 = refl;
+  t1·with·s·is·d2 = refl;
+  k3·past·M = refl;
+  worked = refl;
+  mixed·accepted = refl;
+  mixed·stream = refl;
+  mixed·wrong = refl;
+  mixed·out = refl;
+  mixed·index = refl;
+  prove·18 = refl;
+  forth = refl;
+  forth·short = refl;
+  forth·empty = refl;
+  back = refl;
+  back·differ = refl;
+  back·short = refl;
+  back·check·wrong = refl;
+}

@@ -1,0 +1,6 @@
+// The program `prove2`: the same as `prove`, with a sheet of edition 2.
+use edition::Edition;
+
+fn main() {
+    files::prove_order(Edition::Two);
+}

@@ -1,0 +1,18 @@
+-- `selfcheck::prove_then_verify_2` meets its contract. Assumes nothing.
+use borrow.Author.Needs.{needs}
+use Rattle.edition.specs.Meaning.{editionOf}
+use Rattle.selfcheck.proofs.prove_then_verify_2.Statement.{statement}
+use Rattle.selfcheck.proofs.prove_then_verify_2.Tie as tie
+
+prove-then-verify-in-requires : tie.Need-prove-then-verify-in-requires
+prove-then-verify-in-requires c κs = search needs
+
+same-length : tie.Need-same-length
+same-length c = search needs
+
+returns : tie.Need-returns
+unfolding editionOf
+returns c = c .before .before .prove-then-verify-in .ensures
+
+pub prove-then-verify-2-spec : {M : Type 1} → statement M
+prove-then-verify-2-spec = tie.close (tie.spec prove-then-verify-in-requires same-length returns)
