@@ -287,7 +287,7 @@ pub load-refused : loadLines 0 ≡ (114 ∷ 101 ∷ 102 ∷ 117 ∷ 115 ∷ 101 
 load-refused = LoadAllowed.load-refused
 
 -- Every value that the rule of a sheet word permits is among those that the load draws from.
-pub none-missing : (w : List ℕ) (x : ℕ) → permits w x ≡ true → member x candidates ≡ true
+pub none-missing : (w : List ℕ) (x : ℕ) → permits w x ≡ true → member eqb x candidates ≡ true
 none-missing = LoadAllowed.none-missing
 
 -- 12. NO INVERSE FOR ZERO (02, CR 3). The public inverse is none exactly for 0, that is, for each multiple of p;

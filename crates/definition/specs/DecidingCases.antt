@@ -18,11 +18,10 @@ round1 = record { coins = record { level = level1; outs = []; combination = 0; f
 
 -- `fileOf` makes the checks right.
 pub record DecidingCases : Type 0 where
-  -- accepted: the reads are k for each shift and each final coin; a repeated shift index is one point of G, and it is read twice,
-  -- as a repeated final index is
+  -- accepted: the reads are k for each different shift index and each different final index; a repeated index opens no place again (02, CR 8)
   pub accepts : verify (fileOf doubled) ≡ accept 8
-  pub shift·repeated : verify (fileOf (set (set (set doubled 41 5) 43 2) 44 0)) ≡ accept 8
-  pub final·repeated : verify (fileOf (set doubled 46 1)) ≡ accept 8
+  pub shift·repeated : verify (fileOf (set (set (set doubled 41 5) 43 2) 44 0)) ≡ accept 6
+  pub final·repeated : verify (fileOf (set doubled 46 1)) ≡ accept 6
   pub two·outs : verify (fileOf twoOuts) ≡ accept 6
   -- the combination coin 12 makes cx = 1 at x = 10, which final coin 1 reads (P7); the combination coin 0
   pub cx·1 : verify (fileOf (set (set (set stream 39 12) 42 7) 43 6)) ≡ accept 4

@@ -17,7 +17,7 @@ InTable points scale js = (i : ℕ) → i < length js → scale * getD js i 0 < 
 
 -- a point in front of others, unless it is among them
 unfoldable pub keepPoint : ℕ → List ℕ → List ℕ
-keepPoint x kept = cond (member x kept) kept (x ∷ kept)
+keepPoint x kept = cond (member eqb x kept) kept (x ∷ kept)
 
 -- the points of a list in front of others, the last first
 unfoldable pub keepPoints : List ℕ → List ℕ → List ℕ
@@ -33,19 +33,19 @@ keep-append [] ys kept = refl
 keep-append (x ∷ xs) ys kept = ap (keepPoint x) (keep-append xs ys kept)
 
 -- what is kept has the points that are given
-member-kept : (x : ℕ) (xs : List ℕ) → member x (differentPoints xs) ≡ member x xs
+member-kept : (x : ℕ) (xs : List ℕ) → member eqb x (differentPoints xs) ≡ member eqb x xs
 unfolding keepPoints keepPoint member
 member-kept x [] = refl
-member-kept x (y ∷ ys) = go (member y (differentPoints ys)) (eqb x y) refl refl (member-kept x ys)
+member-kept x (y ∷ ys) = go (member eqb y (differentPoints ys)) (eqb x y) refl refl (member-kept x ys)
   where
-    go : (b t : Bool) → member y (differentPoints ys) ≡ b → eqb x y ≡ t → member x (differentPoints ys) ≡ member x ys →
-        member x (cond b (differentPoints ys) (y ∷ differentPoints ys)) ≡ (t || member x ys)
-    go true true e q h = ap (λ (z : ℕ). member z (differentPoints ys)) (eqb-true x y q) ∙ e
+    go : (b t : Bool) → member eqb y (differentPoints ys) ≡ b → eqb x y ≡ t → member eqb x (differentPoints ys) ≡ member eqb x ys →
+        member eqb x (cond b (differentPoints ys) (y ∷ differentPoints ys)) ≡ (t || member eqb x ys)
+    go true true e q h = ap (λ (z : ℕ). member eqb z (differentPoints ys)) (eqb-true x y q) ∙ e
     go true false e q h = h
     go false t e q h = λ i. q i || h i
 
 module _ (field ω : ℕ) (g : List ℕ) where
-  sampled-member : (x : ℕ) (xs : List ℕ) → sampledAt (fieldOf field) x (samplesOf (fieldOf field) ω g xs) ≡ member x xs
+  sampled-member : (x : ℕ) (xs : List ℕ) → sampledAt (fieldOf field) x (samplesOf (fieldOf field) ω g xs) ≡ member eqb x xs
   unfolding sampledAt samplesOf member fieldOf primeField
   sampled-member x [] = refl
   sampled-member x (y ∷ ys) = ap (λ (t : Bool). eqb x y || t) (sampled-member x ys)
@@ -61,4 +61,4 @@ module _ (field ω : ℕ) (g : List ℕ) where
   unfolding points distinct samplesOf keepPoints keepPoint
   distinct-points [] = refl
   distinct-points (x ∷ xs) =
-      kept-points _ (member x (differentPoints xs)) _ _ (differentPoints xs) (sampled-member x xs ∙ sym (member-kept x xs)) (distinct-points xs)
+      kept-points _ (member eqb x (differentPoints xs)) _ _ (differentPoints xs) (sampled-member x xs ∙ sym (member-kept x xs)) (distinct-points xs)

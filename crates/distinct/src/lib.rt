@@ -2,6 +2,7 @@
 ghost use mathlib.Core.Path.{_≡_};
 ghost use mathlib.Core.List.{_++_, map};
 ghost use Prim.Native.Nat.{_+_, _≤_, _<_};
+ghost use lib.Dec.{eqb};
 ghost use lib.ListN.{length, drop};
 ghost use Rattle.definition.specs.Lists.{member};
 ghost use Rattle.folds.specs.PointsIn.{shiftIn};
@@ -10,7 +11,7 @@ ghost use Rattle.distinct.specs.Points.{InTable, differentPoints, keepPo
 // Is x among the points from number `from` on?
 fn found(xs: &[u32], from: usize, x: u32) -> bool
     requires { ⌜ from ≤ length (now xs) ⌝ }
-    ensures { λ r. ⌜ r ≡ member x (drop from (now (xs .entry))) ⌝ }
+    ensures { λ r. ⌜ r ≡ member eqb x (drop from (now (xs .entry))) ⌝ }
 {
     let mut i = from;
     while i < xs.len() {
