@@ -4,11 +4,9 @@ use mathlib.Core.Bool.{Bool, true, false, cond}
 use mathlib.Core.List.{List, [], _∷_, map}
 use mathlib.Core.Path.{_≡_, refl, sym, ap, _∙_}
 use native.Mathlib.Nat.{le-refl}
-use native.Mathlib.Numerals.{add-one}
 use native.Mathlib.Omega.{arith}
+use lib.Dec.{eqb}
 use lib.ListN.{length, drop, getD, set, drop-of-length-le}
-use lib.Seq.{drop-cons}
-use borrow.Author.Tests.{eq-eqb, ne-eqb}
 use Rattle.definition.specs.Lists.{member}
 use Rattle.polynomial.specs.Backwards.{drop-back, drop-store}
 use Rattle.distinct.specs.Points.{InTable, keepPoint, keepPoints}
@@ -16,20 +14,6 @@ use Rattle.distinct.specs.Points.{InTable, keepPoint, keepPoints}
 pub map-same : (xs : List ℕ) → map (λ x. x) xs ≡ xs
 map-same [] = refl
 map-same (x ∷ xs) = ap {B = List ℕ} (λ l. x ∷ l) (map-same xs)
-
--- ---- the search for a point
-
-pub here : (xs : List ℕ) (i x : ℕ) → i < length xs → x ≡ getD xs i 0 → true ≡ member eqb x (drop i xs)
-unfolding member
-here xs i x h e = rw (drop-cons xs i 0 h) (simp (eq-eqb _ _ e))
-
-pub next : (xs : List ℕ) (i x : ℕ) → i < length xs → (x ≡ getD xs i 0 → ⊥) → member eqb x (drop (i + 1) xs) ≡ member eqb x (drop i xs)
-unfolding member
-next xs i x h e = rw (add-one, drop-cons xs i 0 h) (simp (ne-eqb _ _ e))
-
-pub nowhere : (xs : List ℕ) (i x : ℕ) → length xs ≤ i → false ≡ member eqb x (drop i xs)
-unfolding member
-nowhere xs i x h = rw (drop-of-length-le xs h)
 
 -- ---- one point kept, and a list of points
 

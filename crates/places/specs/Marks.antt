@@ -37,8 +37,8 @@ module _ (js : List ℕ) (count i : ℕ) (h : 0 < i) (c : Counted js count i) wh
   unfolding different
   count-old z = record { within = omega (arith, c .within); few = omega (arith, c .few); counted = rw (drop-back js i h (c .within), z) (c .counted) }
 
-pub count-done : (js : List ℕ) (count i : ℕ) → i ≤ 0 → Counted js count i → (count ≡ length (different eqb js)) × (count ≤ length js)
-count-done js count zero h c = (c .counted, omega (arith, c .few))
+pub count-done : (js : List ℕ) (count i : ℕ) → i ≤ 0 → Counted js count i → count ≡ length (different eqb js)
+count-done js count zero h c = c .counted
 count-done js count (suc i) h c = absurd (omega arith)
 
 -- ---- marks

@@ -24,7 +24,7 @@ pub fn found(xs: &[u32], from: usize, x: u32) -> bool
 
 // The number of different ones, each compared with those after it: for a few indices this takes less time than clearing the marks.
 fn count_few(js: &[u32]) -> usize
-    ensures { λ r. ⌜ (r ≡ length (different eqb (now (js .entry)))) × (r ≤ length (now (js .entry))) ⌝ }
+    ensures { λ r. ⌜ r ≡ length (different eqb (now (js .entry))) ⌝ }
 {
     let mut count = 0;
     let mut i = js.len();
@@ -59,7 +59,7 @@ fn mark(marks: &mut [u8], j: usize) -> bool
 fn count_by(js: &[u32], marks: &mut [u8]) -> usize
     requires { ⌜ All (λ j. j < 2048) (now js) ⌝ }
     requires { ⌜ now marks ≡ replicate 2048 0 ⌝ }
-    ensures { λ r. ⌜ (r ≡ length (different eqb (now (js .entry)))) × (r ≤ length (now (js .entry))) ⌝ }
+    ensures { λ r. ⌜ r ≡ length (different eqb (now (js .entry))) ⌝ }
 {
     let mut count = 0;
     let mut i = js.len();
@@ -75,7 +75,7 @@ fn count_by(js: &[u32], marks: &mut [u8]) -> usize
 // The number of different ones, by marks.
 fn count_many(js: &[u32]) -> usize
     requires { ⌜ All (λ j. j < 2048) (now js) ⌝ }
-    ensures { λ r. ⌜ (r ≡ length (different eqb (now (js .entry)))) × (r ≤ length (now (js .entry))) ⌝ }
+    ensures { λ r. ⌜ r ≡ length (different eqb (now (js .entry))) ⌝ }
 {
     let mut marks = room();
     count_by(js, &mut marks)
@@ -84,7 +84,7 @@ fn count_many(js: &[u32]) -> usize
 // The number of different ones among indices below 2,048.
 pub fn count(js: &[u32]) -> usize
     requires { ⌜ All (λ j. j < 2048) (now js) ⌝ }
-    ensures { λ r. ⌜ (r ≡ length (different eqb (now (js .entry)))) × (r ≤ length (now (js .entry))) ⌝ }
+    ensures { λ r. ⌜ r ≡ length (different eqb (now (js .entry))) ⌝ }
 {
     if js.len() <= 8 {
         return count_few(js);
