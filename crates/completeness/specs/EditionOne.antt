@@ -5,7 +5,7 @@ use native.Mathlib.Omega.{arith}
 use mathlib.Core.Bool.{Bool, true, false, cond}
 use mathlib.Core.List.{List, map}
 use mathlib.Core.Path.{_≡_, refl, sym, ap, _∙_}
-use lib.ListN.{length, getD, take, replicate}
+use lib.ListN.{length, getD, take}
 use lib.Seq.{getD-take, take-take}
 use lib.Dec.{eqb}
 use Rattle.definition.specs.Block.{fileOf}
@@ -18,11 +18,11 @@ use Rattle.definition.specs.Verify.{verify}
 use Rattle.completeness.specs.Allowed.{allowed-enough}
 use Rattle.completeness.specs.Completeness.{completeness}
 use Rattle.completeness.specs.Faults.{partWords, readsBefore, shifts, turnOf, wordTurn}
-use Rattle.completeness.specs.Lawful.{lawful, rounds-word, times-word}
+use Rattle.completeness.specs.Lawful.{rounds-word, times-word}
 use Rattle.completeness.specs.Numbered.{Allowed, correctedOf, degreeOf, indicesOf, levelOf, levelReads, quotientPoly, readsDue, roundPoly, roundsOf, samplesAt, total}
 use Rattle.completeness.specs.PlainSheet.{fold-one, product-one}
 use Rattle.completeness.specs.RunByNumber.{corrected-length, fewer, quotient-length, round-length}
-use Rattle.completeness.specs.SheetRules.{rounds-most, take-replicate}
+use Rattle.completeness.specs.SheetRules.{rounds-most}
 
 -- level i by the words of the sheet
 pub level-is : (ed : Edition) (w : List ℕ) → sheetLength ed ≤ length w → sheetTest ed w ≡ accepted → (i : ℕ) → i ≤ getD w 4 0 → levelOf (sheetOf ed w) i ≡ record {
@@ -40,11 +40,6 @@ level-is ed w long passed i l = λ t. record {
   fold = getD-take (suc (getD w 4 0)) (foldWords ed w) i 0 (omega arith) t;
   repetitions = times-word ed w long passed i l t;
 }
-
--- in edition 1 the folding numbers are one number
-folds-one : (w : List ℕ) → getD w 4 0 ≤ 5 → sheetOf edition1 w .folds ≡ replicate (suc (getD w 4 0)) (getD w 3 0)
-unfolding sheetOf foldWords foldPlaces
-folds-one w most = take-replicate (suc (getD w 4 0)) 6 (getD w 3 0) (omega arith)
 
 module _ (w : List ℕ) (long : 12 ≤ length w) (passed : sheetTest edition1 w ≡ accepted) where
   most : getD w 4 0 ≤ 5

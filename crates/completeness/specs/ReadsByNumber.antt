@@ -6,7 +6,7 @@ use mathlib.Core.Bool.{Bool, true, false, cond}
 use mathlib.Core.List.{List, [], _∷_, _++_, map}
 use mathlib.Core.Option.{Option, none, some}
 use mathlib.Core.Path.{_≡_, refl, sym, ap, _∙_, subst}
-use lib.ListN.{length, getD, take, drop}
+use lib.ListN.{length, take, drop}
 use borrow.Author.Tests.{ne-eqb}
 use Rattle.definition.specs.Block.{streamOf}
 use Rattle.definition.specs.Deciding.{Decision, Place, counted, decide, decideFinal, decideRest, deciding, equalTest, outTest, outTests, placesOf, readsOf, treated}
