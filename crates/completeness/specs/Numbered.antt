@@ -98,6 +98,15 @@ shiftIndices h coins (suc i) = take (levelOf h i .repetitions) (drop (coinsBefor
 unfoldable pub finalIndices : Sheet → List ℕ → List ℕ
 finalIndices h coins = drop (coinsBefore h (suc (roundsOf h))) coins
 
+abbrev pub coinsOf : Sheet → List ℕ → ℕ → RoundCoins ℕ
+coinsOf h coins i = record {
+  level = levelOf h i;
+  outs = outCoinsOf h coins i;
+  combination = combinationCoin h coins i;
+  fold = foldCoin h coins i;
+  shifts = shiftIndices h coins i;
+}
+
 -- THE READS. The indices whose roots are read in table i: the shift indices of round i + 1, and for i = M the final indices
 unfoldable pub indicesOf : Sheet → List ℕ → ℕ → List ℕ
 indicesOf h coins i = cond (ltb i (roundsOf h)) (shiftIndices h coins (suc i)) (finalIndices h coins)
@@ -108,15 +117,6 @@ levelReads h i js = length (different eqb js) * levelOf h i .fold
 
 unfoldable pub readsDue : Sheet → List ℕ → ℕ
 readsDue h coins = total (map (λ i. levelReads h i (indicesOf h coins i)) (range 0 (suc (roundsOf h))))
-
-abbrev pub coinsOf : Sheet → List ℕ → ℕ → RoundCoins ℕ
-coinsOf h coins i = record {
-  level = levelOf h i;
-  outs = outCoinsOf h coins i;
-  combination = combinationCoin h coins i;
-  fold = foldCoin h coins i;
-  shifts = shiftIndices h coins i;
-}
 
 -- THE PROVER'S POLYNOMIALS. f_0 = f, and f_(i+1) is the corrected polynomial of G_(i+1), combination coin i + 1 and g_(i+1), the fold of f_i by fold coin i.
 unfoldable pub correctedOf : Sheet → List ℕ → List ℕ → ℕ → List ℕ

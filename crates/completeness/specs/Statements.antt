@@ -52,7 +52,7 @@ use Rattle.completeness.specs.StreamByNumber
 pub completeness : (ed : Edition) (w f coins : List ℕ) → Allowed ed w f coins → verifyIn ed (fileOf (honestStream ed w f coins)) ≡ record { outcome = accepted; reads = readsDue (sheetOf ed w) coins }
 completeness = Completeness.completeness
 
--- These are at most k_0·t_0 + .. + k_M·t_M, and fewer where an index repeats in its level.
+-- These are at most k_0·t_0 + .. + k_M·t_M.
 pub reads-at-most : (ed : Edition) (w f coins : List ℕ) → Allowed ed w f coins → readsDue (sheetOf ed w) coins ≤ total (zipWith _*_ (sheetOf ed w .folds) (sheetOf ed w .repetitions))
 reads-at-most = Reads.reads-at-most
 
