@@ -14,6 +14,7 @@ use std::io::{self, BufWriter, Write};
 use std::process::ExitCode;
 use tevrolig_model::convert::convert_to;
 use tevrolig_model::generate::equal_outs::equal_coin_drawn;
+use tevrolig_model::generate::repeats::repeat;
 use tevrolig_model::generate::{
     aim, coefficients, coins, convert, damage, honest_file, sheet_over, Rng,
 };
@@ -115,21 +116,31 @@ fn drawn_order(rng: &mut Rng, case: u64) -> String {
     }
 }
 
-/// A file of any field: about a third honest, the rest damaged, not empty. Most have
-/// rounds, and at most 6 final coins, so that a case is short to compute.
+/// A file of any field: about a third honest, the rest damaged, not empty; in half of
+/// them indices are repeated. Most have rounds, and at most 6 final coins, and none has
+/// final coins with more than 128 places, so that a case is short to compute.
 fn small(edition: Edition, rng: &mut Rng) -> Vec<u8> {
     let field = rng.below(3) as u32;
     let mut sheet = sheet_over(edition, rng, field, 32);
     while sheet[4] == 0 && !rng.one_in(8) {
         sheet = sheet_over(edition, rng, field, 32);
     }
-    let last = 6 + sheet[4] as usize;
-    if !rng.one_in(16) {
-        sheet[last] = sheet[last].min(1 + rng.below(6) as u32);
-    }
+    let last = sheet[4] as usize;
+    let fold = match edition {
+        Edition::Two if last > 0 => sheet[11 + last],
+        _ => sheet[3],
+    };
+    let most = match rng.below(16) {
+        0 => 128 / fold,
+        _ => 1 + rng.below(6) as u32,
+    };
+    sheet[6 + last] = sheet[6 + last].min(most);
     let polynomial = coefficients(rng, &sheet);
     let hostile = rng.one_in(2);
-    let coins = coins(rng, &sheet, hostile);
+    let mut coins = coins(rng, &sheet, hostile);
+    if rng.one_in(2) {
+        repeat(rng, &sheet, &mut coins);
+    }
     let file = honest_file(&sheet, &polynomial, &coins);
     if rng.one_in(3) {
         return file;
