@@ -271,7 +271,7 @@ draws-allowed v =
 -- ---- the lines
 
 -- So the honest file of each run is accepted, with the reads due.
-pub draws-accepted : (v : ℕ) → verdictOn (drawOrder v .value) ≡ record { outcome = accepted; reads = readsDue (sheetOf edition1 (drawOrder v .value .sheet)) }
+pub draws-accepted : (v : ℕ) → verdictOn (drawOrder v .value) ≡ record { outcome = accepted; reads = readsDue (sheetOf edition1 (drawOrder v .value .sheet)) (drawOrder v .value .coins) }
 unfolding verdictOn
 draws-accepted v = completeness edition1 _ _ _ (draws-allowed v)
 

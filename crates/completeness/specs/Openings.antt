@@ -1,46 +1,43 @@
--- The reads as openings: the places of a level's coins are k for each different index, and the reads of different tables add up.
+-- The reads as openings: the coins of a level read k places for each different index, in each of their tables; those of a table not used so far add to the reads.
 use Prim.Native.Nat.{ℕ, zero, suc, _+_, _*_, _%_, _≤_, _<_}
-use native.Mathlib.Nat.{add-mul-mod-self-right, mod-eq-of-lt, mul-comm, mul-suc, mul-zero, mul-le-mul-right}
+use native.Mathlib.Nat.{add-mul-mod-self-right, mod-eq-of-lt, mul-le-mul-right, mul-one, suc-mul, zero-mul}
 use native.Mathlib.Omega.{arith}
-use mathlib.Core.Bool.{Bool, true, false, cond, _&&_, _||_}
+use mathlib.Core.Bool.{Bool, true, false, cond, _&&_, _||_, and-or-distrib-right, and-true, or-assoc, or-true}
 use mathlib.Core.List.{List, [], _∷_, _++_, map, flatMap}
 use mathlib.Core.Path.{_≡_, refl, sym, ap, _∙_, subst}
 use lib.Dec.{eqb}
-use lib.ListN.{length, length-append, length-map}
-use borrow.Author.Tests.{eqb-true, eqb-false, eq-eqb, ne-eqb}
-use Rattle.definition.specs.Deciding.{Place, ownPlace, placesOf, readsOf, samePlace}
+use lib.ListN.{length}
+use borrow.Author.Tests.{eqb-false, eqb-true, eq-eqb, ne-eqb}
+use Rattle.definition.specs.Deciding.{Place, coinPlaces, ownPlace, placesOf, readsOf, samePlace}
 use Rattle.definition.specs.Domain.{rootNumbers}
-use Rattle.definition.specs.Lists.{member, different, range}
+use Rattle.definition.specs.Lists.{different, member, range}
 use Rattle.definition.specs.Sheet.{Level, shiftCount}
-use Rattle.algebra.specs.ListFacts.{All, all-map}
+use Rattle.algebra.specs.ListFacts.{All, all-map, all-map₂, all-of-map, all-range, everywhere}
+use Rattle.completeness.specs.ListLaws.{all-flat, flatMap-append}
 
-or-false : (a b : Bool) → a ≡ false → b ≡ false → (a || b) ≡ false
-or-false a b h g = rw (h, g)
-
-or-right : (a b : Bool) → b ≡ true → (a || b) ≡ true
-or-right true b h = refl
-or-right false b h = h
+-- ---- lists without their repeats
 
 module _ {A : Type 0} (same : A → A → Bool) where
   member-append : (x : A) (xs ys : List A) → member same x (xs ++ ys) ≡ (member same x xs || member same x ys)
   unfolding member
   member-append x [] ys = refl
-  member-append x (z ∷ xs) ys = go (same x z) (member-append x xs ys)
-    where
-      go : (b : Bool) → member same x (xs ++ ys) ≡ (member same x xs || member same x ys) → (b || member same x (xs ++ ys)) ≡ ((b || member same x xs) || member same x ys)
-      go true e = refl
-      go false e = e
+  member-append x (z ∷ xs) ys = ap (λ (b : Bool). same x z || b) (member-append x xs ys) ∙ sym (or-assoc (same x z) (member same x xs) (member same x ys))
 
-  -- elements that are all member those after them add none
-  pub add-none : (xs ys : List A) → All (λ x. member same x ys ≡ true) xs → different same (xs ++ ys) ≡ different same ys
+  absent : (x : A) (ys : List A) → All (λ y. same x y ≡ false) ys → member same x ys ≡ false
+  unfolding member
+  absent x [] h = refl
+  absent x (y ∷ ys) h = λ i. h .0 i || absent x ys (h .1) i
+
+  -- elements that are all among those after them add none
+  add-none : (xs ys : List A) → All (λ x. member same x ys ≡ true) xs → different same (xs ++ ys) ≡ different same ys
   unfolding different
   add-none [] ys h = refl
-  add-none (x ∷ xs) ys h = rw (member-append x xs ys ∙ or-right (member same x xs) (member same x ys) (h .0)) (add-none xs ys (h .1))
+  add-none (x ∷ xs) ys h = rw (member-append x xs ys ∙ ap (λ (b : Bool). member same x xs || b) (h .0) ∙ or-true (member same x xs)) (add-none xs ys (h .1))
 
   -- elements that are none of those after them add their own number
-  pub add-all : (xs ys : List A) → All (λ x. member same x ys ≡ false) xs → length (different same (xs ++ ys)) ≡ length (different same xs) + length (different same ys)
+  add-all : (xs ys : List A) → All (λ x. member same x ys ≡ false) xs → length (different same (xs ++ ys)) ≡ length (different same xs) + length (different same ys)
   unfolding different
-  add-all [] ys h = sym (native.Mathlib.Nat.zero-add (length (different same ys)))
+  add-all [] ys h = omega arith
   add-all (x ∷ xs) ys h = go (member same x xs) (member-append x xs ys) (add-all xs ys (h .1))
     where
       go : (b : Bool) → member same x (xs ++ ys) ≡ (b || member same x ys) → length (different same (xs ++ ys)) ≡ length (different same xs) + length (different same ys) →
@@ -48,150 +45,123 @@ module _ {A : Type 0} (same : A → A → Bool) where
       go true e r = rw e r
       go false e r = rw (e ∙ h .0) (omega (arith, r))
 
--- ---- numbers in place of places
+  -- there are no more different elements than elements
+  pub different-most : (xs : List A) → length (different same xs) ≤ length xs
+  unfolding different
+  different-most [] = omega arith
+  different-most (x ∷ xs) = go (member same x xs) (different-most xs)
+    where
+      go : (b : Bool) → length (different same xs) ≤ length xs → length (cond b (different same xs) (x ∷ different same xs)) ≤ suc (length xs)
+      go true l = omega arith
+      go false l = omega arith
 
--- the place of a number in a table
-abbrev at : ℕ → ℕ → Place
-at t n = record { table = t; number = n }
+all-members : (xs : List ℕ) → All (λ x. member eqb x xs ≡ true) xs
+unfolding member
+all-members [] = tt
+all-members (x ∷ xs) = (ap (λ (b : Bool). b || member eqb x xs) (eq-eqb x x refl), all-map xs (all-members xs) (λ y e. ap (λ (b : Bool). eqb y x || b) e ∙ or-true (eqb y x)))
 
-member-at : (t x : ℕ) (ns : List ℕ) → member samePlace (at t x) (map (at t) ns) ≡ member eqb x ns
-unfolding member samePlace
-member-at t x [] = refl
-member-at t x (n ∷ ns) = let z = eq-eqb t t refl in rw (z, member-at t x ns)
+-- lists f x of c different elements each, where each element of f x is in f z exactly if x and z are the same
+module _ {A B : Type 0} (same : A → A → Bool) (alike : B → B → Bool) (f : A → List B) (P : A → Type 0)
+    (shared : (x z : A) → P x → P z → All (λ y. member alike y (f z) ≡ same x z) (f x)) where
+  shared-all : (x : A) (zs : List A) → P x → All P zs → All (λ y. member alike y (flatMap f zs) ≡ member same x zs) (f x)
+  unfolding member flatMap
+  shared-all x [] p ps = everywhere (f x) (λ y. refl)
+  shared-all x (z ∷ zs) p ps =
+      all-map₂ (f x) (shared x z p (ps .0)) (shared-all x zs p (ps .1)) (λ y e r. member-append alike y (f z) (flatMap f zs) ∙ (λ i. e i || r i))
 
-different-at : (t : ℕ) (ns : List ℕ) → length (different samePlace (map (at t) ns)) ≡ length (different eqb ns)
-unfolding different
-different-at t [] = refl
-different-at t (n ∷ ns) = rw (member-at t n ns) (go (different-at t ns) (member eqb n ns))
-  where
-    go : length (different samePlace (map (at t) ns)) ≡ length (different eqb ns) → (b : Bool) → length (cond b (different samePlace (map (at t) ns)) (at t n ∷ different samePlace (map (at t) ns))) ≡ length (cond b (different eqb ns) (n ∷ different eqb ns))
-    go r true = r
-    go r false = ap suc r
-
-own-places : (b : Level) (ns : List ℕ) → flatMap (ownPlace b) ns ≡ map (at (b .number)) ns
-unfolding flatMap ownPlace
-own-places b [] = refl
-own-places b (n ∷ ns) = ap (λ (t : List Place). at (b .number) n ∷ t) (own-places b ns)
-
-map-append : {A B : Type 0} (f : A → B) (xs ys : List A) → map f (xs ++ ys) ≡ map f xs ++ map f ys
-map-append f [] ys = refl
-map-append f (x ∷ xs) ys = ap {B = List _} (λ t. f x ∷ t) (map-append f xs ys)
-
-places-at : (b : Level) (js : List ℕ) → placesOf b (ownPlace b) js ≡ map (at (b .number)) (flatMap (rootNumbers b) js)
-unfolding placesOf flatMap
-places-at b [] = refl
-places-at b (j ∷ js) = (λ i. own-places b (rootNumbers b j) i ++ places-at b js i) ∙ sym (map-append (at (b .number)) (rootNumbers b j) (flatMap (rootNumbers b) js))
+  flat-different : (c : ℕ) → ((x : A) → length (different alike (f x)) ≡ c) → (xs : List A) → All P xs → length (different alike (flatMap f xs)) ≡ length (different same xs) * c
+  unfolding different flatMap
+  flat-different c own [] h = sym (zero-mul c)
+  flat-different c own (x ∷ xs) h = go (member same x xs) (shared-all x xs (h .0) (h .1)) (flat-different c own xs (h .1))
+    where
+      go : (t : Bool) → All (λ y. member alike y (flatMap f xs) ≡ t) (f x) → length (different alike (flatMap f xs)) ≡ length (different same xs) * c →
+          length (different alike (f x ++ flatMap f xs)) ≡ length (cond t (different same xs) (x ∷ different same xs)) * c
+      go true a r = ap length (add-none alike (f x) (flatMap f xs) a) ∙ r
+      go false a r = add-all alike (f x) (flatMap f xs) a ∙ omega (arith, own x, r, suc-mul (length (different same xs)) c)
 
 -- ---- the roots of different indices are different
 
-module _ (n : ℕ) where
-  -- k roots of j from number m on
-  unfoldable pub rootsFrom : ℕ → ℕ → ℕ → List ℕ
+module _ (n : ℕ) (some : 0 < n) where
+  -- k roots of index j, from the m-th on
+  abbrev rootsFrom : ℕ → ℕ → ℕ → List ℕ
   rootsFrom j m k = map (λ i. j + i * n) (range m k)
 
   remainder : (j m : ℕ) → j < n → (j + m * n) % n ≡ j
   remainder j m h = add-mul-mod-self-right j m n ∙ mod-eq-of-lt h
 
-  -- a root of j is none of another index
-  other-index : (j i m k l : ℕ) → j < n → i < n → (j ≡ i → ⊥) → member eqb (j + l * n) (rootsFrom i m k) ≡ false
-  unfolding member rootsFrom range
-  other-index j i m zero l hj hi d = refl
-  other-index j i m (suc k) l hj hi d =
-      or-false _ _ (ne-eqb (j + l * n) (i + m * n) (λ e. d (sym (remainder j l hj) ∙ ap (λ (x : ℕ). x % n) e ∙ remainder i m hi))) (other-index j i (suc m) k l hj hi d)
-
-  -- nor of a later number
-  later-root : (j l m k : ℕ) → 0 < n → l < m → member eqb (j + l * n) (rootsFrom j m k) ≡ false
-  unfolding member rootsFrom range
-  later-root j l m zero h u = refl
-  later-root j l m (suc k) h u =
-      let v : suc l ≤ m = omega arith in
-      or-false _ _ (ne-eqb (j + l * n) (j + m * n) (λ e. omega (arith, e, mul-le-mul-right n v, native.Mathlib.Nat.suc-mul l n))) (later-root j l (suc m) k h (omega arith))
-
-  own-different : (j m k : ℕ) → 0 < n → length (different eqb (rootsFrom j m k)) ≡ k
-  unfolding different rootsFrom range
-  own-different j m zero h = refl
-  own-different j m (suc k) h = rw (later-root j m (suc m) k h (omega arith)) (ap suc (own-different j (suc m) k h))
-
-  -- root l of j is member its roots
-  own-root : (j m k l : ℕ) → m ≤ l → l < m + k → member eqb (j + l * n) (rootsFrom j m k) ≡ true
-  unfolding member rootsFrom range
-  own-root j m zero l u v = absurd (omega arith)
-  own-root j m (suc k) l u v = go (eqb m l) refl (λ d. own-root j (suc m) k l (omega arith) (omega arith))
+  own-different : (j m k : ℕ) → length (different eqb (rootsFrom j m k)) ≡ k
+  unfolding different range
+  own-different j m zero = refl
+  own-different j m (suc k) = rw (absent eqb (j + m * n) (rootsFrom j (suc m) k) later) (ap suc (own-different j (suc m) k))
     where
-      go : (b : Bool) → eqb m l ≡ b → ((m ≡ l → ⊥) → member eqb (j + l * n) (rootsFrom j (suc m) k) ≡ true) → (eqb (j + l * n) (j + m * n) || member eqb (j + l * n) (rootsFrom j (suc m) k)) ≡ true
-      go true e r = let z = eq-eqb (j + l * n) (j + m * n) (ap (λ (x : ℕ). j + x * n) (sym (eqb-true m l e))) in rw z
-      go false e r = or-right (eqb (j + l * n) (j + m * n)) (member eqb (j + l * n) (rootsFrom j (suc m) k)) (r (eqb-false m l e))
+      later : All (λ y. eqb (j + m * n) y ≡ false) (rootsFrom j (suc m) k)
+      later = all-of-map _ _ (range (suc m) k) (all-range _ (suc m) k (λ l u v. ne-eqb (j + m * n) (j + l * n) (λ e. omega (arith, e, some, mul-le-mul-right n u, suc-mul m n))))
 
-  module _ (k : ℕ) where
-    unfoldable pub all : List ℕ → List ℕ
-    all js = flatMap (λ j. rootsFrom j 0 k) js
+  roots-shared : (k j i : ℕ) → j < n → i < n → All (λ y. member eqb y (rootsFrom i 0 k) ≡ eqb j i) (rootsFrom j 0 k)
+  roots-shared k j i hj hi = go (eqb j i) refl
+    where
+      go : (b : Bool) → eqb j i ≡ b → All (λ y. member eqb y (rootsFrom i 0 k) ≡ b) (rootsFrom j 0 k)
+      go true e = subst (λ x. All (λ y. member eqb y (rootsFrom i 0 k) ≡ true) (rootsFrom x 0 k)) (sym (eqb-true j i e)) (all-members (rootsFrom i 0 k))
+      go false e = all-of-map _ _ (range 0 k) (everywhere (range 0 k) (λ l. absent eqb (j + l * n) (rootsFrom i 0 k) (all-of-map _ _ (range 0 k) (everywhere (range 0 k) (λ m.
+          ne-eqb (j + l * n) (i + m * n) (λ q. eqb-false j i e (sym (remainder j l hj) ∙ ap (λ (x : ℕ). x % n) q ∙ remainder i m hi)))))))
 
-    roots-absent : (j l : ℕ) (js : List ℕ) → j < n → All (λ j. j < n) js → member eqb j js ≡ false → member eqb (j + l * n) (all js) ≡ false
-    unfolding member all flatMap
-    roots-absent j l [] h b e = refl
-    roots-absent j l (i ∷ js) h b e =
-        member-append eqb (j + l * n) (rootsFrom i 0 k) (all js) ∙ or-false _ _ (other-index j i 0 k l h (b .0) (λ z. clash z)) (roots-absent j l js h (b .1) (rest e))
-      where
-        clash : j ≡ i → ⊥
-        clash z = let t = eq-eqb j i z in let y : true ≡ false = sym (rw t) ∙ e in mathlib.Core.Bool.true≢false y
+-- ---- one place in each of some tables
 
-        rest : (eqb j i || member eqb j js) ≡ false → member eqb j js ≡ false
-        rest q = go (eqb j i) q
-          where
-            go : (t : Bool) → (t || member eqb j js) ≡ false → member eqb j js ≡ false
-            go true q = absurd (mathlib.Core.Bool.true≢false q)
-            go false q = q
+abbrev pub inTables : List ℕ → ℕ → List Place
+inTables ts j = map (λ t. record { table = t; number = j }) ts
 
-    roots-present : (j l : ℕ) (js : List ℕ) → l < k → member eqb j js ≡ true → member eqb (j + l * n) (all js) ≡ true
-    unfolding member all flatMap
-    roots-present j l [] h e = absurd (mathlib.Core.Bool.true≢false (sym e))
-    roots-present j l (i ∷ js) h e = member-append eqb (j + l * n) (rootsFrom i 0 k) (all js) ∙ go (eqb j i) refl e (λ r. roots-present j l js h r)
-      where
-        go : (t : Bool) → eqb j i ≡ t → (t || member eqb j js) ≡ true → (member eqb j js ≡ true → member eqb (j + l * n) (all js) ≡ true) → (member eqb (j + l * n) (rootsFrom i 0 k) || member eqb (j + l * n) (all js)) ≡ true
-        go true q r f = let z : j ≡ i = eqb-true j i q in rw (ap (λ (x : ℕ). member eqb (x + l * n) (rootsFrom i 0 k)) z ∙ own-root i 0 k l (omega arith) (omega arith))
-        go false q r f = or-right (member eqb (j + l * n) (rootsFrom i 0 k)) (member eqb (j + l * n) (all js)) (f r)
+member-place : (ts : List ℕ) (t x z : ℕ) → member samePlace (record { table = t; number = x }) (inTables ts z) ≡ (member eqb t ts && eqb x z)
+unfolding member samePlace
+member-place [] t x z = refl
+member-place (u ∷ ts) t x z = ap (λ (b : Bool). (eqb t u && eqb x z) || b) (member-place ts t x z) ∙ sym (and-or-distrib-right (eqb t u) (member eqb t ts) (eqb x z))
 
-    -- what holds of every root of j
-    all-roots : (P : ℕ → Type 0) (j m c : ℕ) → ((l : ℕ) → m ≤ l → l < m + c → P (j + l * n)) → All P (rootsFrom j m c)
-    unfolding rootsFrom range
-    all-roots P j m zero f = tt
-    all-roots P j m (suc c) f = (f m (omega arith) (omega arith), all-roots P j (suc m) c (λ l u v. f l (omega arith) (omega arith)))
+places-shared : (ts : List ℕ) (x z : ℕ) → All (λ p. member samePlace p (inTables ts z) ≡ eqb x z) (inTables ts x)
+places-shared ts x z = all-of-map _ _ ts (all-map ts (all-members ts) (λ t e. member-place ts t x z ∙ ap (λ (b : Bool). b && eqb x z) e))
 
-    -- k places for each different index
-    pub roots-counted : (js : List ℕ) → 0 < n → All (λ j. j < n) js → length (different eqb (all js)) ≡ length (different eqb js) * k
-    unfolding all flatMap different
-    roots-counted [] h b = sym (native.Mathlib.Nat.zero-mul k)
-    roots-counted (j ∷ js) h b = go (member eqb j js) refl (roots-counted js h (b .1))
-      where
-        go : (t : Bool) → member eqb j js ≡ t → length (different eqb (all js)) ≡ length (different eqb js) * k → length (different eqb (rootsFrom j 0 k ++ all js)) ≡ length (cond t (different eqb js) (j ∷ different eqb js)) * k
-        go true e r = ap length (add-none eqb (rootsFrom j 0 k) (all js) (all-roots (λ x. member eqb x (all js) ≡ true) j 0 k (λ l u v. roots-present j l js (omega arith) e))) ∙ r
-        go false e r =
-            add-all eqb (rootsFrom j 0 k) (all js) (all-roots (λ x. member eqb x (all js) ≡ false) j 0 k (λ l u v. roots-absent j l js (b .0) (b .1) e))
-            ∙ omega (arith, own-different j 0 k h, r, native.Mathlib.Nat.suc-mul (length (different eqb js)) k)
+places-different : (ts : List ℕ) (x : ℕ) → length (different samePlace (inTables ts x)) ≡ length (different eqb ts)
+unfolding different
+places-different [] x = refl
+places-different (t ∷ ts) x =
+    rw (member-place ts t x x ∙ ap (λ (b : Bool). member eqb t ts && b) (eq-eqb x x refl) ∙ and-true (member eqb t ts)) (go (member eqb t ts) (places-different ts x))
+  where
+    go : (b : Bool) → length (different samePlace (inTables ts x)) ≡ length (different eqb ts) →
+        length (cond b (different samePlace (inTables ts x)) (record { table = t; number = x } ∷ different samePlace (inTables ts x))) ≡ length (cond b (different eqb ts) (t ∷ different eqb ts))
+    go true r = r
+    go false r = ap suc r
 
--- THE READS OF A LEVEL'S COINS: k for each different index.
+-- ---- the reads
+
+-- the places of coins are those of all their roots
+places-flat : (b : Level) (places : ℕ → List Place) (js : List ℕ) → placesOf b places js ≡ flatMap places (flatMap (rootNumbers b) js)
+unfolding placesOf coinPlaces flatMap
+places-flat b places [] = refl
+places-flat b places (j ∷ js) = ap (λ (ps : List Place). flatMap places (rootNumbers b j) ++ ps) (places-flat b places js) ∙ sym (flatMap-append places (rootNumbers b j) (flatMap (rootNumbers b) js))
+
+-- Where a point has one place in each of some tables: k reads for each different index, in each different table.
+pub tables-read : (b : Level) (ts js : List ℕ) → 0 < shiftCount b → All (λ j. j < shiftCount b) js →
+    readsOf (placesOf b (inTables ts) js) ≡ length (different eqb js) * b .fold * length (different eqb ts)
+unfolding readsOf rootNumbers
+tables-read b ts js some below =
+    ap (λ (ps : List Place). length (different samePlace ps)) (places-flat b (inTables ts) js)
+    ∙ flat-different eqb samePlace (inTables ts) (λ x. Unit {0}) (λ x z p q. places-shared ts x z) (length (different eqb ts)) (places-different ts) (flatMap (rootNumbers b) js) (everywhere (flatMap (rootNumbers b) js) (λ x. tt))
+    ∙ ap (λ (m : ℕ). m * length (different eqb ts))
+    (flat-different eqb eqb (rootNumbers b) (λ j. j < shiftCount b) (roots-shared (shiftCount b) some (b .fold)) (b .fold) (λ j. own-different (shiftCount b) some j 0 (b .fold)) js below)
+
+-- In a level's own table: k reads for each different index.
 pub reads-are : (b : Level) (js : List ℕ) → 0 < shiftCount b → All (λ j. j < shiftCount b) js → readsOf (placesOf b (ownPlace b) js) ≡ length (different eqb js) * b .fold
-unfolding readsOf rootNumbers all rootsFrom
-reads-are b js h below =
-    ap (λ (ps : List Place). length (different samePlace ps)) (places-at b js) ∙ different-at (b .number) (flatMap (rootNumbers b) js)
-    ∙ roots-are
-  where
-    roots-are : length (different eqb (flatMap (rootNumbers b) js)) ≡ length (different eqb js) * b .fold
-    roots-are = roots-counted (shiftCount b) (b .fold) js h below
+unfolding ownPlace different member
+reads-are b js some below = tables-read b (b .number ∷ []) js some below ∙ mul-one (length (different eqb js) * b .fold)
 
--- they are of the level's own table
 pub own-table : (b : Level) (js : List ℕ) → All (λ p. p .table ≡ b .number) (placesOf b (ownPlace b) js)
-own-table b js = subst (All (λ p. p .table ≡ b .number)) (sym (places-at b js)) (go (flatMap (rootNumbers b) js))
-  where
-    go : (ns : List ℕ) → All (λ p. p .table ≡ b .number) (map (at (b .number)) ns)
-    go [] = tt
-    go (n ∷ ns) = (refl, go ns)
+unfolding placesOf coinPlaces ownPlace
+own-table b js = all-flat _ (coinPlaces b (ownPlace b)) js (everywhere js (λ j. all-flat _ (ownPlace b) (rootNumbers b j) (everywhere (rootNumbers b j) (λ n. (refl, tt)))))
 
--- AND READS ADD UP where no table is in both parts: those of the first are up to t, those of the second above it.
-pub reads-add : (t : ℕ) (used new : List Place) → All (λ p. p .table ≤ t) used → All (λ p. t < p .table) new → readsOf (used ++ new) ≡ readsOf used + readsOf new
-unfolding readsOf member samePlace
-reads-add t used new h g = add-all samePlace used new (all-map used h (λ p u. off p new u g))
-  where
-    off : (p : Place) (ps : List Place) → p .table ≤ t → All (λ q. t < q .table) ps → member samePlace p ps ≡ false
-    off p [] u g = refl
-    off p (q ∷ ps) u g = let z = ne-eqb (p .table) (q .table) (λ e. omega (arith, g .0)) in rw z (off p ps u (g .1))
+-- After places that are none of this table: that many more.
+pub reads-next : (used : List Place) (b : Level) (js : List ℕ) → 0 < shiftCount b → All (λ j. j < shiftCount b) js → All (λ p. p .table ≡ b .number → ⊥) used →
+    readsOf (used ++ placesOf b (ownPlace b) js) ≡ readsOf used + length (different eqb js) * b .fold
+unfolding readsOf samePlace
+reads-next used b js some below other =
+    add-all samePlace used (placesOf b (ownPlace b) js)
+    (all-map used other (λ p d. absent samePlace p (placesOf b (ownPlace b) js) (all-map (placesOf b (ownPlace b) js) (own-table b js) (λ q e.
+    ap (λ (t : Bool). t && eqb (p .number) (q .number)) (ne-eqb (p .table) (q .table) (λ s. d (s ∙ e)))))))
+    ∙ ap (λ (n : ℕ). readsOf used + n) (reads-are b js some below)

@@ -10,7 +10,7 @@ use Rattle.definition.specs.Field.{Field, primeField}
 use Rattle.definition.specs.Sheet.{Edition, Sheet, Level, sheetOf, sheetLength, firstLevel, rootOfUnity}
 use Rattle.definition.specs.Polynomial.{Sample, pair, evaluate, clash, distinct, correctedValue}
 use Rattle.definition.specs.Domain.{point, inDomain, shiftPoint, foldAt, rootNumbers}
-use Rattle.definition.specs.Transcript.{Round, RoundCoins, Rest, final, round, Transcript}
+use Rattle.definition.specs.Transcript.{Round, Rest, final, round, Transcript}
 use Rattle.definition.specs.Layout.{Kind, message, coin, out, index, layout, readTranscript}
 use Rattle.definition.specs.Verdict.{Outcome, refused, Verdict, refuseAt, _then_, thenVerdict}
 

@@ -1,7 +1,7 @@
 -- For the cases: the transcript of 01, A transcript by hand, as words and as bytes, and one name that unfolds all definitions.
 use Prim.Native.Nat.{ℕ}
 use mathlib.Core.List.{List, [], _∷_, _++_, zipWith, flatMap}
-use lib.ListN.{take, replicate}
+use lib.ListN.{take, set, replicate}
 use Rattle.definition.specs.Lists.{member, range, chunks, firstTrue, firstOf, productOf, different}
 use Rattle.definition.specs.Field.{Field, digitsWithin, binaryDigits, squaring, powerMod, primeField, foundOr, power, reciprocal, answerFound, knownField, primeOf, generatorOf, fieldOf, inField, sum, difference, product, powerOf, powerTurnsOf, inverseOf}
 use Rattle.definition.specs.Polynomial.{points, pair, evaluate, scale, addPoly, subPoly, mulPoly, vanishing, interpolate, horner, divide, quotient, geometric, foldPoly, sampledAt, distinct, contradicts, clash, correctedValue, correctedPoly}
@@ -41,6 +41,10 @@ stream =
     ∷ 3 ∷ 4 ∷ 0
     ∷ 14 ∷ 11
     ∷ 1 ∷ []
+
+-- the same with t_1 = 2 and the final indices 1 1 (02, CR 8): 46 words
+abbrev pub finalTwice : List ℕ
+finalTwice = set stream 7 2 ++ (1 ∷ [])
 
 -- the file, 512 bytes, four words in each line
 abbrev pub file : List ℕ
@@ -110,6 +114,10 @@ folded4 = 0 ∷ 16 ∷ 8 ∷ 4 ∷ 0 ∷ 1 ∷ 2 ∷ 0 ∷ 0 ∷ 0 ∷ 0 ∷ 0 �
 -- M = 0 and four final coins: table 0, fold coin 28, final coefficients 29 to 32, final indices 33 to 36.
 abbrev pub fourFinals : List ℕ
 fourFinals = 0 ∷ 16 ∷ 8 ∷ 2 ∷ 0 ∷ 1 ∷ 4 ∷ 0 ∷ 0 ∷ 0 ∷ 0 ∷ 0 ∷ (take 16 tables ++ (5 ∷ 11 ∷ 6 ∷ 1 ∷ 13 ∷ 0 ∷ 1 ∷ 2 ∷ 3 ∷ []))
+
+-- the same with a final polynomial that differs at final index 3 alone
+abbrev pub fourthWrong : List ℕ
+fourthWrong = set (set (set (set fourFinals 29 7) 30 11) 31 15) 32 14
 
 -- M = 2 in field 1, with t_0 = 2 and s = 2: 87 words, after the sheet all 0 but the second shift index of round 1 and the out coins 64 0 of
 -- round 1 and 0 64 of round 2; 64 is the shift point of index 0 in both.
