@@ -81,6 +81,7 @@ int main(int argc, char **argv)
     uint32_t number = second ? tevrolig_verify_2(file, length, &place, &reads)
                              : tevrolig_verify(file, length, &place, &reads);
     const char *outcome = number == TEVROLIG_ACCEPTED ? "accepted" : "refused";
+    /* As `check` prints it; the reads are the different table places opened. */
     printf("%s %" PRIu32 " %" PRIu64 " %" PRIu64 "\n", outcome, number, place, reads);
     if (number == TEVROLIG_ACCEPTED)
         return 0;
