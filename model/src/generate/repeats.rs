@@ -1,10 +1,10 @@
 //! Shift and final indices repeated on purpose (document 02, CR 8), in an order and in
 //! a file, and the reads that are due.
 
-use super::{aim, coefficients, coins, honest_file, known, sheet_up_to, Rng};
+use super::{aim, coefficients, coins, honest_file, known, rewrite_checks, sheet_up_to, Rng};
 use crate::layout::{Layout, Part};
 use crate::sheet::{Edition, Sheet};
-use crate::stream::read_word;
+use crate::stream::{read_word, write_word};
 use crate::verify::Outcome;
 use std::collections::{BTreeMap, BTreeSet};
 
@@ -36,10 +36,15 @@ pub fn case_of(rng: &mut Rng, words: &[u32]) -> Case {
     repeat(rng, words, &mut coins);
     let mut file = honest_file(words, &coefficients, &coins);
     let edition = sheet_of(words).edition;
-    for number in [9, 8] {
-        if rng.one_in(3) {
-            aim(edition, rng, &mut file, number);
+    match rng.below(6) {
+        0 => fail_late(rng, words, &mut file),
+        1 => {
+            aim(edition, rng, &mut file, 9);
         }
+        _ => {}
+    }
+    if rng.one_in(3) {
+        aim(edition, rng, &mut file, 8);
     }
     Case {
         sheet: words.to_vec(),
@@ -49,9 +54,9 @@ pub fn case_of(rng: &mut Rng, words: &[u32]) -> Case {
     }
 }
 
-/// Repeats the indices of a coin list: in each level they stay, or are one alone, or
-/// are drawn from a few, or from the indices of the level before. A list that is not
-/// full stays.
+/// Repeats the indices of a coin list: in each level they stay, or begin with one index
+/// several times, or are drawn from a few, or from the indices of the level before. A
+/// list that is not full stays.
 pub fn repeat(rng: &mut Rng, words: &[u32], coins: &mut [u32]) {
     let Some(sheet) = known(words) else {
         return;
@@ -67,21 +72,39 @@ pub fn repeat(rng: &mut Rng, words: &[u32], coins: &mut [u32]) {
         }
         let start = layout.coin_position(section.words.start);
         let indices = &mut coins[start..start + section.words.len()];
-        let few = 1 + rng.place(indices.len().min(6));
-        let choices: Vec<u32> = match rng.below(6) {
-            0 => Vec::new(),
-            1 => indices[..1].to_vec(),
-            2 => before
-                .iter()
-                .map(|&j| (u64::from(j) % section.limit) as u32)
-                .collect(),
-            _ => indices[..few].to_vec(),
-        };
-        if !choices.is_empty() {
-            indices.fill_with(|| rng.pick(&choices));
+        let drawn = indices.to_vec();
+        match rng.below(8) {
+            0 => {}
+            1..=3 => {
+                let front = 1 + rng.place(drawn.len());
+                indices[..front].fill(drawn[0]);
+            }
+            4 => indices.fill_with(|| (u64::from(rng.pick(&before)) % section.limit) as u32),
+            _ => {
+                let few = 1 + rng.place(drawn.len().min(6));
+                indices.fill_with(|| rng.pick(&drawn[..few]));
+            }
         }
         before = indices.to_vec();
     }
+}
+
+/// Changes a table word under the final index that comes last for the first time, so
+/// that an honest file fails there and not before; a small field may let it pass.
+pub fn fail_late(rng: &mut Rng, words: &[u32], file: &mut [u8]) {
+    let sheet = sheet_of(words);
+    let last = sheet.rounds;
+    let levels = indices(words, file);
+    let finals = &levels[last];
+    let new = |&i: &usize| !finals[..i].contains(&finals[i]);
+    let late = (0..finals.len()).rfind(new).map_or(0, |i| finals[i]);
+
+    let root = late as usize + rng.place(sheet.k[last]) * sheet.indices(last);
+    let word = Layout::new(&sheet).range(Part::Table(last)).start + root;
+    let p = sheet.field.p;
+    let other = (u64::from(read_word(file, word)) + 1 + rng.below(p - 1)) % p;
+    write_word(file, word, other as u32);
+    rewrite_checks(file);
 }
 
 fn sheet_of(words: &[u32]) -> Sheet {
