@@ -1,5 +1,5 @@
-//! The judge (document 01, "Verify, prove, encode"), of both editions, with the test
-//! for equal out coins and with reads as openings (document 02, CR 5, CR 6 and CR 8).
+//! The judge (document 01, "Verify, prove, encode"), of both editions, with the test for
+//! equal out coins, in two steps, and with reads as openings (document 02, CR 5 to CR 8).
 
 use crate::domain::Subgroup;
 use crate::layout::{Layout, Part};
@@ -39,12 +39,40 @@ pub fn verify_in(edition: Edition, file: &[u8]) -> Verdict {
     let judged = read(edition, file)
         .and_then(Transcript::new)
         .and_then(|transcript| transcript.decide(&mut opened));
-    let outcome = match judged {
+    Verdict {
+        outcome: outcome(judged),
+        reads: opened.len() as u64,
+    }
+}
+
+/// The first of two steps: the tests 1 to 6 alone.
+pub fn read_in(edition: Edition, file: &[u8]) -> Outcome {
+    outcome(read(edition, file).map(|_| ()))
+}
+
+/// The second step, which may be asked of any file: where the first refuses, its refusal
+/// and no reads; else what the tests from 7 on say.
+pub fn decide_in(edition: Edition, file: &[u8]) -> Verdict {
+    if let refused @ Outcome::Refused { .. } = read_in(edition, file) {
+        return Verdict {
+            outcome: refused,
+            reads: 0,
+        };
+    }
+    let mut opened = Places::new();
+    let reading = read(edition, file).expect("a file that was read");
+    let decided = Transcript::new(reading).and_then(|transcript| transcript.decide(&mut opened));
+    Verdict {
+        outcome: outcome(decided),
+        reads: opened.len() as u64,
+    }
+}
+
+fn outcome(tested: Result<(), Fault>) -> Outcome {
+    match tested {
         Ok(()) => Outcome::Accepted,
         Err(Fault { number, place }) => Outcome::Refused { number, place },
-    };
-    let reads = opened.len() as u64;
-    Verdict { outcome, reads }
+    }
 }
 
 /// The line that the program prints for a verdict.

@@ -23,8 +23,8 @@ pub fn read_2(file: &[u8]) -> Outcome
     verify::read_in(Edition::Two, file)
 }
 
-// The second step. A file that fails reading gets reading's refusal again, so that nobody can skip the first.
-fn decide_in(e: Edition, file: &[u8]) -> Verdict
+// The second step, of a file of the edition. One that fails reading gets reading's refusal again, so that nobody can skip the first.
+pub fn decide_in(e: Edition, file: &[u8]) -> Verdict
     ensures { λ r. ⌜ verdictOf r ≡ decideFile (editionOf e) (now (file .entry)) ⌝ }
 {
     verify::verify_in(e, file)

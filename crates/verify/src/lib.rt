@@ -66,24 +66,55 @@ fn judge(e: Edition, file: &[u8], words: &mut [u32]) -> Verdict
     deciding::deciding(e, &words[..127 * (file.len() / 512)])
 }
 
+// The verdict on a file of up to one block. The places of each size have a function of their own, so that the stack holds those that are used alone.
+fn judge_block(e: Edition, file: &[u8]) -> Verdict
+    requires { ⌜ length (now file) ≤ 512 ⌝ }
+    ensures { λ r. ⌜ verdictOf r ≡ verifyIn (editionOf e) (now (file .entry)) ⌝ }
+{
+    let mut words = block_room();
+    judge(e, file, &mut words)
+}
+
+// The same of up to 8 blocks.
+fn judge_small(e: Edition, file: &[u8]) -> Verdict
+    requires { ⌜ length (now file) ≤ 4096 ⌝ }
+    ensures { λ r. ⌜ verdictOf r ≡ verifyIn (editionOf e) (now (file .entry)) ⌝ }
+{
+    let mut words = small_room();
+    judge(e, file, &mut words)
+}
+
+// The same of up to 32 blocks.
+fn judge_middle(e: Edition, file: &[u8]) -> Verdict
+    requires { ⌜ length (now file) ≤ 16384 ⌝ }
+    ensures { λ r. ⌜ verdictOf r ≡ verifyIn (editionOf e) (now (file .entry)) ⌝ }
+{
+    let mut words = middle_room();
+    judge(e, file, &mut words)
+}
+
+// The same of any file.
+fn judge_any(e: Edition, file: &[u8]) -> Verdict
+    ensures { λ r. ⌜ verdictOf r ≡ verifyIn (editionOf e) (now (file .entry)) ⌝ }
+{
+    let mut words = room();
+    judge(e, file, &mut words)
+}
+
 // The verdict on a file of the edition. It is only read. A short one is spared the clearing of many places.
 pub fn verify_in(e: Edition, file: &[u8]) -> Verdict
     ensures { λ r. ⌜ verdictOf r ≡ verifyIn (editionOf e) (now (file .entry)) ⌝ }
 {
     if file.len() <= 512 {
-        let mut words = block_room();
-        return judge(e, file, &mut words);
+        return judge_block(e, file);
     }
     if file.len() <= 4096 {
-        let mut words = small_room();
-        return judge(e, file, &mut words);
+        return judge_small(e, file);
     }
     if file.len() <= 16384 {
-        let mut words = middle_room();
-        return judge(e, file, &mut words);
+        return judge_middle(e, file);
     }
-    let mut words = room();
-    judge(e, file, &mut words)
+    judge_any(e, file)
 }
 
 // The verdict on a file of edition 1.
