@@ -39,7 +39,10 @@ pub fn verify_in(edition: Edition, file: &[u8]) -> Verdict {
     let judged = read(edition, file)
         .and_then(Transcript::new)
         .and_then(|transcript| transcript.decide(&mut opened));
-    counted(judged, opened)
+    Verdict {
+        outcome: outcome(judged),
+        reads: opened.len() as u64,
+    }
 }
 
 /// The first of two steps: the tests 1 to 6 alone.
@@ -59,13 +62,8 @@ pub fn decide_in(edition: Edition, file: &[u8]) -> Verdict {
     let mut opened = Places::new();
     let reading = read(edition, file).expect("a file that was read");
     let decided = Transcript::new(reading).and_then(|transcript| transcript.decide(&mut opened));
-    counted(decided, opened)
-}
-
-/// What the tests say, with the places that were opened on the way.
-fn counted(tested: Result<(), Fault>, opened: Places) -> Verdict {
     Verdict {
-        outcome: outcome(tested),
+        outcome: outcome(decided),
         reads: opened.len() as u64,
     }
 }

@@ -2,20 +2,19 @@
 
 mod common;
 
-use common::{edition, verify, Edition, Order, LARGEST};
+use common::{edition, judged, verify, Edition, Order, LARGEST};
 use tevrolig_model as model;
 use tevrolig_model::convert::with_equal_folds;
 use tevrolig_model::generate::repeats::{case, case_of, reads_due, Case, Met};
 use tevrolig_model::generate::{self, Rng};
 use tevrolig_model::verify::verify_in;
 
-/// Verify of both, with the reads due, and prove of both.
+/// Verify of both, also in two steps, with the reads due, and prove of both.
 fn agree(edition: Edition, case: &Case, met: &mut Met, what: &str) {
     let expected = verify_in(edition, &case.file);
-    let found = verify(edition, &case.file);
-    assert_eq!(found.line(), model::line(expected), "{what}");
+    assert_eq!(judged(edition, &case.file, what), model::line(expected));
     let due = reads_due(&case.sheet, &case.file, expected.outcome);
-    assert_eq!(found.reads, due, "{what}");
+    assert_eq!(expected.reads, due, "{what}");
     met.count(&case.sheet, &case.file, expected.outcome);
 
     let order = Order {
