@@ -4,10 +4,12 @@ use native.Mathlib.Nat.{div-le-self, mul-le-mul-left}
 use native.Mathlib.Omega.{arith}
 use mathlib.Core.List.{List, [], _∷_, _++_, map}
 use mathlib.Core.Path.{_≡_, refl, sym, ap, _∙_, subst}
+use lib.Dec.{eqb}
 use lib.ListN.{length, getD, take, drop, length-drop}
 use lib.Seq.{getD-drop, getD-take, length-take-le}
 use Rattle.definition.specs.Domain.{shiftPoint}
 use Rattle.definition.specs.Field.{Field, fieldOf}
+use Rattle.definition.specs.Lists.{different}
 use Rattle.definition.specs.Sheet.{Edition, Sheet, sheetOf, shiftCount}
 use Rattle.algebra.specs.ListFacts.{All}
 use Rattle.completeness.specs.ByPlace.{at-place}
