@@ -22,7 +22,7 @@ static const char *const SHEET_WORD[TEVROLIG_SHEET_WORDS_2] = {
 /* One sentence on a refusal. */
 static void explain(const uint8_t *file, size_t length, uint32_t number, uint64_t place)
 {
-    /* For the numbers 5, 6 and 7 the place is a word's number, and the file has that word. */
+    /* For the numbers 5, 6, 7 and 14 the place is a word's number, and the file has that word. */
     uint32_t word;
     tevrolig_word(file, length, place, &word);
 
@@ -47,6 +47,9 @@ static void explain(const uint8_t *file, size_t length, uint32_t number, uint64_
         break;
     case TEVROLIG_OUT_COIN:
         printf("Word %" PRIu64 " of the stream is %" PRIu32 ", an out coin inside its round's domain.\n", place, word);
+        break;
+    case TEVROLIG_EQUAL_OUT:
+        printf("Word %" PRIu64 " of the stream is %" PRIu32 ", as is the out coin before it in its round.\n", place, word);
         break;
     case TEVROLIG_CLASH:
         printf("In round %" PRIu64 " two equal points have different values.\n", place);

@@ -102,10 +102,12 @@ enum {
     TEVROLIG_FINAL = 9,     /* the final polynomial differs from the fold at a final index's point */
     TEVROLIG_COUNT = 10,    /* the sheet, the coefficients or the coins are too few or too many */
     TEVROLIG_OUTPUT = 11,   /* the output is too short */
-    TEVROLIG_FOLDS = 13     /* the folding numbers differ, so that there is no such file of edition 1 */
+    TEVROLIG_FOLDS = 13,    /* the folding numbers differ, so that there is no such file of edition 1 */
+    TEVROLIG_EQUAL_OUT = 14 /* two out coins of a round are equal */
 };
 
-/* Judges a file of any length and content. Answers 0 for accepted, else the number of the first test that fails:
+/* Judges a file of any length and content. Answers 0 for accepted, else the number of the first test that fails, in this
+ * order:
  *
  *   number   place
  *   0        0
@@ -116,11 +118,12 @@ enum {
  *   5        the number of the first word out of range, as tevrolig_word counts
  *   6        the number of the first such word that is not zero
  *   7        the word number of the first such coin
+ *   14       the word number of the second coin in the first such round
  *   8        the first such round, from 1 to M
  *   9        the first such position in the list of final indices
  *
- * `reads` is the count of table words used, k for each shift or final coin treated: 0 for the numbers 1 to 7, for 8 and
- * 9 what was used until then, and k*(t_0 + .. + t_M) for an accepted file. */
+ * `reads` is the count of table words used, k for each shift or final coin treated: 0 for the numbers 1 to 7 and 14, for
+ * 8 and 9 what was used until then, and k*(t_0 + .. + t_M) for an accepted file. */
 uint32_t tevrolig_verify(const uint8_t *file, size_t length, uint64_t *place, uint64_t *reads);
 
 /* Judges a file of edition 2 likewise. Place 3 is the first in the order in which the sheet's words are tested, and each
@@ -149,6 +152,7 @@ uint32_t tevrolig_sheet_of(const uint8_t *file, size_t length, uint32_t *output,
  *   10       1 where there are not d0 coefficients; 2 where the coins are not as many as the sheet makes due
  *   5        the first position out of range, in the coefficients followed by the coins
  *   7        the first such position, in the coins alone
+ *   14       the position of the second coin in the first such round, likewise
  *   11       the number of blocks needed
  *
  * So an output of length 0 asks for the size, and TEVROLIG_MAX_BLOCKS blocks are enough for every order. */

@@ -44,7 +44,7 @@ fn fresh(rng: &mut Rng) -> Input {
             if form == 0 {
                 return Input::Raw(file);
             }
-            let number = rng.pick(&[3, 5, 6, 7, 8, 8, 9, 9, 9]);
+            let number = rng.pick(&[3, 5, 6, 7, 14, 14, 8, 8, 9, 9, 9]);
             if rng.one_in(2) {
                 aim(edition, rng, &mut file, number);
             }
@@ -123,7 +123,7 @@ fn change_order(rng: &mut Rng, order: &mut Order) {
         }
         1 => order.coins = coins(rng, &order.sheet, true),
         2 => order.coefficients = coefficients(rng, &order.sheet),
-        3 => move_out_coin(rng, &order.sheet, &mut order.coins),
+        3 => change_out_coin(rng, &order.sheet, &mut order.coins),
         _ => {
             let list = match rng.below(4) {
                 0 => &mut order.sheet,
@@ -145,18 +145,24 @@ fn change_order(rng: &mut Rng, order: &mut Order) {
     }
 }
 
-/// Moves an out coin into its round's domain, where the sheet has a round.
-fn move_out_coin(rng: &mut Rng, words: &[u32], coins: &mut [u32]) {
-    let Some(sheet) = known(words) else {
+/// Moves an out coin into its round's domain, or makes it equal to another, half of the time of its round, where the sheet has a round.
+fn change_out_coin(rng: &mut Rng, words: &[u32], coins: &mut [u32]) {
+    let Some(sheet) = known(words).filter(|sheet| sheet.rounds > 0) else {
         return;
     };
     let layout = Layout::new(&sheet);
-    let round = 1 + rng.place(sheet.rounds);
-    let outs = layout.range(Part::OutCoins(round));
-    let word = outs.start + rng.place(outs.len());
-    let point = Subgroup::of(&sheet).point(round, rng.place(sheet.n(round)));
-    if let Some(coin) = coins.get_mut(layout.coin_position(word)) {
-        *coin = point as u32;
+    let position = |rng: &mut Rng, round: usize| {
+        let outs = layout.range(Part::OutCoins(round));
+        layout.coin_position(outs.start + rng.place(outs.len()))
+    };
+    let [round, any] = [(); 2].map(|()| 1 + rng.place(sheet.rounds));
+    let (at, other) = (position(rng, round), rng.pick(&[round, any]));
+    let coin = match rng.below(3) {
+        0 => Some(Subgroup::of(&sheet).point(round, rng.place(sheet.n(round))) as u32),
+        _ => coins.get(position(rng, other)).copied(),
+    };
+    if let (Some(place), Some(coin)) = (coins.get_mut(at), coin) {
+        *place = coin;
     }
 }
 

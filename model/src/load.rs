@@ -1,4 +1,5 @@
-//! The stated load: a thousand runs from one seed (document 02, request 2).
+//! The stated load: a thousand runs from one seed (document 02, CR 2), whose rounds
+//! have no two equal out coins (CR 6).
 //!
 //! The values that a sheet word may have are listed here from document 01's rules, and
 //! the coins are drawn in document 01's order, without the sheet's reader or the
@@ -192,8 +193,10 @@ impl Generator {
         let mut coins = vec![self.below(p)];
         for i in 1..=sheet.rounds {
             let domain = subgroup.domain(i);
-            for _ in 0..sheet.outs {
-                coins.push(self.out_coin(p, &domain));
+            let first = self.out_coin(p, &domain, None);
+            coins.push(first);
+            if sheet.outs == 2 {
+                coins.push(self.out_coin(p, &domain, Some(first)));
             }
             // The combination coin, then fold coin i.
             coins.extend(self.several(2, p));
@@ -205,11 +208,21 @@ impl Generator {
     }
 
     /// An out coin, picked among all elements and drawn again while it lies inside its
-    /// domain. No domain has 0, which is taken when the last draw lies inside too.
-    pub fn out_coin(&mut self, p: u64, domain: &[u64]) -> u32 {
+    /// domain or equals the first of its round, if it is the second. When the last draw
+    /// is not allowed either, a first coin is 0, which no domain has, and a second one
+    /// the smallest element allowed.
+    pub fn out_coin(&mut self, p: u64, domain: &[u64], first: Option<u32>) -> u32 {
+        let allowed = |coin: &u32| !domain.contains(&u64::from(*coin)) && first != Some(*coin);
         let mut draws = (0..1 + MOST_AGAIN).map(|_| self.below(p));
-        let outside = draws.find(|&coin| !domain.contains(&u64::from(coin)));
-        outside.unwrap_or(0)
+        match (draws.find(allowed), first) {
+            (Some(coin), _) => coin,
+            (None, None) => 0,
+            (None, Some(_)) => {
+                let mut elements = 0..p as u32;
+                let smallest = elements.find(allowed);
+                smallest.expect("a domain has at most half of the elements")
+            }
+        }
     }
 
     /// So many words below one limit, one step each.

@@ -1,5 +1,6 @@
 //! The honest prover and the encoder (document 01, "Fold, quotient, correction"
-//! and "Verify, prove, encode"). The prover is of both editions (document 02, CR 5).
+//! and "Verify, prove, encode"). The prover is of both editions, and refuses equal out
+//! coins (document 02, CR 5 and CR 6).
 
 use crate::domain::Subgroup;
 use crate::layout::{Layout, Part};
@@ -8,7 +9,7 @@ use crate::polynomial::{
 };
 use crate::sheet::{Edition, Sheet};
 use crate::stream::{to_blocks, BLOCK_BYTES, BLOCK_WORDS};
-use crate::verify::first_out_coin_in_domain;
+use crate::verify::test_out_coins;
 use crate::Fault;
 
 /// Done with the number of blocks or words written, or refused.
@@ -143,9 +144,10 @@ fn request(
     }
 
     let subgroup = Subgroup::of(&sheet);
-    if let Some(word) = first_out_coin_in_domain(&subgroup, &layout, &stream) {
-        return Err(Fault::new(7, layout.coin_position(word)));
-    }
+    test_out_coins(&subgroup, &layout, &stream).map_err(|fault| Fault {
+        place: layout.coin_position(fault.place as usize) as u64,
+        ..fault
+    })?;
     test_room(stream.len(), output_bytes)?;
     Ok(Request {
         sheet,

@@ -1,5 +1,5 @@
-//! The judge (document 01, "Verify, prove, encode"), of both editions (document
-//! 02, CR 5).
+//! The judge (document 01, "Verify, prove, encode"), of both editions and with the
+//! test for equal out coins (document 02, CR 5 and CR 6).
 
 use crate::domain::Subgroup;
 use crate::layout::{Layout, Part};
@@ -7,6 +7,8 @@ use crate::polynomial::{correction_at, evaluate, interpolate, interpolate_at, Pa
 use crate::sheet::{Edition, Sheet};
 use crate::stream::{first_wrong_check, read_word, BLOCK_BYTES, BLOCK_WORDS};
 use crate::Fault;
+use std::collections::BTreeSet;
+use std::ops::Range;
 
 /// Accepted, or a fault with number and place.
 #[derive(Debug, Clone, Copy, PartialEq, Eq)]
@@ -107,22 +109,36 @@ fn first_out_of_range(layout: &Layout, stream: &[u32]) -> Option<usize> {
         .map(|(word, _)| word)
 }
 
-/// The word number of the first out coin of a round i that lies in domain i.
-pub(crate) fn first_out_coin_in_domain(
+/// Tests 7 and 14 of the out coins in a stream; the place is a word number. The
+/// rounds are all tested for 7 before any is for 14.
+pub(crate) fn test_out_coins(
     subgroup: &Subgroup,
     layout: &Layout,
     stream: &[u32],
-) -> Option<usize> {
-    layout.sections.iter().find_map(|section| {
-        let Part::OutCoins(i) = section.part else {
-            return None;
-        };
-        let domain = subgroup.domain(i);
-        section
-            .words
-            .clone()
-            .find(|&word| domain.contains(&u64::from(stream[word])))
-    })
+) -> Result<(), Fault> {
+    let coins_of_rounds: Vec<(usize, Range<usize>)> = layout
+        .sections
+        .iter()
+        .filter_map(|section| match section.part {
+            Part::OutCoins(i) => Some((i, section.words.clone())),
+            _ => None,
+        })
+        .collect();
+
+    for (i, words) in &coins_of_rounds {
+        let domain = subgroup.domain(*i);
+        let inside = |&word: &usize| domain.contains(&u64::from(stream[word]));
+        if let Some(word) = words.clone().find(inside) {
+            return Err(Fault::new(7, word));
+        }
+    }
+    for (_, words) in coins_of_rounds {
+        let mut seen = BTreeSet::new();
+        if let Some(word) = words.into_iter().find(|&word| !seen.insert(stream[word])) {
+            return Err(Fault::new(14, word));
+        }
+    }
+    Ok(())
 }
 
 /// Every fold of a table over domain i with coin r: entry j belongs to shift
@@ -149,7 +165,7 @@ fn join(pairs: impl Iterator<Item = (u64, u64)>) -> Option<Pairs> {
     Some(joined)
 }
 
-/// A file that passed the tests 1 to 7, which use no table word.
+/// A file that passed the tests 1 to 7 and 14, which use no table word.
 struct Transcript {
     sheet: Sheet,
     subgroup: Subgroup,
@@ -158,7 +174,7 @@ struct Transcript {
 }
 
 impl Transcript {
-    /// Test 7.
+    /// Tests 7 and 14.
     fn new(reading: Reading) -> Result<Transcript, Fault> {
         let Reading {
             sheet,
@@ -166,9 +182,7 @@ impl Transcript {
             stream,
         } = reading;
         let subgroup = Subgroup::of(&sheet);
-        if let Some(word) = first_out_coin_in_domain(&subgroup, &layout, &stream) {
-            return Err(Fault::new(7, word));
-        }
+        test_out_coins(&subgroup, &layout, &stream)?;
         Ok(Transcript {
             sheet,
             subgroup,

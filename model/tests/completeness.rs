@@ -93,17 +93,17 @@ fn the_largest_honest_files() {
 
 #[test]
 fn hostile_coins_are_met() {
-    // k = 2, and k = 4 8.
+    // k = 2, and k = 4 2 4.
     let sheets: [&[u32]; 2] = [
-        &[1, 32, 16, 2, 1, 2, 3, 3, 0, 0, 0, 0],
-        &[1, 64, 32, 4, 1, 2, 3, 3, 0, 0, 0, 0, 8, 0, 0, 0, 0, 2],
+        &[1, 64, 32, 2, 2, 2, 3, 3, 2, 0, 0, 0],
+        &[1, 128, 64, 4, 2, 2, 3, 3, 2, 0, 0, 0, 2, 4, 0, 0, 0, 2],
     ];
     for words in sheets {
         let mut rng = Rng::new(103);
         let sheet = Sheet::read(words).unwrap();
         let (layout, subgroup) = (layout(words), Subgroup::of(&sheet));
-        let mut met = [0; 7];
-        for _ in 0..300 {
+        let mut met = [0; 8];
+        for _ in 0..1000 {
             let file = accept(&mut rng, words, true);
             let read = |part| -> Vec<u64> {
                 let range = layout.range(part);
@@ -114,13 +114,16 @@ fn hostile_coins_are_met() {
                 .iter()
                 .map(|&j| subgroup.shift_point(0, sheet.k[0], j as usize));
             let outs = read(Part::OutCoins(1));
+            let later = read(Part::OutCoins(2));
+            assert!(outs[0] != outs[1] && later[0] != later[1]);
             let c = read(Part::Combination(1))[0];
             let inverse_of_c = sheet.field.inv(c);
             let facts = [
                 read(Part::FoldCoin(0))[0] == 0,
                 subgroup.domain(1).contains(&read(Part::FoldCoin(1))[0]),
                 shift_points.into_iter().any(|point| outs.contains(&point)),
-                outs[0] == outs[1],
+                later.iter().any(|coin| outs.contains(coin)),
+                later.iter().all(|coin| outs.contains(coin)),
                 shifts[0] == shifts[1] || shifts[1] == shifts[2],
                 c == 0,
                 inverse_of_c.is_some_and(|x| subgroup.domain(1).contains(&x)),

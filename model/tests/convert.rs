@@ -34,6 +34,11 @@ fn converted(to: Edition, file: &[u8], length: usize) -> Result<Vec<u8>, (u32, u
     }
 }
 
+/// The number in a verdict line.
+fn number_of(line: &str) -> u32 {
+    line.split(' ').nth(1).unwrap().parse().unwrap()
+}
+
 fn there(file: &[u8]) -> Vec<u8> {
     converted(Two, file, ROOM).unwrap()
 }
@@ -71,16 +76,16 @@ fn sheets_by_hand() {
     );
 }
 
-/// Files that verify refuses with 7, 8 or 9 pass 1 to 6, so they are converted too.
+/// Files that verify refuses with 7, 14, 8 or 9 pass 1 to 6, so they are converted too.
 #[test]
 fn there_and_back() {
     let mut rng = Rng::new(50);
-    let mut lines = BTreeMap::new();
+    let mut numbers = BTreeMap::new();
     for round in 0..8000 {
         let most_n0 = if round % 20 == 0 { 512 } else { 64 };
         let sheet = generate::sheet_up_to(One, &mut rng, most_n0);
         let mut file = honest(&mut rng, &sheet, round % 2 == 0);
-        let number = rng.pick(&[0, 7, 8, 9]);
+        let number = rng.pick(&[0, 7, 14, 8, 9]);
         aim(One, &mut rng, &mut file, number);
         let other = there(&file);
         assert_eq!(back(&other), file);
@@ -93,18 +98,19 @@ fn there_and_back() {
 
         let before = judged(One, &file);
         let after = judged(Two, &other);
-        let expected = match before.strip_prefix("refused 7 ") {
-            Some(rest) => {
-                let place: u32 = rest.strip_suffix(" 0").unwrap().parse().unwrap();
-                format!("refused 7 {} 0", place + 6)
+        let number = number_of(&before);
+        let expected = match number {
+            7 | 14 => {
+                let place: u32 = before.split(' ').nth(2).unwrap().parse().unwrap();
+                format!("refused {number} {} 0", place + 6)
             }
-            None => before.clone(),
+            _ => before.clone(),
         };
         assert_eq!(after, expected);
-        *lines.entry(before[..9].to_string()).or_insert(0) += 1;
+        *numbers.entry(number).or_insert(0) += 1;
     }
-    assert_eq!(lines.len(), 4, "{lines:?}");
-    assert!(lines.values().all(|&count| count > 500), "{lines:?}");
+    assert!(numbers.keys().eq(&[0, 7, 8, 9, 14]), "{numbers:?}");
+    assert!(numbers.values().all(|&count| count > 300), "{numbers:?}");
 }
 
 /// From edition 2 with equal folding numbers to edition 1, and back again.
@@ -114,7 +120,7 @@ fn back_and_there() {
     for round in 0..4000 {
         let sheet = with_equal_folds(&generate::sheet_up_to(One, &mut rng, 64));
         let mut file = honest(&mut rng, &sheet, round % 2 == 0);
-        let number = rng.pick(&[0, 7, 8, 9]);
+        let number = rng.pick(&[0, 7, 14, 8, 9]);
         aim(Two, &mut rng, &mut file, number);
         let other = back(&file);
         assert_eq!(there(&other), file);
@@ -163,7 +169,7 @@ fn differing_folding_numbers_13() {
         for _ in 0..60 {
             let sheet = generate::differing_at(&mut rng, i);
             let mut file = honest(&mut rng, &sheet, false);
-            let later = rng.pick(&[0, 7, 8, 9]);
+            let later = rng.pick(&[0, 7, 14, 8, 9]);
             aim(Two, &mut rng, &mut file, later);
             let blocks = (layout(&sheet).words() - 6).div_ceil(127);
             for length in [0, 512 * blocks - 1, 512 * blocks, ROOM] {
@@ -207,7 +213,7 @@ fn refusals_by_hand() {
     assert_eq!(both([&[(41, 8)], &[(47, 8)]]), ((5, 41), (5, 47)));
     assert_eq!(both([&[(45, 1)], &[(51, 1)]]), ((6, 45), (6, 51)));
     assert_eq!(both([&[(126, 1)], &[(126, 9)]]), ((6, 126), (6, 126)));
-    // 7, 8 and 9 are not looked at.
+    // 7, 14, 8 and 9 are not looked at.
     assert_eq!(both([&[(37, 3)], &[(43, 3)]]), ((11, 1), (11, 1)));
     for (to, file) in [(Two, &one), (One, &two)] {
         for length in [0, 1, 511] {

@@ -1,32 +1,35 @@
-//! The generator's damage: the test with the lowest number decides, and damage
-//! aimed at a refusal finds it.
+//! The generator's damage: the first test that fails decides, and damage aimed at a
+//! refusal finds it.
 
 mod common;
 
 use common::*;
-use tevrolig_model::generate::{aim, damage, sheet_up_to, Rng};
+use std::collections::BTreeMap;
+use tevrolig_model::generate::{aim, damage, sheet_up_to, Rng, REFUSALS};
 
-/// Faults that leave sheet and length alone, each with a lower one added.
+/// Faults that leave sheet and length alone, each with an earlier one added.
 #[test]
-fn the_lower_number_wins() {
+fn the_earlier_test_wins() {
     for edition in Edition::BOTH {
         let mut rng = Rng::new(77);
-        let mut pairs = 0;
-        for _ in 0..3000 {
+        let mut pairs = BTreeMap::new();
+        for _ in 0..6000 {
             let sheet = sheet_up_to(edition, &mut rng, 64);
             let mut file = honest(&mut rng, &sheet, false);
-            let high = 5 + rng.below(5) as u32;
-            let low = 1 + rng.below(u64::from(high) - 1) as u32;
+            let turn = 4 + rng.place(6);
+            let (late, early) = (REFUSALS[turn], REFUSALS[rng.place(turn)]);
             let mut aimed = |number| aim(edition, &mut rng, &mut file, number);
-            if aimed(high) && aimed(low) {
-                pairs += 1;
+            if aimed(late) && aimed(early) {
+                *pairs.entry((early, late)).or_insert(0) += 1;
                 // A small field may let a clash miss.
-                if low <= 7 {
-                    assert_eq!(number(edition, &file), low, "{low} before {high}");
+                if early != 8 {
+                    assert_eq!(number(edition, &file), early, "{early} before {late}");
                 }
             }
         }
-        assert!(pairs > 1500, "{pairs}");
+        // Each of the six after each of those before it.
+        assert_eq!(pairs.len(), 4 + 5 + 6 + 7 + 8 + 9, "{pairs:?}");
+        assert!(pairs.values().all(|&count| count > 15), "{pairs:?}");
     }
 }
 
@@ -48,7 +51,7 @@ fn the_first_tests_in_order() {
 fn damage_hits_what_it_aims_at() {
     for (edition, most_n0) in [(One, 32), (Two, 64)] {
         let mut rng = Rng::new(78);
-        let mut seen = [0; 10];
+        let mut seen = BTreeMap::new();
         let mut missed = 0;
         for _ in 0..20_000 {
             let sheet = sheet_up_to(edition, &mut rng, most_n0);
@@ -56,14 +59,15 @@ fn damage_hits_what_it_aims_at() {
             let mut file = honest(&mut rng, &sheet, hostile);
             let aimed = damage(edition, &mut rng, &mut file);
             let found = number(edition, &file);
-            seen[found as usize] += 1;
+            *seen.entry(found).or_insert(0) += 1;
             match aimed {
-                Some(aimed) if aimed <= 7 => assert_eq!(found, aimed),
-                Some(aimed) => missed += u32::from(found != aimed),
+                Some(aimed @ (8 | 9)) => missed += u32::from(found != aimed),
+                Some(aimed) => assert_eq!(found, aimed),
                 None => {}
             }
         }
-        assert!(seen.iter().all(|&count| count > 100), "{seen:?}");
+        assert!(seen.keys().eq(&OUTCOMES), "{seen:?}");
+        assert!(seen.values().all(|&count| count > 100), "{seen:?}");
         assert!(missed < 1500, "{missed}");
     }
 }

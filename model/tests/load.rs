@@ -1,12 +1,13 @@
-//! The stated load (document 02, CR 2).
+//! The stated load (document 02, CR 2 and CR 6).
 
 mod common;
 
-use common::SHEET;
+use common::{judged, One, SHEET};
 use std::collections::BTreeSet;
 use std::process::Command;
 use tevrolig_model::domain::Subgroup;
-use tevrolig_model::generate::Rng;
+use tevrolig_model::generate::equal_outs::equal_coin_drawn;
+use tevrolig_model::generate::{honest_file, Rng};
 use tevrolig_model::load::*;
 use tevrolig_model::sheet::Sheet;
 
@@ -108,9 +109,10 @@ fn permitted_values_are_those_that_sheets_keep() {
     assert!(ends > 5);
 }
 
-/// The runs from the states 849 and 6, worked out by the written definition too.
+/// The runs from the states 849, 6 and 56080, worked out by the written definition too.
+/// In the last the second out coin is drawn equal to the first, then in the domain.
 #[test]
-fn two_orders() {
+fn three_orders() {
     let mut generator = from(849);
     let order = generator.order();
     assert_eq!(order.sheet, [0, 16, 8, 2, 1, 1, 1, 10, 0, 0, 0, 0]);
@@ -125,6 +127,14 @@ fn two_orders() {
     assert_eq!(order.coefficients, [0, 9, 0, 0, 0, 3, 9, 3]);
     assert_eq!(order.coins, [11, 9, 8, 12, 0, 3]);
     assert_eq!(generator.v, 509620375);
+
+    let mut generator = from(56080);
+    let order = generator.order();
+    assert_eq!(order.sheet, [0, 16, 8, 2, 1, 2, 1, 2, 0, 0, 0, 0]);
+    assert_eq!(order.coefficients, [8, 10, 2, 11, 10, 6, 1, 9]);
+    assert_eq!(order.coins, [9, 16, 8, 15, 10, 6, 1, 0]);
+    assert_eq!(generator.v, 1591568000);
+    assert!(equal_coin_drawn(&from(56080), &order));
 }
 
 /// From 6 the words 0 to 6 are drawn, and then no t_1 is left: seven steps, the worked
@@ -167,13 +177,13 @@ fn out_coins_drawn_again() {
     let inside: Vec<u64> = drawn[..2].iter().map(|&coin| coin.into()).collect();
     assert!(!inside.contains(&drawn[2].into()));
     let mut generator = from(1);
-    assert_eq!(generator.out_coin(17, &inside), drawn[2]);
+    assert_eq!(generator.out_coin(17, &inside, None), drawn[2]);
     assert_eq!(generator.v, 2647435461);
 
     // One draw and 64 more, then 0 without a step.
     let everything: Vec<u64> = (0..17).collect();
     let (mut generator, mut steps) = (from(1), from(1));
-    assert_eq!(generator.out_coin(17, &everything), 0);
+    assert_eq!(generator.out_coin(17, &everything, None), 0);
     for _ in 0..65 {
         steps.step();
     }
@@ -184,7 +194,108 @@ fn out_coins_drawn_again() {
     let drawn: Vec<u32> = (0..65).map(|_| draws.below(65537)).collect();
     let inside: Vec<u64> = drawn[..64].iter().map(|&coin| coin.into()).collect();
     assert!(drawn[64] != 0 && !inside.contains(&drawn[64].into()));
-    assert_eq!(from(1).out_coin(65537, &inside), drawn[64]);
+    assert_eq!(from(1).out_coin(65537, &inside, None), drawn[64]);
+}
+
+/// A second coin is drawn again also where it equals the first, with one count for both
+/// causes.
+#[test]
+fn second_out_coins_drawn_again() {
+    let p = 65537;
+    let mut draws = from(1);
+    let drawn: Vec<u32> = (0..66).map(|_| draws.below(p)).collect();
+    let distinct: BTreeSet<u32> = drawn.iter().copied().collect();
+    assert!(distinct.len() == 66 && distinct.range(..5).next().is_none());
+    let inside = |drawn: &[u32]| -> Vec<u64> { drawn.iter().map(|&coin| coin.into()).collect() };
+    let after = |steps: usize| {
+        let mut generator = from(1);
+        for _ in 0..steps {
+            generator.step();
+        }
+        generator
+    };
+    // What is taken, and the number of draws.
+    let taken = |domain: &[u64], first: Option<u32>, coin: u32, draws: usize| {
+        let mut generator = from(1);
+        assert_eq!(generator.out_coin(p, domain, first), coin);
+        assert_eq!(generator, after(draws));
+    };
+
+    taken(&[], Some(5), drawn[0], 1);
+    taken(&[], Some(drawn[0]), drawn[1], 2);
+    // A first coin has none before it that it could equal.
+    taken(&[], None, drawn[0], 1);
+    taken(&inside(&drawn[..1]), Some(drawn[1]), drawn[2], 3);
+    taken(&inside(&drawn[1..4]), Some(drawn[0]), drawn[4], 5);
+    // The last draw still counts, and not one more, whichever the causes are.
+    for equal in [0, 1, 30, 63] {
+        let domain = [inside(&drawn[..equal]), inside(&drawn[equal + 1..64])].concat();
+        taken(&domain, Some(drawn[equal]), drawn[64], 65);
+    }
+    for equal in [0, 30, 64] {
+        let domain = [inside(&drawn[..equal]), inside(&drawn[equal + 1..65])].concat();
+        taken(&domain, Some(drawn[equal]), 0, 65);
+    }
+
+    // Then it is the smallest element that is neither inside nor the first.
+    let domain = inside(&drawn[..65]);
+    taken(&domain, Some(1), 0, 65);
+    taken(&domain, Some(0), 1, 65);
+    let with = |more: &[u64]| [&domain[..], more].concat();
+    taken(&with(&[1]), Some(0), 2, 65);
+    taken(&with(&[2, 1]), Some(0), 3, 65);
+    taken(&with(&[1, 3]), Some(2), 0, 65);
+    taken(&with(&[0, 2]), Some(1), 3, 65);
+    // The first coin keeps its 0.
+    taken(&domain, None, 0, 65);
+    taken(&with(&[0]), None, 0, 65);
+}
+
+/// The coins of runs with two out coins in field 0, from the draws one by one: in one
+/// of nine the first draw outside the domain is the first coin again.
+#[test]
+fn equal_coins_of_drawn_orders() {
+    let (mut pairs, mut equal) = (0, 0);
+    for v in 1..100_000 {
+        let mut generator = from(v);
+        if generator.sheet()[..6] != [0, 16, 8, 2, 1, 2] {
+            continue;
+        }
+        // The coefficients and fold coin 0.
+        for _ in 0..9 {
+            generator.step();
+        }
+        let domain = [3, 10, 5, 11, 14, 7, 12, 6];
+        let outside = |generator: &mut Generator| loop {
+            let coin = generator.below(17);
+            if !domain.contains(&coin) {
+                return coin;
+            }
+        };
+        let first = outside(&mut generator);
+        let mut second = outside(&mut generator);
+        let again = second == first;
+        while second == first {
+            second = outside(&mut generator);
+        }
+        let [combination, fold] = [generator.below(17), generator.below(17)];
+        let shift = generator.below(8);
+
+        let order = from(v).order();
+        let coins = [first, second, combination, fold, shift];
+        assert_eq!(order.coins[1..6], coins, "{v}");
+        assert_eq!(equal_coin_drawn(&from(v), &order), again);
+        assert!(order.promised() == line_of(&order), "{v}");
+        pairs += 1;
+        equal += usize::from(again);
+    }
+    assert!(pairs > 150 && equal > 10, "{equal} of {pairs}");
+}
+
+/// The verdict line of an order's honest file.
+fn line_of(order: &Order) -> String {
+    let file = honest_file(&order.sheet, &order.coefficients, &order.coins);
+    judged(One, &file)
 }
 
 /// In field 0 nearly half of the elements lie in domain 1, so that coins are drawn
@@ -204,6 +315,7 @@ fn drawn_coins_are_allowed() {
         let domain = Subgroup::of(&sheet).domain(1);
         let outs = &order.coins[1..1 + sheet.outs];
         assert!(outs.iter().all(|&coin| !domain.contains(&coin.into())));
+        assert!(outs.len() == 1 || outs[0] != outs[1]);
         let mut least = from(v);
         least.sheet();
         for _ in 0..8 + order.coins.len() {
@@ -226,6 +338,22 @@ fn every_line_is_accepted() {
         kinds.extend(lines);
     }
     assert!(kinds.len() > 150, "{}", kinds.len());
+}
+
+/// What is stored for the program `load`: an out coin that equals the one before it is
+/// drawn there, and without drawing again the runs after it would be others.
+#[test]
+fn the_stored_load() {
+    let seed = seed(include_bytes!("../../crates/loader/stdin"));
+    let stored = include_str!("../../crates/loader/stdout");
+    assert_eq!(lines(seed).join("\n") + "\n", stored);
+    let mut generator = from(seed);
+    let equal = (0..1000).filter(|_| {
+        let before = generator.clone();
+        let order = generator.order();
+        order.sheet[4] > 0 && order.sheet[5] == 2 && equal_coin_drawn(&before, &order)
+    });
+    assert!(equal.count() > 0);
 }
 
 /// The runs follow on one generator.

@@ -7,7 +7,7 @@ mod common;
 use common::*;
 use tevrolig_model::prove::prove_in;
 use tevrolig_model::stream::{read_word, BLOCK_BYTES};
-use tevrolig_model::Answer;
+use tevrolig_model::{prove, Answer};
 
 /// Proves, compares the check words, which every word of a block goes into, and has
 /// the file judged.
@@ -72,12 +72,12 @@ fn two_rounds_with_one_fold() {
     compare(&sheet, &coefficients, &coins, &words, &[101028082], 10);
 }
 
-/// Field 2, k = 4, one round with two equal out coins.
+/// Field 2, k = 4, one round with two out coins; equal ones are refused.
 #[test]
 fn fours_over_the_large_field() {
     let sheet = [2, 64, 16, 4, 1, 2, 1, 2, 0, 0, 0, 0];
     let coefficients: Vec<u32> = (0..16).map(|l| 1 << l).collect();
-    let coins = [123456789, 5, 5, 2013265920, 31, 15, 7, 2];
+    let coins = [123456789, 5, 9, 2013265920, 31, 15, 7, 2];
     #[rustfmt::skip]
     let words = [
         1209936877, 30851578, 1788512725, 1762662461, 509565425, 698906834, 493803691, 860088965,
@@ -93,11 +93,20 @@ fn fours_over_the_large_field() {
         1328831737, 1527343115, 1601933201, 785199602, 1859333544, 1154162042, 535757484, 516739265,
         769625099, 1971779512, 1545209348, 142425609, 737704085, 830223086, 1133609052, 35423933,
         1951553947, 484205735, 1619105130, 752755026, 2005306534, 256294282, 1432905470, 1965938471,
-        5, 5, 793160831, 793160831, 2013265920, 31, 15,
-        1404874378,
+        5, 9, 793160831, 1835118651, 2013265920, 31, 15,
+        988160292,
         7, 2,
     ];
-    compare(&sheet, &coefficients, &coins, &words, &[1726463877], 12);
+    let file = compare(&sheet, &coefficients, &coins, &words, &[1992673263], 12);
+
+    let equal = prove(&sheet, &coefficients, &with(&coins, &[(2, 5)]), &mut []);
+    let (number, place) = (14, 2);
+    assert_eq!(equal, Answer::Refused { number, place });
+    let out = 12 + 64 + 1 + 32;
+    for reply in [793160831, 1835118651] {
+        let equal = changed(&file, &[(out + 1, 5), (out + 3, reply)]);
+        assert_eq!(judged(One, &equal), "refused 14 110 0");
+    }
 }
 
 /// The transcript by hand of document 01, in edition 2: its words after the sheet

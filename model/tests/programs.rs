@@ -7,6 +7,7 @@ use std::collections::BTreeMap;
 use std::io::Write;
 use std::process::{Command, Stdio};
 use tevrolig_model::convert::convert_to;
+use tevrolig_model::generate::equal_outs::equal_coin_drawn;
 use tevrolig_model::load::{Generator, WORKED_SHEET};
 use tevrolig_model::Answer;
 
@@ -82,7 +83,7 @@ fn definition_cases_are_small_and_of_every_kind() {
     }
     assert_eq!(text.lines().count(), 800);
     assert_eq!(empty, 1);
-    assert_eq!(kinds.len(), 10);
+    assert_eq!(kinds.len(), OUTCOMES.len());
     assert!(kinds.values().all(|&count| count >= 15), "{kinds:?}");
     assert!((200..=350).contains(&kinds["0"]), "{kinds:?}");
     assert!(fields.iter().all(|&count| count >= 60), "{fields:?}");
@@ -106,9 +107,39 @@ fn definition_cases_of_edition_2() {
         }
     }
     assert_eq!(text.lines().count(), 800);
-    assert_eq!(kinds.len(), 10);
+    assert_eq!(kinds.len(), OUTCOMES.len());
     assert!(kinds.values().all(|&count| count >= 15), "{kinds:?}");
     assert!(differing >= 40, "{differing}");
+}
+
+/// So many files and runs are tried on every run of the gate; equal out coins are among
+/// them, and equal ones that the load draws again.
+#[test]
+fn cases_of_the_gate() {
+    for arguments in [&["1", "100"][..], &["1", "100", "edition2"]] {
+        let text = cases(arguments);
+        for outcome in OUTCOMES {
+            let kind = outcome.to_string();
+            let met = text
+                .lines()
+                .any(|case| case.split(' ').nth(2) == Some(&kind));
+            assert!(met, "{kind}");
+        }
+    }
+    assert!(equal_coins_drawn(&cases(&["1", "150", "orders"])) > 15);
+}
+
+/// The runs in which an out coin that equals the one before it is drawn.
+fn equal_coins_drawn(text: &str) -> usize {
+    let drawn = |case: &&str| {
+        let (v, _) = case.split_once(" | ").unwrap();
+        let before = Generator {
+            v: v.parse().unwrap(),
+        };
+        let order = before.clone().order();
+        order.sheet[4] > 0 && order.sheet[5] == 2 && equal_coin_drawn(&before, &order)
+    };
+    text.lines().filter(drawn).count()
 }
 
 #[test]
@@ -163,5 +194,6 @@ fn drawn_orders_are_short_and_of_every_kind() {
         fields[drawn.sheet[0] as usize] += 1;
     }
     assert!(worked >= 50 && rounds >= 200, "{worked}, {rounds}");
+    assert!(equal_coins_drawn(&text) >= 50);
     assert!(fields.iter().all(|&count| count >= 20), "{fields:?}");
 }

@@ -206,6 +206,51 @@ fn prove_out_coin_7() {
     }
 }
 
+/// 14 at the position of the second of two equal out coins, after every 7 and before
+/// 11.
+#[test]
+fn prove_equal_out_coins_14() {
+    // The positions of the first out coin of each round.
+    for (sample, [one, two]) in samples().iter().zip([[1, 9], [1, 8]]) {
+        let Sample {
+            coefficients,
+            coins,
+            subgroup,
+            ..
+        } = sample;
+        let proved = |changes: &[(usize, u32)], length: usize| {
+            sample.with_lists(coefficients, &with(coins, changes), length)
+        };
+        let equal = |out: usize| (out + 1, coins[out]);
+        for out in [one, two] {
+            let expected = (14, out as u64 + 1);
+            for length in [0, 512, ROOM] {
+                assert_eq!(proved(&[equal(out)], length), expected);
+                assert_eq!(proved(&[(out, coins[out + 1])], length), expected);
+                assert_eq!(proved(&[(out, 0), (out + 1, 0)], length), expected);
+            }
+        }
+        assert_eq!(proved(&[equal(one), equal(two)], 0), (14, one as u64 + 1));
+        // All rounds are tested for 7 before, and all ranges before that.
+        for (i, inside, out) in [(2, two, one), (2, two + 1, one), (1, one + 1, two)] {
+            let moved = (inside, subgroup.point(i, 1) as u32);
+            assert_eq!(proved(&[moved, equal(out)], 0), (7, inside as u64));
+        }
+        let point = subgroup.point(2, 0) as u32;
+        let both = [(two, point), (two + 1, point)];
+        assert_eq!(proved(&both, ROOM), (7, two as u64));
+        let last = coins.len() - 1;
+        let above = (5, (coefficients.len() + last) as u64);
+        assert_eq!(proved(&[equal(one), (last, 128)], 0), above);
+        // Out coins of different rounds may be equal.
+        let blocks = sample.layout.blocks() as u64;
+        let shared = [(two, coins[one]), (two + 1, coins[one + 1])];
+        assert_eq!(proved(&shared, ROOM), (0, blocks));
+        let swapped = [(two, coins[one + 1]), (two + 1, coins[one])];
+        assert_eq!(proved(&swapped, ROOM), (0, blocks));
+    }
+}
+
 #[test]
 fn prove_output_11() {
     for (sample, blocks) in samples().iter().zip([4, 15]) {

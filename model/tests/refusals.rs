@@ -4,7 +4,7 @@
 mod common;
 
 use common::*;
-use tevrolig_model::generate::Rng;
+use tevrolig_model::generate::{self, Rng};
 use tevrolig_model::layout::Part;
 use tevrolig_model::stream::read_word;
 
@@ -179,15 +179,107 @@ fn out_coin_7() {
         assert!(!subgroup.domain(2).contains(&point));
         assert_eq!(sample.number(&[(word, point as u32)]), 9);
         // 7 in round 2 comes before 8 in round 1.
-        let outs = layout.range(Part::OutCoins(1));
-        let replies = layout.range(Part::Replies(1));
-        let coin = read_word(&sample.file, outs.start);
-        let reply = read_word(&sample.file, replies.start);
-        let clash = [(outs.start + 1, coin), (replies.start + 1, reply ^ 1)];
-        assert_eq!(sample.judged(&clash), format!("refused 8 1 {reads}"));
+        let shift = layout.range(Part::ShiftIndices(1)).start;
+        let out = layout.range(Part::OutCoins(1)).start;
+        let clash = (out, sample.shift_point(1, shift));
+        assert_eq!(sample.judged(&[clash]), format!("refused 8 1 {reads}"));
         let inside = (word, subgroup.point(2, 0) as u32);
-        let both = [clash[0], clash[1], inside];
-        assert_eq!(sample.judged(&both), format!("refused 7 {word} 0"));
+        let refused = format!("refused 7 {word} 0");
+        assert_eq!(sample.judged(&[clash, inside]), refused);
+    }
+}
+
+/// 14 at the second of two equal out coins, whatever their replies are.
+#[test]
+fn equal_out_coins_14() {
+    for sample in samples() {
+        let Sample { layout, file, .. } = &sample;
+        for i in 1..=2 {
+            let outs = layout.range(Part::OutCoins(i));
+            let [first, second] = [outs.start, outs.start + 1];
+            let refused = format!("refused 14 {second} 0");
+            let coins = [first, second].map(|word| read_word(file, word));
+            // A shift point's fold differs from the replies, and 0 is in no domain.
+            let shift = layout.range(Part::ShiftIndices(i)).start;
+            for coin in [coins[0], coins[1], 0, sample.shift_point(i, shift)] {
+                let equal = [(first, coin), (second, coin)];
+                assert_eq!(sample.judged(&equal), refused);
+                for replies in [[5, 5], [5, 6], [0, 0]] {
+                    let [a, b] = [(first + 2, replies[0]), (second + 2, replies[1])];
+                    assert_eq!(sample.judged(&[equal[0], equal[1], a, b]), refused);
+                }
+            }
+        }
+    }
+}
+
+/// 14 comes after every 7, also one of a later round, and before every 8 and 9.
+#[test]
+fn equal_out_coins_in_the_order_of_tests() {
+    for sample in samples() {
+        let Sample {
+            layout, subgroup, ..
+        } = &sample;
+        let [one, two] = [1, 2].map(|i| layout.range(Part::OutCoins(i)).start);
+        let equal = |out: usize| (out + 1, read_word(&sample.file, out));
+        let at = |number: u32, word: usize| format!("refused {number} {word} 0");
+        // Of two rounds the first counts.
+        assert_eq!(sample.judged(&[equal(one), equal(two)]), at(14, one + 1));
+        assert_eq!(sample.judged(&[equal(two)]), at(14, two + 1));
+        // A 7 in the other round.
+        for (i, inside, equal_one) in [(1, one, two), (1, one + 1, two), (2, two, one)] {
+            let moved = (inside, subgroup.point(i, 3) as u32);
+            let changes = [moved, equal(equal_one)];
+            assert_eq!(sample.judged(&changes), at(7, inside));
+        }
+        // Equal coins in their domain.
+        for (i, out) in [(1, one), (2, two)] {
+            let point = subgroup.point(i, 0) as u32;
+            let inside = [(out, point), (out + 1, point)];
+            assert_eq!(sample.judged(&inside), at(7, out));
+        }
+        // An 8 in the first round, and a 9; then ranges and the fill.
+        let shift = layout.range(Part::ShiftIndices(1)).start;
+        let clash = (one, sample.shift_point(1, shift));
+        assert_eq!(sample.number(&[clash]), 8);
+        assert_eq!(sample.judged(&[clash, equal(two)]), at(14, two + 1));
+        let last = layout.range(Part::FinalCoefficients).start;
+        let other = (last, (read_word(&sample.file, last) + 1) % 65537);
+        assert_eq!(sample.number(&[other]), 9);
+        assert_eq!(sample.judged(&[other, equal(two)]), at(14, two + 1));
+        let (fill, above) = (layout.words(), layout.words() - 1);
+        assert_eq!(sample.judged(&[equal(one), (fill, 1)]), at(6, fill));
+        let range = [equal(one), (above, u32::MAX)];
+        assert_eq!(sample.judged(&range), at(5, above));
+    }
+}
+
+/// Words beside an out coin that are no out coin of its round may equal it: its reply,
+/// the combination coin, the out coins of the other round.
+#[test]
+fn other_equal_words() {
+    // 5 + 11X + 5X^2 is -1 at -1, and 16 is in no domain past the first.
+    let coins = with(&COINS, &[(1, 16), (2, 16)]);
+    let file = generate::honest_file(&SHEET, &COEFFICIENTS, &coins);
+    assert_eq!([OUT, REPLY].map(|word| read_word(&file, word)), [16, 16]);
+    assert_eq!(judged(One, &file), "accepted 0 0 4");
+
+    for sample in samples() {
+        let layout = &sample.layout;
+        let [one, two] = [1, 2].map(|i| {
+            let word = layout.range(Part::OutCoins(i)).start;
+            layout.coin_position(word)
+        });
+        let [a, b] = [sample.coins[one], sample.coins[one + 1]];
+        let c = sample.coins[two];
+        for [first, second] in [[a, b], [b, a], [a, c], [c, a], [b, c], [c, b]] {
+            // The coin after the second is the combination coin.
+            let changes = [(two, first), (two + 1, second), (two + 2, second)];
+            let coins = with(&sample.coins, &changes);
+            let file = generate::honest_file(sample.words, &sample.coefficients, &coins);
+            let accepted = format!("accepted 0 0 {}", reads(sample.words));
+            assert_eq!(judged(sample.edition, &file), accepted);
+        }
     }
 }
 
@@ -195,39 +287,26 @@ fn out_coin_7() {
 fn clash_8() {
     let reads = [[2 * 4, 2 * (4 + 3)], [16 * 3, 16 * 3 + 4 * 2]];
     for (sample, reads) in samples().iter().zip(reads) {
-        let Sample {
-            layout,
-            subgroup,
-            file,
-            ..
-        } = sample;
+        let layout = &sample.layout;
         for (i, reads) in (1..).zip(reads) {
             let expected = format!("refused 8 {i} {reads}");
             let outs = layout.range(Part::OutCoins(i));
-            let replies = layout.range(Part::Replies(i));
-            // Two out coins.
-            let coin = read_word(file, outs.start);
-            let reply = read_word(file, replies.start);
-            let other = (reply + 1) % 65537;
-            let equal = (outs.start + 1, coin);
-            let clash = [equal, (replies.start + 1, other)];
-            assert_eq!(sample.judged(&clash), expected);
-            // Equal points with equal values are one point: the final comparison decides.
-            let same = [equal, (replies.start + 1, reply)];
-            assert_eq!(sample.number(&same), 9);
-            let both_wrong = [(replies.start, other), (replies.start + 1, other)];
-            assert_eq!(sample.number(&[equal, both_wrong[0], both_wrong[1]]), 9);
-            // An out coin and the first, a middle, the last shift point, which is the
-            // k_(i-1)-th power of a point of domain i-1.
-            let k = u64::from(fold(sample.words, i - 1));
+            // An out coin and the first, a middle, the last shift point.
             for word in layout.range(Part::ShiftIndices(i)) {
-                let point = subgroup.point(i - 1, read_word(file, word) as usize);
-                let power = sample.sheet.field.pow(point, k) as u32;
+                let power = sample.shift_point(i, word);
                 for out in outs.clone() {
                     assert_eq!(sample.judged(&[(out, power)]), expected);
                 }
             }
         }
+        // Of two rounds the first counts.
+        let clash = |i: usize| {
+            let shift = layout.range(Part::ShiftIndices(i)).start;
+            let out = layout.range(Part::OutCoins(i)).start;
+            (out, sample.shift_point(i, shift))
+        };
+        let expected = format!("refused 8 1 {}", reads[0]);
+        assert_eq!(sample.judged(&[clash(1), clash(2)]), expected);
     }
 }
 

@@ -28,6 +28,8 @@ pub enum OrderRefusal {
     Range { position: u64 },
     /// 7: the coin at this position is an out coin of a round i and lies in domain i.
     OutCoin { position: u64 },
+    /// 14: the coin at this position is the second out coin of a round and equals the first.
+    EqualOut { position: u64 },
     /// 11 of prove: the output has not room for these blocks.
     OutputBlocks { needed: u64 },
     /// 11 of encode: the output has not room for these words.
@@ -45,6 +47,7 @@ impl OrderRefusal {
             OrderRefusal::Sheet { .. } => 3,
             OrderRefusal::Range { .. } => 5,
             OrderRefusal::OutCoin { .. } => 7,
+            OrderRefusal::EqualOut { .. } => 14,
             OrderRefusal::OutputBlocks { .. } | OrderRefusal::OutputWords { .. } => 11,
         }
     }
@@ -56,7 +59,9 @@ impl OrderRefusal {
             OrderRefusal::CoefficientCount => 1,
             OrderRefusal::CoinCount => 2,
             OrderRefusal::Sheet { word } => word,
-            OrderRefusal::Range { position } | OrderRefusal::OutCoin { position } => position,
+            OrderRefusal::Range { position }
+            | OrderRefusal::OutCoin { position }
+            | OrderRefusal::EqualOut { position } => position,
             OrderRefusal::OutputBlocks { needed } | OrderRefusal::OutputWords { needed } => needed,
         }
     }
@@ -75,6 +80,7 @@ impl OrderRefusal {
             (3, word) => OrderRefusal::Sheet { word },
             (5, position) => OrderRefusal::Range { position },
             (7, position) => OrderRefusal::OutCoin { position },
+            (14, position) => OrderRefusal::EqualOut { position },
             (11, needed) => output(needed),
             _ => unreachable!("an order was answered {number} {place}"),
         }
@@ -101,6 +107,12 @@ impl Display for OrderRefusal {
                 write!(
                     f,
                     "coin {position} is an out coin inside its round's domain"
+                )
+            }
+            OrderRefusal::EqualOut { position } => {
+                write!(
+                    f,
+                    "coin {position} is an out coin and equals the one before it in its round"
                 )
             }
             OrderRefusal::OutputBlocks { needed } => {
@@ -140,6 +152,12 @@ impl std::error::Error for OrderRefusal {}
 /// // 3 is a point of domain 1.
 /// let refused = prove(&sheet, &coefficients, &[2, 3, 3, 4, 0, 1], &mut output);
 /// assert_eq!(refused, Err(OrderRefusal::OutCoin { position: 1 }));
+///
+/// // With two out coins in each round, which may not be equal.
+/// let sheet = [0, 16, 8, 2, 1, 2, 1, 1, 0, 0, 0, 0];
+/// assert_eq!(prove(&sheet, &coefficients, &[2, 0, 4, 3, 4, 0, 1], &mut output), Ok(1));
+/// let refused = prove(&sheet, &coefficients, &[2, 0, 0, 3, 4, 0, 1], &mut output);
+/// assert_eq!(refused, Err(OrderRefusal::EqualOut { position: 2 }));
 /// # Ok::<(), OrderRefusal>(())
 /// ```
 pub fn prove(

@@ -30,6 +30,8 @@ pub enum Refusal {
     Fill { word: u64 },
     /// 7: this word of the stream is an out coin of a round i and lies in domain i.
     OutCoin { word: u64 },
+    /// 14: this word of the stream is the second out coin of a round and equals the first.
+    EqualOut { word: u64 },
     /// 8: two equal points of this round have different values.
     Clash { round: u64 },
     /// 9: the final polynomial differs from the fold at the point of the final index at this position.
@@ -47,6 +49,7 @@ impl Refusal {
             Refusal::Range { .. } => 5,
             Refusal::Fill { .. } => 6,
             Refusal::OutCoin { .. } => 7,
+            Refusal::EqualOut { .. } => 14,
             Refusal::Clash { .. } => 8,
             Refusal::Final { .. } => 9,
         }
@@ -61,7 +64,8 @@ impl Refusal {
             Refusal::Sheet { word }
             | Refusal::Range { word }
             | Refusal::Fill { word }
-            | Refusal::OutCoin { word } => word,
+            | Refusal::OutCoin { word }
+            | Refusal::EqualOut { word } => word,
             Refusal::Clash { round } => round,
             Refusal::Final { position } => position,
         }
@@ -79,6 +83,7 @@ impl Refusal {
             7 => Refusal::OutCoin { word: place },
             8 => Refusal::Clash { round: place },
             9 => Refusal::Final { position: place },
+            14 => Refusal::EqualOut { word: place },
             _ => unreachable!("a file was answered {number} {place}"),
         }
     }
@@ -108,6 +113,10 @@ impl Display for Refusal {
             Refusal::OutCoin { word } => write!(
                 f,
                 "word {word} of the stream is an out coin inside its round's domain"
+            ),
+            Refusal::EqualOut { word } => write!(
+                f,
+                "word {word} of the stream is an out coin and equals the one before it in its round"
             ),
             Refusal::Clash { round } => {
                 write!(f, "in round {round} two equal points have different values")
@@ -226,7 +235,7 @@ pub(crate) fn judged(verify: archive::Verify, file: &[u8]) -> Verdict {
     }
 }
 
-/// The word of this number in a file's stream, as refusals 5, 6 and 7 of verify count; nothing where the file's whole blocks hold no such word.
+/// The word of this number in a file's stream, as refusals 5, 6, 7 and 14 of verify count; nothing where the file's whole blocks hold no such word.
 /// The sheet has the words 0 to 11, or 0 to 17 in edition 2, and block checks are not counted.
 ///
 /// ```

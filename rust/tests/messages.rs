@@ -62,6 +62,12 @@ fn refusals_of_verify() {
             "word 37 of the stream is an out coin inside its round's domain",
         ),
         (
+            Refusal::EqualOut { word: 38 },
+            14,
+            38,
+            "word 38 of the stream is an out coin and equals the one before it in its round",
+        ),
+        (
             Refusal::Clash { round: 1 },
             8,
             1,
@@ -148,6 +154,12 @@ fn refusals_of_orders() {
             7,
             1,
             "coin 1 is an out coin inside its round's domain",
+        ),
+        (
+            OrderRefusal::EqualOut { position: 2 },
+            14,
+            2,
+            "coin 2 is an out coin and equals the one before it in its round",
         ),
         (
             OrderRefusal::OutputBlocks { needed: 2 },

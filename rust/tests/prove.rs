@@ -83,7 +83,8 @@ fn the_largest_orders_are_done() {
     }
 }
 
-/// Every position of the coefficients and of the coins in turn, and every round's out coins: an index's limit goes by its round's k.
+/// Every position of the coefficients and of the coins in turn, and every round's out coins, in their domain and equal: an index's limit goes by
+/// its round's k.
 #[test]
 fn every_position_of_an_order() {
     let sheets: [&[u32]; 6] = [
@@ -127,6 +128,13 @@ fn every_position_of_an_order() {
                     order.coins[at] = point as u32;
                     assert_eq!(order.prove(length, &what), refused((7, at)));
                 }
+                if known.outs == 2 {
+                    let first = layout.coin_position(layout.range(part).start);
+                    order.coins[at] = order.coins[2 * first + 1 - at];
+                    for length in [length, 0] {
+                        assert_eq!(order.prove(length, &what), refused((14, first + 1)));
+                    }
+                }
             } else {
                 order.coins[at] = limit as u32 - 1;
                 order.is_done(0, &what);
@@ -152,6 +160,10 @@ fn any_lists() {
             for list in [&mut order.sheet, &mut order.coefficients, &mut order.coins] {
                 generate::disturb(&mut rng, list);
             }
+            if let (true, [_, first, second, ..]) = (rng.one_in(8), &mut order.coins[..]) {
+                // Out coins, where there are rounds with two.
+                *second = *first;
+            }
             let length = rng.pick(&[0, 511, 512, 1024, 1500]);
             let what = format!("any, {edition:?}, seed {seed}");
             match order.prove(length, &what) {
@@ -163,7 +175,8 @@ fn any_lists() {
             order.encode(length / 30, &what);
         }
         assert!(done > 3_000, "{done} of these orders are done");
-        let all = [(3, 0), (5, 0), (7, 0), (10, 0), (10, 1), (10, 2), (11, 0)];
-        assert_eq!(numbers, BTreeSet::from(all));
+        let lengths = [(10, 0), (10, 1), (10, 2)];
+        let others = [3, 5, 7, 11, 14].map(|number| (number, 0));
+        assert_eq!(numbers, lengths.into_iter().chain(others).collect());
     }
 }

@@ -20,10 +20,11 @@ enum Test {
     Coefficients,
     Coins,
     OutCoins,
+    EqualOuts,
     Output,
 }
 
-const PROVE: [Test; 8] = [
+const PROVE: [Test; 9] = [
     Test::SheetLength,
     Test::Sheet,
     Test::CoefficientCount,
@@ -31,6 +32,7 @@ const PROVE: [Test; 8] = [
     Test::Coefficients,
     Test::Coins,
     Test::OutCoins,
+    Test::EqualOuts,
     Test::Output,
 ];
 
@@ -118,6 +120,7 @@ impl Faulty {
                 Some((5, self.sheet.d0 + at))
             }
             Test::OutCoins => self.break_out_coins(rng).map(|at| (7, at)),
+            Test::EqualOuts => self.make_out_coins_equal(rng).map(|at| (14, at)),
             Test::Output => {
                 self.length = rng.pick(&[0, size / 2, size - 1]);
                 Some((11, due))
@@ -140,6 +143,23 @@ impl Faulty {
             let point = subgroup.point(round, rng.place(self.sheet.n(round)));
             self.order.coins[at] = point as u32;
             first = Some(first.map_or(at, |other: usize| other.min(at)));
+        }
+        first
+    }
+
+    /// Two equal out coins in one round or in two; the position of the second in the first of them.
+    fn make_out_coins_equal(&mut self, rng: &mut Rng) -> Option<usize> {
+        let mut first = None;
+        for _ in 0..=rng.place(2) {
+            let round = 1 + rng.place(self.sheet.rounds);
+            let words = self.layout.range(Part::OutCoins(round));
+            if words.len() < 2 {
+                return None;
+            }
+            let at = self.layout.coin_position(words.start);
+            let coin = self.order.coins[at + rng.place(2)];
+            self.order.coins[at..at + 2].fill(coin);
+            first = Some(first.map_or(at + 1, |other: usize| other.min(at + 1)));
         }
         first
     }

@@ -1,24 +1,26 @@
--- What the premises say, word by word: a sheet of the edition's length, d0 coefficients, and coins each of which passes refusals 5 and 7.
+-- What the premises say, word by word: a sheet of the edition's length, d0 coefficients, and coins each of which passes refusals 5, 7 and 14.
 use Prim.Native.Nat.{ℕ, _+_, _≤_, _<_}
 use native.Mathlib.Omega.{arith}
 use mathlib.Core.Bool.{false}
 use mathlib.Core.List.{List, [], _∷_, _++_}
+use mathlib.Core.Option.{none}
 use mathlib.Core.Path.{_≡_, sym, ap, _∙_, subst}
 use lib.ListN.{length, getD, drop, replicate, length-append, length-replicate}
 use lib.Seq.{drop-at, take-at}
 use borrow.Author.Tests.{leb-false}
-use Rattle.definition.specs.Deciding.{outInDomain}
+use Rattle.definition.specs.Deciding.{outInDomain, repeatedOuts}
 use Rattle.definition.specs.Layout.{Kind, coin, coinKinds, layout, limit, message, restLayout}
-use Rattle.definition.specs.Prove.{coefficientsTest, coinDomainTest, coinsTest, inputRangeTest, sheetLengthTest}
+use Rattle.definition.specs.Prove.{coefficientsTest, coinDomainTest, coinEqualTest, coinsTest, inputRangeTest, sheetLengthTest}
 use Rattle.definition.specs.Reading.{outOfRange}
 use Rattle.definition.specs.Sheet.{Edition, Sheet, firstLevel, laterLevels, sheetLength, sheetOf}
 use Rattle.definition.specs.Verdict.{accepted}
 use Rattle.algebra.specs.ListFacts.{All, all-map}
 use Rattle.completeness.specs.EachWord.{Each, each-append-at, each-false, each-pair, each-replicate}
+use Rattle.completeness.specs.EqualOuts.{NoRepeat}
 use Rattle.completeness.specs.FairCoins.{Passes}
 use Rattle.completeness.specs.LayoutFacts.{Dealt, coins-append, coins-messages, dealt}
 use Rattle.completeness.specs.Numbered.{Allowed}
-use Rattle.completeness.specs.Tests.{at-passes, equal-passes}
+use Rattle.completeness.specs.Tests.{all-false, at-passes, equal-passes}
 
 pub sheet-long : (ed : Edition) (w : List ℕ) → sheetLengthTest ed w ≡ accepted → length w ≡ sheetLength ed
 unfolding sheetLengthTest
@@ -92,3 +94,11 @@ module _ {ed : Edition} {w f coins : List ℕ} (ok : Allowed ed w f coins) where
 
   pub allowed-rounds : Dealt (Passes (sheetOf ed w)) (sheetOf ed w .outCoins) (firstLevel (sheetOf ed w)) (laterLevels (sheetOf ed w)) (drop 1 coins)
   allowed-rounds = dealt (Passes (sheetOf ed w)) (sheetOf ed w .outCoins) (firstLevel (sheetOf ed w)) (laterLevels (sheetOf ed w)) (drop 1 coins) (split-coins .1)
+
+  -- no two out coins of a round are equal
+  pub allowed-apart : NoRepeat none (coinKinds (layout (sheetOf ed w))) coins
+  unfolding coinEqualTest
+  allowed-apart = all-false 14 0 (repeatedOuts none (coinKinds (layout (sheetOf ed w))) coins) (ok .apart)
+
+  pub allowed-some : 0 < length coins
+  allowed-some = omega (arith, allowed-count, ap length (layout-coins (sheetOf ed w)))

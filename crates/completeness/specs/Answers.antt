@@ -4,23 +4,25 @@ use native.Mathlib.Omega.{arith}
 use mathlib.Core.Bool.{Bool, true, false, not}
 use mathlib.Core.List.{List, [], _∷_, _++_, map, zipWith}
 use mathlib.Core.Option.{Option, none, some}
-use mathlib.Core.Path.{_≡_, sym, subst}
+use mathlib.Core.Path.{_≡_, refl, sym, subst}
 use lib.ListN.{getD, length, replicate, length-append}
 use Rattle.definition.specs.Layout.{coinKinds, layout, message}
 use Rattle.definition.specs.Lists.{firstOf, firstTrue}
-use Rattle.definition.specs.Prove.{coefficientsTest, coinDomainTest, coinsTest, encode, encodeTests, finish, inputRangeTest, outputTest, proveIn, proveTests, refusal, sheetLengthTest}
+use Rattle.definition.specs.Prove.{coefficientsTest, coinDomainTest, coinEqualTest, coinsTest, encode, encodeTests, finish, inputRangeTest, outputTest, proveIn, proveTests, refusal, sheetLengthTest}
 use Rattle.definition.specs.Deciding.{outInDomain}
 use Rattle.definition.specs.Reading.{outOfRange, sheetTest}
-use Rattle.definition.specs.Sheet.{Edition, Sheet, edition1, sheetLength, sheetOf, sheetRules, testOrder}
+use Rattle.definition.specs.Sheet.{Edition, edition1, sheetLength, sheetOf, sheetRules, testOrder}
 use Rattle.definition.specs.Verdict.{Outcome, _then_, accepted, refuseAt, refuseIf, refused}
 use Rattle.definition.specs.Verify.{verifyIn}
 use Rattle.completeness.specs.AcceptedExactly.{refused-exactly}
+use Rattle.completeness.specs.EqualOuts.{repeated-most}
 use Rattle.completeness.specs.Faults
-use Rattle.completeness.specs.Faults.{EncodeRefusal, Fault, ProveRefusal, VerifyRefusal, outs, partLength, sheetIn}
-use Rattle.completeness.specs.Numbered.{outsOf}
+use Rattle.completeness.specs.Faults.{EncodeRefusal, Fault, NoFault, ProveRefusal, VerifyRefusal, dueOf, faultsOf, numberTurn, outs, partLength, partStart, sheetIn}
+use Rattle.completeness.specs.Numbered.{outsOf, roundsOf}
 use Rattle.completeness.specs.FirstFaults.{FirstAt, FirstTrue, first-of, first-true}
 use Rattle.completeness.specs.PartsByNumber.{part-below}
 use Rattle.completeness.specs.RulesByWord.{order-count, rules-length, turn-of-word}
+use Rattle.completeness.specs.VerifyExactly.{own-turn}
 
 -- what holds of every refusal of an outcome
 module _ (Q : ℕ → ℕ → Type 0) where
@@ -72,7 +74,7 @@ finish-refusal Q (refused m r) count n q written output h e =
 
 module _ (ed : Edition) (w f coins output : List ℕ) where
   pub prove-refusals : (n q : ℕ) → proveIn ed w f coins output .answer ≡ refusal n q → ProveRefusal ed w f coins n q
-  unfolding proveIn proveTests sheetLengthTest coefficientsTest coinsTest inputRangeTest coinDomainTest outputTest
+  unfolding proveIn proveTests sheetLengthTest coefficientsTest coinsTest inputRangeTest coinDomainTest coinEqualTest outputTest
   prove-refusals n q e =
       let Q = ProveRefusal ed w f coins in
       finish-refusal Q _ _ n q _ output
@@ -84,7 +86,9 @@ module _ (ed : Edition) (w f coins output : List ℕ) where
       (at-refuses Q 5 0 _ (λ j l. Faults.ProveRefusal.word·over (0 + j) (omega (arith, zip-most (outOfRange (sheetOf ed w)) (replicate (sheetOf ed w .degree) message ++ coinKinds (layout (sheetOf ed w))) (f ++ coins), length-append f coins))))
       (then-refuses Q (coinDomainTest (sheetOf ed w) coins) _
       (at-refuses Q 7 0 _ (λ j l. Faults.ProveRefusal.coin·inside (0 + j) (omega (arith, zip-most (outInDomain (sheetOf ed w)) (coinKinds (layout (sheetOf ed w))) coins))))
-      (if-refuses Q 11 _ _ Faults.ProveRefusal.output·short))))))) e
+      (then-refuses Q (coinEqualTest (sheetOf ed w) coins) _
+      (at-refuses Q 14 0 _ (λ j l. Faults.ProveRefusal.coin·equal (0 + j) (omega (arith, repeated-most none (coinKinds (layout (sheetOf ed w))) coins))))
+      (if-refuses Q 11 _ _ Faults.ProveRefusal.output·short)))))))) e
 
 module _ (w f output : List ℕ) where
   pub encode-refusals : (n q : ℕ) → encode w f output .answer ≡ refusal n q → EncodeRefusal w f n q
@@ -101,25 +105,33 @@ module _ (w f output : List ℕ) where
 
 -- A refusal of verify is a fault, and each fault has its range.
 module _ (ed : Edition) (file : List ℕ) where
-  fault-placed : (n q : ℕ) → Fault ed file n q → VerifyRefusal ed file n q
+  -- an out coin of a round is among the words due
+  out-below : (i j q : ℕ) → i < roundsOf (sheetIn ed file) → j < outsOf (sheetIn ed file) → q ≡ partStart ed (sheetIn ed file) (outs i) + j →
+      (sheetLength ed ≤ q) × (q < dueOf ed (sheetIn ed file))
   unfolding partLength
-  fault-placed zero q p = absurd p
-  fault-placed (suc zero) q p = subst (VerifyRefusal ed file 1) (sym (p .0)) Faults.VerifyRefusal.length·wrong
-  fault-placed (suc (suc zero)) q p = Faults.VerifyRefusal.check·wrong q (p .0)
-  fault-placed (suc (suc (suc zero))) q p = Faults.VerifyRefusal.rule·broken q (p .0)
-  fault-placed (suc (suc (suc (suc zero)))) q p = subst (VerifyRefusal ed file 4) (sym (p .0)) Faults.VerifyRefusal.blocks·differ
-  fault-placed (suc (suc (suc (suc (suc zero))))) q p =
-      let r = part-below ed (sheetIn ed file) (p .0) (p .1) (p .2 .0) (p .2 .1) in Faults.VerifyRefusal.word·over q (omega (arith, p .2 .2, r .0)) (omega (arith, p .2 .2, r .1))
-  fault-placed (suc (suc (suc (suc (suc (suc zero)))))) q p = Faults.VerifyRefusal.fill·set q (p .0) (p .1)
-  fault-placed (suc (suc (suc (suc (suc (suc (suc zero))))))) q p =
-      let r = part-below ed (sheetIn ed file) (outs (p .0)) (p .1) (p .2 .0) (outs-many (sheetIn ed file) (p .0) (p .2 .0) (p .2 .1)) in
-      Faults.VerifyRefusal.coin·inside q (omega (arith, p .2 .2, r .0)) (omega (arith, p .2 .2, r .1))
+  out-below i j q l u e = let r = part-below ed (sheetIn ed file) (outs i) l j u in (omega (arith, e, r .0), omega (arith, e, r .1))
+
+  fault-placed : (n q : ℕ) → Fault ed file n q → VerifyRefusal ed file n q
+  fault-placed n q p = at-turn (numberTurn n) refl p
     where
-      outs-many : (h : Sheet) (i j : ℕ) → j < outsOf h → j < partLength h (outs i)
-      outs-many h i j l = l
-  fault-placed (suc (suc (suc (suc (suc (suc (suc (suc zero)))))))) q p = Faults.VerifyRefusal.pairs·clash q (omega (arith, p .2)) (omega (arith, p .1, p .2))
-  fault-placed (suc (suc (suc (suc (suc (suc (suc (suc (suc zero))))))))) q p = Faults.VerifyRefusal.final·differs q (p .0)
-  fault-placed (suc (suc (suc (suc (suc (suc (suc (suc (suc (suc n)))))))))) q p = absurd p
+      named : (m : ℕ) → numberTurn n ≡ numberTurn m → VerifyRefusal ed file m q → VerifyRefusal ed file n q
+      named m e r = subst (λ (x : ℕ). VerifyRefusal ed file x q) (sym (own-turn n m e)) r
+
+      at-turn : (t : ℕ) → numberTurn n ≡ t → getD (faultsOf ed file) t NoFault q → VerifyRefusal ed file n q
+      at-turn zero e p = absurd p
+      at-turn (suc zero) e p = named 1 e (subst (VerifyRefusal ed file 1) (sym (p .0)) Faults.VerifyRefusal.length·wrong)
+      at-turn (suc (suc zero)) e p = named 2 e (Faults.VerifyRefusal.check·wrong q (p .0))
+      at-turn (suc (suc (suc zero))) e p = named 3 e (Faults.VerifyRefusal.rule·broken q (p .0))
+      at-turn (suc (suc (suc (suc zero)))) e p = named 4 e (subst (VerifyRefusal ed file 4) (sym (p .0)) Faults.VerifyRefusal.blocks·differ)
+      at-turn (suc (suc (suc (suc (suc zero))))) e p =
+          let r = part-below ed (sheetIn ed file) (p .0) (p .1) (p .2 .0) (p .2 .1) in
+          named 5 e (Faults.VerifyRefusal.word·over q (omega (arith, p .2 .2, r .0)) (omega (arith, p .2 .2, r .1)))
+      at-turn (suc (suc (suc (suc (suc (suc zero)))))) e p = named 6 e (Faults.VerifyRefusal.fill·set q (p .0) (p .1))
+      at-turn (suc (suc (suc (suc (suc (suc (suc zero))))))) e p = let r = out-below (p .0) (p .2 .0) q (p .1) (p .2 .1) (p .2 .2) in named 7 e (Faults.VerifyRefusal.coin·inside q (r .0) (r .1))
+      at-turn (suc (suc (suc (suc (suc (suc (suc (suc zero)))))))) e p = let r = out-below (p .0) (p .2 .0) q (p .1) (p .2 .1) (p .2 .2) in named 14 e (Faults.VerifyRefusal.coin·equal q (r .0) (r .1))
+      at-turn (suc (suc (suc (suc (suc (suc (suc (suc (suc zero))))))))) e p = named 8 e (Faults.VerifyRefusal.pairs·clash q (omega (arith, p .2)) (omega (arith, p .1, p .2)))
+      at-turn (suc (suc (suc (suc (suc (suc (suc (suc (suc (suc zero)))))))))) e p = named 9 e (Faults.VerifyRefusal.final·differs q (p .0))
+      at-turn (suc (suc (suc (suc (suc (suc (suc (suc (suc (suc (suc t))))))))))) e p = absurd p
 
   pub verify-refusals : (n q : ℕ) → verifyIn ed file .outcome ≡ refused n q → VerifyRefusal ed file n q
   verify-refusals n q e = fault-placed n q (refused-exactly ed file n q .0 e .there)

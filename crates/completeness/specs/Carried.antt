@@ -3,21 +3,23 @@
 use Prim.Native.Nat.{ℕ, _+_, _-_, _*_, _/_, _≤_, _<_}
 use native.Mathlib.Omega.{arith}
 use mathlib.Core.List.{List, [], _∷_, _++_, zipWith, append-nil}
+use mathlib.Core.Option.{none}
 use mathlib.Core.Path.{_≡_, refl, sym, ap, _∙_, subst}
 use lib.ListN.{length, take, drop, replicate, length-drop, take-append-drop}
 use lib.Seq.{drop-at, length-take-le, take-add, take-append-le, take-at, take-take}
 use Rattle.definition.specs.Block.{blockCount, fileOf, streamOf}
 use Rattle.definition.specs.Convert.{bodyOf}
-use Rattle.definition.specs.Deciding.{decide, deciding, outInDomain, outTest}
+use Rattle.definition.specs.Deciding.{decide, deciding, equalTest, outInDomain, outTest, outTests, repeatedOuts}
 use Rattle.definition.specs.Field.{primeField}
 use Rattle.definition.specs.Layout.{layout, readTranscript, wordsDue}
 use Rattle.definition.specs.Lists.{firstTrue}
 use Rattle.definition.specs.Reading.{outOfRange, rangeTest, reading, sheetTest}
 use Rattle.definition.specs.Sheet.{Edition, Sheet, firstLevel, rootOfUnity, sheetLength, sheetOf}
-use Rattle.definition.specs.Verdict.{Outcome, Verdict, accepted, refuseAt, thenVerdict}
+use Rattle.definition.specs.Verdict.{Outcome, Verdict, _then_, accepted, refuseAt, thenVerdict}
 use Rattle.definition.specs.Verify.{verifyIn}
 use Rattle.algebra.specs.ListFacts.{All}
 use Rattle.completeness.specs.EachWord.{Each, each-false}
+use Rattle.completeness.specs.EqualOuts.{repeated-front}
 use Rattle.completeness.specs.FileBack.{file-back}
 use Rattle.completeness.specs.FileRead.{InRange, file-reads, stream-is}
 use Rattle.completeness.specs.FileTrip.{fillCount, filled, stream-length}
@@ -29,10 +31,11 @@ use Rattle.completeness.specs.Tests.{at-passes}
 -- the verdict on words after a sheet h, where the first of them has number n
 unfoldable pub decidedFrom : Sheet → List ℕ → ℕ → Verdict
 decidedFrom h words n =
-    thenVerdict (refuseAt 7 (firstTrue n (zipWith (outInDomain h) (layout h) words))) (decide (primeField (h .prime)) (rootOfUnity h) (firstLevel h) (readTranscript h words))
+    thenVerdict (refuseAt 7 (firstTrue n (zipWith (outInDomain h) (layout h) words)) then refuseAt 14 (firstTrue n (repeatedOuts none (layout h) words)))
+    (decide (primeField (h .prime)) (rootOfUnity h) (firstLevel h) (readTranscript h words))
 
 pub verdict-is : (a : Edition) (bytes : List ℕ) → reading a bytes ≡ accepted → verifyIn a bytes ≡ decidedFrom (sheetOf a (streamOf bytes)) (drop (sheetLength a) (streamOf bytes)) (sheetLength a)
-unfolding verifyIn deciding outTest decidedFrom thenVerdict
+unfolding verifyIn deciding outTests outTest equalTest decidedFrom thenVerdict
 verdict-is a bytes read = ap (λ (o : Outcome). thenVerdict o (deciding a (streamOf bytes))) read
 
 zero-list : (xs : List ℕ) → All (λ x. x ≡ 0) xs → xs ≡ replicate (length xs) 0
@@ -126,7 +129,9 @@ module _ (a : Edition) (bytes : List ℕ) (read : reading a bytes ≡ accepted) 
     carried-verdict =
         let xs = drop n s in
         let zs : zipWith (outInDomain h) (layout h) (body ++ fill) ≡ zipWith (outInDomain h) (layout h) xs = zip-front (outInDomain h) (layout h) xs fill (omega (arith, enough, length-drop n s)) in
+        let rs : repeatedOuts none (layout h) (body ++ fill) ≡ repeatedOuts none (layout h) xs = repeated-front none (layout h) body fill body-long
+        ∙ sym (ap (repeatedOuts none (layout h)) (sym (take-append-drop (length (layout h)) xs)) ∙ repeated-front none (layout h) body (drop (length (layout h)) xs) body-long) in
         let ts : readTranscript h (body ++ fill) ≡ readTranscript h xs = transcript-front h (body ++ fill) xs
         (take-append-le (length (layout h)) body fill (omega (arith, body-long)) ∙ take-take (length (layout h)) (length (layout h)) xs (omega arith)) in
         verdict-is b file carried-reads ∙ (λ i. decidedFrom (carried-sheet i) (carried-words i) (sheetLength b))
-        ∙ (λ i. thenVerdict (refuseAt 7 (firstTrue (sheetLength b) (zs i))) (decide (primeField (h .prime)) (rootOfUnity h) (firstLevel h) (ts i)))
+        ∙ (λ i. thenVerdict (refuseAt 7 (firstTrue (sheetLength b) (zs i)) then refuseAt 14 (firstTrue (sheetLength b) (rs i))) (decide (primeField (h .prime)) (rootOfUnity h) (firstLevel h) (ts i)))

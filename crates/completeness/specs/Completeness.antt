@@ -1,39 +1,42 @@
 -- Completeness: every honest file is accepted, whatever the coins. Reading accepts it, then deciding does; then the claim is made, over the bytes of the file.
 use Prim.Native.Nat.{ℕ, _*_, _<_}
 use native.Mathlib.Omega.{arith}
+use mathlib.Core.Bool.{Bool, false}
 use mathlib.Core.List.{List, _++_, zipWith, append-assoc}
-use mathlib.Core.Path.{_≡_, ap, _∙_}
+use mathlib.Core.Option.{none}
+use mathlib.Core.Path.{_≡_, sym, ap, _∙_, subst}
 use lib.ListN.{length, drop, replicate}
 use lib.Seq.{drop-at}
 use Rattle.definition.specs.Block.{blockCount, fileOf, streamOf}
-use Rattle.definition.specs.Deciding.{decide, deciding, outInDomain, outTest, ownPlace, readsOf}
+use Rattle.definition.specs.Deciding.{decide, deciding, equalTest, outInDomain, outTest, outTests, ownPlace, readsOf, repeatedOuts}
 use Rattle.definition.specs.Field.{Field, primeField}
-use Rattle.definition.specs.Layout.{layout, readCoins, readTranscript, wordsDue}
+use Rattle.definition.specs.Layout.{coinKinds, layout, readCoins, readTranscript, wordsDue}
 use Rattle.definition.specs.Lists.{firstTrue}
 use Rattle.definition.specs.Prover.{honest, honestStream}
 use Rattle.definition.specs.Reading.{reading}
 use Rattle.definition.specs.Sheet.{Edition, Sheet, firstLevel, laterLevels, rootOfUnity, sheetLength, sheetOf}
 use Rattle.definition.specs.Transcript.{Transcript, transcriptWords}
-use Rattle.definition.specs.Verdict.{accepted, thenVerdict}
+use Rattle.definition.specs.Verdict.{_then_, accepted, thenVerdict}
 use Rattle.definition.specs.Verify.{verifyIn}
 use Rattle.algebra.specs.ListFacts.{All}
 use Rattle.algebra.specs.PrimeField.{signs-differ}
-use Rattle.completeness.specs.Allowed.{allowed-degree, allowed-enough, allowed-first, allowed-long, allowed-rounds}
+use Rattle.completeness.specs.Allowed.{allowed-apart, allowed-degree, allowed-enough, allowed-first, allowed-long, allowed-rounds, allowed-some}
 use Rattle.completeness.specs.DecidingAccepts
 use Rattle.completeness.specs.DecidingAccepts.{Fair}
 use Rattle.completeness.specs.Domains.{foldable}
-use Rattle.completeness.specs.EachWord.{Each, each-map, each-none}
+use Rattle.completeness.specs.EachWord.{Each, each-length, each-map, each-none}
+use Rattle.completeness.specs.EqualOuts.{NoRepeat, repeated-front, stream-apart}
 use Rattle.completeness.specs.FairCoins.{Passes, chain-head, fair}
 use Rattle.completeness.specs.FileRead
 use Rattle.completeness.specs.FileRead.{InRange}
 use Rattle.completeness.specs.FileTrip.{Word, fillCount}
-use Rattle.completeness.specs.HonestStream.{first-degree, words-each, words-read}
+use Rattle.completeness.specs.HonestStream.{first-degree, words-coins, words-each, words-read}
 use Rattle.completeness.specs.Numbered.{Allowed, readsDue}
 use Rattle.completeness.specs.Reads.{all-reads, sheet-reads}
 use Rattle.completeness.specs.Ready.{Ready, ready}
 use Rattle.completeness.specs.SheetLevels.{sheet-front}
 use Rattle.completeness.specs.Lawful.{lawful}
-use Rattle.completeness.specs.Tests.{at-none}
+use Rattle.completeness.specs.Tests.{at-none, none-true}
 
 module _ {ed : Edition} {w f coins : List ℕ} (ok : Allowed ed w f coins) where
   abbrev h : Sheet
@@ -103,6 +106,19 @@ module _ {ed : Edition} {w f coins : List ℕ} (ok : Allowed ed w f coins) where
       (ap (λ (l : List ℕ). firstTrue (sheetLength ed) (zipWith (outInDomain h) (layout h) l)) after-sheet
       ∙ each-none (outInDomain h) (sheetLength ed) (layout h) (transcriptWords τ) fill (each-map (layout h) (transcriptWords τ) honest-each (λ k x p. p .1)))
 
+  -- the coins among the words are those given, of which no two of a round are equal
+  words-apart : NoRepeat none (layout h) (transcriptWords τ ++ fill)
+  unfolding readCoins
+  words-apart =
+      subst (λ (bs : List Bool). All (λ b. b ≡ false) bs) (sym (repeated-front none (layout h) (transcriptWords τ) fill (each-length (Passes h) (layout h) (transcriptWords τ) honest-each)))
+      (stream-apart none none tt (layout h) (transcriptWords τ)
+      (subst (NoRepeat none (coinKinds (layout h)))
+      (sym (words-coins h positive (sheetReady .laws) f coins (allowed-degree ok) (allowed-first ok) (allowed-rounds ok) fair-coins (allowed-some ok))) (allowed-apart ok)))
+
+  equal-passes : equalTest h (sheetLength ed) (layout h) (w ++ (transcriptWords τ ++ fill)) ≡ accepted
+  unfolding equalTest
+  equal-passes = at-none 14 _ (ap (λ (l : List ℕ). firstTrue (sheetLength ed) (repeatedOuts none (layout h) l)) after-sheet ∙ none-true (sheetLength ed) _ words-apart)
+
   -- reading the words back, whatever follows them
   read-words : (z : List ℕ) → readTranscript h (transcriptWords τ ++ z) ≡ τ
   unfolding readCoins
@@ -112,7 +128,7 @@ module _ {ed : Edition} {w f coins : List ℕ} (ok : Allowed ed w f coins) where
   unfolding honestStream
   read-back z = ap (λ (l : List ℕ). readTranscript h (drop (sheetLength ed) l)) (append-assoc w (transcriptWords τ) z) ∙ ap (readTranscript h) (drop-at w (transcriptWords τ ++ z) (sheetLength ed) long) ∙ read-words z
 
-  -- deciding: refusals 7 to 9
+  -- deciding: refusals 8 and 9
   decided : decide F ω (firstLevel h) (readTranscript h (transcriptWords τ ++ fill)) ≡ record { outcome = accepted; reads = readsDue (sheetOf ed w) }
   unfolding readCoins readsOf
   decided =
@@ -129,8 +145,8 @@ module _ {ed : Edition} {w f coins : List ℕ} (ok : Allowed ed w f coins) where
       counted = all-reads (Passes h) (h .outCoins) (firstLevel h) (laterLevels h) (drop 1 coins) (allowed-rounds ok) ∙ sheet-reads h (lawful ed w (allowed-enough ok) (ok .sheet) .paired)
 
   deciding-passes : deciding ed (w ++ (transcriptWords τ ++ fill)) ≡ record { outcome = accepted; reads = readsDue (sheetOf ed w) }
-  unfolding deciding thenVerdict
-  deciding-passes = rw (sheet-front ed w long (ok .sheet) (transcriptWords τ ++ fill), out-passes, after-sheet) decided
+  unfolding deciding outTests thenVerdict _then_
+  deciding-passes = rw (sheet-front ed w long (ok .sheet) (transcriptWords τ ++ fill), out-passes, equal-passes, after-sheet) decided
 
 -- Completeness: in either edition, for every sheet without a broken rule, every list of d0 elements and every allowed coin list, the prover's file is accepted,
 -- with k_0·t_0 + .. + k_M·t_M reads.

@@ -1,7 +1,7 @@
 -- The converter between the editions (02, CR 5): a converted file passes reading, gets the verdict of the original, and converts back to its bytes, both ways.
 use Prim.Native.Nat.{ℕ, zero, suc, _+_, _≤_, _<_}
 use native.Mathlib.Omega.{arith}
-use mathlib.Core.Bool.{Bool, true, false, not, cond}
+use mathlib.Core.Bool.{Bool, true, false, not, cond, _||_}
 use mathlib.Core.List.{List, [], _∷_, _++_, map, zipWith, append-nil}
 use mathlib.Core.Option.{Option, none, some}
 use mathlib.Core.Path.{_≡_, refl, sym, ap, _∙_, subst}
@@ -11,13 +11,13 @@ use lib.Seq.{getD-take, length-take-le, take-at, take-length, take-take}
 use borrow.Author.Tests.{eq-eqb, ne-eqb}
 use Rattle.definition.specs.Block.{fileOf, streamOf}
 use Rattle.definition.specs.Convert.{backward, bodyOf, foldsTest, forward, spread}
-use Rattle.definition.specs.Deciding.{decide, outInDomain}
+use Rattle.definition.specs.Deciding.{decide, outInDomain, repeatedOuts}
 use Rattle.definition.specs.Field.{primeField}
 use Rattle.definition.specs.Layout.{layout, readTranscript, wordsDue}
 use Rattle.definition.specs.Lists.{firstTrue}
 use Rattle.definition.specs.Reading.{reading, sheetTest}
 use Rattle.definition.specs.Sheet.{Edition, Sheet, edition1, edition2, firstLevel, foldPlaces, foldWords, rootOfUnity, sheetLength, sheetOf}
-use Rattle.definition.specs.Verdict.{Outcome, Verdict, accepted, refuseAt, refused, thenVerdict}
+use Rattle.definition.specs.Verdict.{Outcome, Verdict, _then_, accepted, refuseAt, refused, thenVerdict}
 use Rattle.definition.specs.Verify.{verifyIn}
 use Rattle.algebra.specs.ListFacts.{All}
 use Rattle.completeness.specs.Answers.{Refuses, at-refuses, then-refuses}
@@ -66,19 +66,23 @@ first-six n (false ∷ bs) = let e : suc (6 + n) ≡ 6 + suc n = omega arith in 
 abbrev pub converted : Verdict → Verdict
 converted v = record { outcome = sixHigher (v .outcome); reads = v .reads }
 
--- refusals that are no 7 stay
+-- refusals that are no 7 and no 14 stay
+abbrev Stays : ℕ → ℕ → Type 0
+Stays n q = (n ≡ 7 → ⊥) × (n ≡ 14 → ⊥)
+
 place-kept : (n x q : ℕ) (b : Bool) → b ≡ false → refused n (cond b x q) ≡ refused n q
 place-kept n x q b e = ap (λ (c : Bool). refused n (cond c x q)) e
 
-unmoved : (o : Outcome) → Refuses (λ n q. n ≡ 7 → ⊥) o → sixHigher o ≡ o
+unmoved : (o : Outcome) → Refuses Stays o → sixHigher o ≡ o
 unfolding sixHigher
 unmoved accepted h = refl
-unmoved (refused n q) h = place-kept n _ q (eqb n 7) (ne-eqb n 7 h)
+unmoved (refused n q) h = place-kept n _ q (eqb n 7 || eqb n 14) (λ i. ne-eqb n 7 (h .0) i || ne-eqb n 14 (h .1) i)
 
-moved-test : (o : Option ℕ) (v : Verdict) → Refuses (λ n q. n ≡ 7 → ⊥) (v .outcome) → thenVerdict (refuseAt 7 (sixOn o)) v ≡ converted (thenVerdict (refuseAt 7 o) v)
-unfolding thenVerdict refuseAt sixOn sixHigher
-moved-test (some p) v h = refl
-moved-test none v h = λ i. record { outcome = sym (unmoved (v .outcome) h) i; reads = v .reads }
+moved-tests : (a b : Option ℕ) (v : Verdict) → Refuses Stays (v .outcome) → thenVerdict (refuseAt 7 (sixOn a) then refuseAt 14 (sixOn b)) v ≡ converted (thenVerdict (refuseAt 7 a then refuseAt 14 b) v)
+unfolding thenVerdict refuseAt _then_ sixOn sixHigher
+moved-tests (some p) b v h = refl
+moved-tests none (some p) v h = refl
+moved-tests none none v h = λ i. record { outcome = sym (unmoved (v .outcome) h) i; reads = v .reads }
 
 -- the verdicts on the same words from 12 and from 18 on
 module _ (a : Edition) (bytes : List ℕ) (read : reading a bytes ≡ accepted) where
@@ -88,18 +92,19 @@ module _ (a : Edition) (bytes : List ℕ) (read : reading a bytes ≡ accepted) 
   abbrev words : List ℕ
   words = drop (sheetLength a) (streamOf bytes)
 
-  decide-later : Refuses (λ n q. n ≡ 7 → ⊥) (decide (primeField (h .prime)) (rootOfUnity h) (firstLevel h) (readTranscript h words) .outcome)
+  decide-later : Refuses Stays (decide (primeField (h .prime)) (rootOfUnity h) (firstLevel h) (readTranscript h words) .outcome)
   decide-later =
-      let Q : ℕ → ℕ → Type 0 = λ n q. n ≡ 7 → ⊥ in
+      let Q = Stays in
       subst (Refuses Q) (sym (decided a h (streamOf bytes) (ordered a bytes read .long)))
-      (then-refuses Q _ _ (at-refuses Q 8 1 _ (λ j l e. omega (arith, e))) (at-refuses Q 9 0 _ (λ j l e. omega (arith, e))))
+      (then-refuses Q _ _ (at-refuses Q 8 1 _ (λ j l. (λ e. omega (arith, e), λ e. omega (arith, e)))) (at-refuses Q 9 0 _ (λ j l. (λ e. omega (arith, e), λ e. omega (arith, e)))))
 
   pub higher : decidedFrom (sheetOf a (streamOf bytes)) (drop (sheetLength a) (streamOf bytes)) 18 ≡ converted (decidedFrom (sheetOf a (streamOf bytes)) (drop (sheetLength a) (streamOf bytes)) 12)
   unfolding decidedFrom
   higher =
       let zs = zipWith (outInDomain h) (layout h) words in
       let v = decide (primeField (h .prime)) (rootOfUnity h) (firstLevel h) (readTranscript h words) in
-      (λ i. thenVerdict (refuseAt 7 (first-six 12 zs i)) v) ∙ moved-test (firstTrue 12 zs) v decide-later
+      let rs = repeatedOuts none (layout h) words in
+      (λ i. thenVerdict (refuseAt 7 (first-six 12 zs i) then refuseAt 14 (first-six 12 rs i)) v) ∙ moved-tests (firstTrue 12 zs) (firstTrue 12 rs) v decide-later
 
 -- spreading looks at 12 words
 pub spread-words : (w : List ℕ) → spread w ≡ spread (take 12 w)
@@ -147,14 +152,18 @@ module _ (bytes : List ℕ) (read : reading edition1 bytes ≡ accepted) where
   pub forward-reads : reading edition2 (fileOf (forward (streamOf bytes))) ≡ accepted
   forward-reads = ap (λ (t : List ℕ). reading edition2 (fileOf t)) forward-is ∙ carried-reads edition1 bytes read edition2 (spread v) long-2 passes-2 sheet-2
 
-  -- gets the verdict of the original, with the word number of a 7 six higher,
+  -- gets the verdict of the original, with the word number of a 7 or a 14 six higher,
   pub forward-verdict : verifyIn edition2 (fileOf (forward (streamOf bytes))) ≡ converted (verifyIn edition1 bytes)
   forward-verdict =
       ap (λ (t : List ℕ). verifyIn edition2 (fileOf t)) forward-is ∙ carried-verdict edition1 bytes read edition2 (spread v) long-2 passes-2 sheet-2
       ∙ higher edition1 bytes read ∙ ap converted (sym (verdict-is edition1 bytes read))
 
-  forward-sheet : sheetOf edition2 (streamOf (fileOf (forward (streamOf bytes)))) ≡ sheetOf edition1 (streamOf bytes)
+  -- has a sheet that says the same, and the same words after it,
+  pub forward-sheet : sheetOf edition2 (streamOf (fileOf (forward (streamOf bytes)))) ≡ sheetOf edition1 (streamOf bytes)
   forward-sheet = ap (λ (t : List ℕ). sheetOf edition2 (streamOf (fileOf t))) forward-is ∙ carried-sheet edition1 bytes read edition2 (spread v) long-2 passes-2 sheet-2
+
+  pub forward-body : bodyOf edition2 (streamOf (fileOf (forward (streamOf bytes)))) ≡ bodyOf edition1 (streamOf bytes)
+  forward-body = ap (λ (t : List ℕ). bodyOf edition2 (streamOf (fileOf t))) forward-is ∙ carried-body edition1 bytes read edition2 (spread v) long-2 passes-2 sheet-2
 
   -- has as many words as edition 2 makes due,
   pub forward-length : length (forward (streamOf bytes)) ≡ wordsDue edition2 (sheetOf edition1 (streamOf bytes))
@@ -202,6 +211,14 @@ module _ (bytes : List ℕ) (read : reading edition2 bytes ≡ accepted) (equal 
   unfolding backward
   backward-verdict =
       verdict-is edition2 bytes read ∙ higher edition2 bytes read ∙ ap converted (sym (carried-verdict edition2 bytes read edition1 v₁ long-1 passes-1 sheet-1))
+
+  pub backward-sheet : sheetOf edition1 (streamOf (fileOf (backward (streamOf bytes)))) ≡ sheetOf edition2 (streamOf bytes)
+  unfolding backward
+  backward-sheet = carried-sheet edition2 bytes read edition1 v₁ long-1 passes-1 sheet-1
+
+  pub backward-body : bodyOf edition1 (streamOf (fileOf (backward (streamOf bytes)))) ≡ bodyOf edition2 (streamOf bytes)
+  unfolding backward
+  backward-body = carried-body edition2 bytes read edition1 v₁ long-1 passes-1 sheet-1
 
   pub backward-length : length (backward (streamOf bytes)) ≡ wordsDue edition1 (sheetOf edition2 (streamOf bytes))
   unfolding backward wordsDue

@@ -9,18 +9,18 @@ use mathlib.Core.Path.{_≡_, refl, sym, ap, _∙_, subst}
 use lib.Dec.{eqb}
 use lib.ListN.{length, getD, take, drop, length-map}
 use lib.Seq.{drop-at, take-at}
-use borrow.Author.Tests.{eqb-false, eqb-true, le-ltb, ltb-false, not-false, not-true}
+use borrow.Author.Tests.{eqb-false, eqb-true, le-ltb, lt-ltb, ltb-false, not-false, not-true}
 use Rattle.definition.specs.Block.{blockCount, fileOf, streamOf}
-use Rattle.definition.specs.Convert.{backward, convert, foldsTest, forward, toEdition1, toEdition2}
+use Rattle.definition.specs.Convert.{backward, bodyOf, convert, foldsTest, forward, toEdition1, toEdition2}
 use Rattle.definition.specs.Layout.{wordsDue}
 use Rattle.definition.specs.Lists.{firstTrue}
 use Rattle.definition.specs.Prove.{Result, done, finish, outputTest, refusal}
 use Rattle.definition.specs.Reading.{reading}
 use Rattle.definition.specs.Sheet.{Sheet, edition1, edition2, sheetOf}
-use Rattle.definition.specs.Verdict.{Outcome, _then_, accepted, refuseAt, refused}
+use Rattle.definition.specs.Verdict.{Outcome, _then_, accepted, refuseAt, refuseIf, refused}
 use Rattle.definition.specs.Verify.{verifyIn}
 use Rattle.completeness.specs.ByPlace.{all-places}
-use Rattle.completeness.specs.Conversion.{backward-forward, backward-length, backward-reads, backward-verdict, converted, forward-back, forward-folds, forward-length, forward-reads, forward-verdict}
+use Rattle.completeness.specs.Conversion.{backward-body, backward-forward, backward-length, backward-reads, backward-sheet, backward-verdict, converted, forward-back, forward-body, forward-folds, forward-length, forward-reads, forward-sheet, forward-verdict}
 use Rattle.completeness.specs.FileTrip.{file-length}
 use Rattle.completeness.specs.FirstFaults.{FirstTrue, first-true}
 use Rattle.completeness.specs.ListLaws.{getD-map}
@@ -51,6 +51,17 @@ module _ (tests : Outcome) (words output : List ℕ) where
   unfolding convert
   convert-refused n q e = finish-failed (tests then outputTest due (512 * due) (length output)) due n q (fileOf words) output e
 
+  -- which refusal
+  convert-refuses : (n q : ℕ) → tests ≡ refused n q → convert tests words output .answer ≡ refusal n q
+  unfolding convert finish _then_
+  convert-refuses n q e = ap (λ (t : Outcome). finish (t then outputTest due (512 * due) (length output)) due (fileOf words) output .answer) e
+
+  convert-short : (n : ℕ) → tests ≡ accepted → n ≡ blockCount (length words) → length output < 512 * n → convert tests words output .answer ≡ refusal 11 n
+  unfolding convert finish _then_ outputTest refuseIf
+  convert-short n passes e l =
+      let b = lt-ltb (length output) (512 * due) (omega (arith, l, e)) in
+      (λ i. finish (passes i then refuseIf 11 due (b i)) due (fileOf words) output .answer) ∙ ap (refusal 11) (sym e)
+
   -- where the file of the words is known
   convert-is : (bytes : List ℕ) → tests ≡ accepted → fileOf words ≡ bytes → length bytes ≤ length output →
       convert tests words output ≡ record { answer = done (length bytes / 512); output = bytes ++ drop (length bytes) output }
@@ -76,6 +87,14 @@ module _ (tests : Outcome) (words output : List ℕ) where
 -- every byte is one
 abbrev pub Bytes : List ℕ → Type 0
 Bytes bytes = (i : ℕ) → i < length bytes → getD bytes i 0 < 256
+
+-- there and back, and back and there, of the bytes of a file
+pub bytes-back : (bytes : List ℕ) → reading edition1 bytes ≡ accepted → Bytes bytes → fileOf (backward (streamOf (fileOf (forward (streamOf bytes))))) ≡ bytes
+bytes-back bytes read small = forward-back bytes read (all-places (λ x. x < 256) bytes 0 small)
+
+pub bytes-there : (bytes : List ℕ) → reading edition2 bytes ≡ accepted → foldsTest (sheetOf edition2 (streamOf bytes)) ≡ accepted → Bytes bytes →
+    fileOf (forward (streamOf (fileOf (backward (streamOf bytes))))) ≡ bytes
+bytes-there bytes read equal small = backward-forward bytes read equal (all-places (λ x. x < 256) bytes 0 small)
 
 -- ---- to edition 2
 
@@ -107,6 +126,12 @@ module _ (bytes output : List ℕ) (n : ℕ) where
     pub to-2-verdict : verifyIn edition2 (take (512 * n) (toEdition2 bytes output .output)) ≡ converted (verifyIn edition1 bytes)
     to-2-verdict = ap (verifyIn edition2) to-2-written ∙ forward-verdict bytes to-2-passed
 
+    pub to-2-sheet : sheetOf edition2 (streamOf (take (512 * n) (toEdition2 bytes output .output))) ≡ sheetOf edition1 (streamOf bytes)
+    to-2-sheet = ap (λ (f : List ℕ). sheetOf edition2 (streamOf f)) to-2-written ∙ forward-sheet bytes to-2-passed
+
+    pub to-2-body : bodyOf edition2 (streamOf (take (512 * n) (toEdition2 bytes output .output))) ≡ bodyOf edition1 (streamOf bytes)
+    to-2-body = ap (λ (f : List ℕ). bodyOf edition2 (streamOf f)) to-2-written ∙ forward-body bytes to-2-passed
+
     pub there-and-back : Bytes bytes → (back : List ℕ) → length bytes ≤ length back →
         toEdition1 (take (512 * n) (toEdition2 bytes output .output)) back ≡ record { answer = done (length bytes / 512); output = bytes ++ drop (length bytes) back }
     unfolding toEdition1 _then_
@@ -114,11 +139,20 @@ module _ (bytes output : List ℕ) (n : ℕ) where
         let file = fileOf (forward (streamOf bytes)) in
         ap (λ (f : List ℕ). toEdition1 f back) to-2-written
         ∙ convert-is (reading edition2 file then foldsTest (sheetOf edition2 (streamOf file))) (backward (streamOf file)) back bytes
-        (λ i. forward-reads bytes to-2-passed i then forward-folds bytes to-2-passed i) (forward-back bytes to-2-passed (all-places (λ x. x < 256) bytes 0 small)) room
+        (λ i. forward-reads bytes to-2-passed i then forward-folds bytes to-2-passed i) (bytes-back bytes to-2-passed small) room
 
 pub to-2-refused : (bytes output : List ℕ) (n q : ℕ) → toEdition2 bytes output .answer ≡ refusal n q → toEdition2 bytes output .output ≡ output
 unfolding toEdition2
 to-2-refused bytes output n q e = convert-refused (reading edition1 bytes) (forward (streamOf bytes)) output n q e
+
+pub to-2-refuses : (bytes output : List ℕ) (n q : ℕ) → reading edition1 bytes ≡ refused n q → toEdition2 bytes output .answer ≡ refusal n q
+unfolding toEdition2
+to-2-refuses bytes output n q e = convert-refuses (reading edition1 bytes) (forward (streamOf bytes)) output n q e
+
+pub to-2-short : (bytes output : List ℕ) (n : ℕ) → reading edition1 bytes ≡ accepted → n ≡ blockCount (wordsDue edition2 (sheetOf edition1 (streamOf bytes))) → length output < 512 * n →
+    toEdition2 bytes output .answer ≡ refusal 11 n
+unfolding toEdition2
+to-2-short bytes output n e m l = convert-short (reading edition1 bytes) (forward (streamOf bytes)) output n e (m ∙ ap blockCount (sym (forward-length bytes e))) l
 
 -- ---- to edition 1
 
@@ -156,6 +190,12 @@ module _ (bytes output : List ℕ) (n : ℕ) where
     pub to-1-verdict : verifyIn edition2 bytes ≡ converted (verifyIn edition1 (take (512 * n) (toEdition1 bytes output .output)))
     to-1-verdict = backward-verdict bytes (to-1-passed .0) (to-1-passed .1) ∙ ap (λ (f : List ℕ). converted (verifyIn edition1 f)) (sym to-1-written)
 
+    pub to-1-sheet : sheetOf edition1 (streamOf (take (512 * n) (toEdition1 bytes output .output))) ≡ sheetOf edition2 (streamOf bytes)
+    to-1-sheet = ap (λ (f : List ℕ). sheetOf edition1 (streamOf f)) to-1-written ∙ backward-sheet bytes (to-1-passed .0) (to-1-passed .1)
+
+    pub to-1-body : bodyOf edition1 (streamOf (take (512 * n) (toEdition1 bytes output .output))) ≡ bodyOf edition2 (streamOf bytes)
+    to-1-body = ap (λ (f : List ℕ). bodyOf edition1 (streamOf f)) to-1-written ∙ backward-body bytes (to-1-passed .0) (to-1-passed .1)
+
     pub back-and-there : Bytes bytes → (again : List ℕ) → length bytes ≤ length again →
         toEdition2 (take (512 * n) (toEdition1 bytes output .output)) again ≡ record { answer = done (length bytes / 512); output = bytes ++ drop (length bytes) again }
     unfolding toEdition2
@@ -163,11 +203,26 @@ module _ (bytes output : List ℕ) (n : ℕ) where
         let file = fileOf (backward (streamOf bytes)) in
         ap (λ (f : List ℕ). toEdition2 f again) to-1-written
         ∙ convert-is (reading edition1 file) (forward (streamOf file)) again bytes (backward-reads bytes (to-1-passed .0) (to-1-passed .1))
-        (backward-forward bytes (to-1-passed .0) (to-1-passed .1) (all-places (λ x. x < 256) bytes 0 small)) room
+        (bytes-there bytes (to-1-passed .0) (to-1-passed .1) small) room
 
 pub to-1-refused : (bytes output : List ℕ) (n q : ℕ) → toEdition1 bytes output .answer ≡ refusal n q → toEdition1 bytes output .output ≡ output
 unfolding toEdition1
 to-1-refused bytes output n q e = convert-refused (backTests bytes output 0) (backward (streamOf bytes)) output n q e
+
+pub to-1-refuses : (bytes output : List ℕ) (n q : ℕ) → reading edition2 bytes ≡ refused n q → toEdition1 bytes output .answer ≡ refusal n q
+unfolding toEdition1 _then_
+to-1-refuses bytes output n q e =
+    convert-refuses (backTests bytes output 0) (backward (streamOf bytes)) output n q (ap (λ (t : Outcome). t then foldsTest (sheetOf edition2 (streamOf bytes))) e)
+
+pub to-1-folds : (bytes output : List ℕ) (n q : ℕ) → reading edition2 bytes ≡ accepted → foldsTest (sheetOf edition2 (streamOf bytes)) ≡ refused n q → toEdition1 bytes output .answer ≡ refusal n q
+unfolding toEdition1 _then_
+to-1-folds bytes output n q e f = convert-refuses (backTests bytes output 0) (backward (streamOf bytes)) output n q (λ i. e i then f i)
+
+pub to-1-short : (bytes output : List ℕ) (n : ℕ) → reading edition2 bytes ≡ accepted → foldsTest (sheetOf edition2 (streamOf bytes)) ≡ accepted →
+    n ≡ blockCount (wordsDue edition1 (sheetOf edition2 (streamOf bytes))) → length output < 512 * n → toEdition1 bytes output .answer ≡ refusal 11 n
+unfolding toEdition1 _then_
+to-1-short bytes output n e f m l =
+    convert-short (backTests bytes output 0) (backward (streamOf bytes)) output n (λ i. e i then f i) (m ∙ ap blockCount (sym (backward-length bytes e f))) l
 
 -- ---- 13: the first folding number that is not k_0
 

@@ -21,7 +21,7 @@ use Rattle.algebra.specs.ListFacts.{All, all-of-map, all-range, map-all}
 use Rattle.completeness.specs.ByPlace.{all-places}
 use Rattle.completeness.specs.DecidedByNumber.{rest-final, rest-round, restAfter}
 use Rattle.completeness.specs.Faults
-use Rattle.completeness.specs.Faults.{ClashFault, DomainFault, dueOf, FinalFault, Part, PartDue, SameWhereUsed, Used, combination, finals, fold, functionIn, outs, pairsIn, partLength, partStart, partWord, partWords, shifts, words}
+use Rattle.completeness.specs.Faults.{ClashFault, dueOf, FinalFault, OutsPass, Part, PartDue, SameWhereUsed, Used, combination, finals, fold, functionIn, outs, pairsIn, partLength, partStart, partWord, partWords, shifts, words}
 use Rattle.completeness.specs.ListLaws.{getD-map}
 use Rattle.completeness.specs.Numbered.{final, lengthOf, levelOf, replies, roundsOf, sheetField, sheetRoot, table}
 use Rattle.completeness.specs.PairsByNumber.{part-length, part-word}
@@ -85,7 +85,7 @@ unfolding functionIn tableFunction nextFunction
 own-places ed h w zero = refl
 own-places ed h w (suc i) = refl
 
-module _ (ed : Edition) (h : Sheet) (v w : List ℕ) (beside : Beside ed h v w) (full : dueOf ed h ≤ length v) (used : SameWhereUsed ed h v w) (outside : (q : ℕ) → DomainFault ed h v q → ⊥) where
+module _ (ed : Edition) (h : Sheet) (v w : List ℕ) (beside : Beside ed h v w) (full : dueOf ed h ≤ length v) (used : SameWhereUsed ed h v w) (outside : OutsPass ed h v) where
   abbrev M : ℕ
   M = roundsOf h
 

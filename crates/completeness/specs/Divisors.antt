@@ -9,7 +9,7 @@ use mathlib.Core.Path.{_≡_, sym, ap, _∙_, subst}
 use lib.ListN.{length, take, drop, replicate, length-drop, length-replicate}
 use borrow.Author.Tests.{eq-eqb}
 use Rattle.definition.specs.Block.{fileOf, streamOf}
-use Rattle.definition.specs.Deciding.{answers, deciding, nextFunction, outInDomain, outTest}
+use Rattle.definition.specs.Deciding.{answers, deciding, nextFunction, outInDomain, outTest, outTests}
 use Rattle.definition.specs.Domain.{domain, point, rootNumbers, shiftPoint}
 use Rattle.definition.specs.Field.{Field, primeField}
 use Rattle.definition.specs.Layout.{Kind, coin, index, laterCount, layout, limit, message, out, readRest, readTranscript, restLayout, roundCoins, roundLayout, wordsDue}
@@ -42,7 +42,7 @@ use Rattle.completeness.specs.Passed.{passed}
 use Rattle.completeness.specs.Ready.{Ready, ready}
 use Rattle.completeness.specs.RunByNumber as run
 use Rattle.completeness.specs.SheetLevels.{Steps}
-use Rattle.completeness.specs.Tests.{at-passes, verdict-passes}
+use Rattle.completeness.specs.Tests.{at-passes, then-passes, verdict-passes}
 
 all-parts : {A : Type 0} (P : A → Type 0) (xs ys : List A) → All P (xs ++ ys) → All P xs × All P ys
 all-parts P [] ys h = (tt, h)
@@ -195,10 +195,10 @@ module _ {ed : Edition} {w f coins : List ℕ} (ok : Allowed ed w f coins) where
   file = fileOf (honestStream ed w f coins)
 
   pub honest-divisors : All (Nonzero (sheetOf ed (streamOf file))) (decidingDivisors ed (streamOf file))
-  unfolding verifyIn deciding
+  unfolding verifyIn deciding outTests
   honest-divisors =
       let read = verdict-passes (reading ed file) (deciding ed (streamOf file)) (ap (λ (v : Verdict). v .outcome) (completeness ed w f coins ok)) in
-      file-divisors ed file (read .0) (verdict-passes (outTest (sheetOf ed (streamOf file)) (sheetLength ed) (layout (sheetOf ed (streamOf file))) (streamOf file)) _ (read .1) .0)
+      file-divisors ed file (read .0) (then-passes _ _ (verdict-passes (outTests (sheetOf ed (streamOf file)) (sheetLength ed) (layout (sheetOf ed (streamOf file))) (streamOf file)) _ (read .1) .0) .0)
 
   pub prover-divisors : (i : ℕ) → i < roundsOf (sheetOf ed w) → All (Nonzero (sheetOf ed w)) (divisors (sheetField (sheetOf ed w)) (samplesAt (sheetOf ed w) f coins (suc i)))
   prover-divisors i l =

@@ -6,8 +6,8 @@ use mathlib.Core.List.{List, _++_, map}
 use mathlib.Core.Logic.{_↔_}
 use mathlib.Core.Path.{_≡_}
 use lib.ListN.{length, getD, take, drop}
-use Rattle.definition.specs.Block.{blockCount, fileOf}
-use Rattle.definition.specs.Convert.{foldsTest, toEdition1, toEdition2}
+use Rattle.definition.specs.Block.{blockCount, fileOf, streamOf}
+use Rattle.definition.specs.Convert.{backward, bodyOf, foldsTest, forward, toEdition1, toEdition2}
 use Rattle.definition.specs.Layout.{wordsDue}
 use Rattle.definition.specs.Lists.{productOf, range}
 use Rattle.definition.specs.Prove.{done, refusal}
@@ -16,6 +16,7 @@ use Rattle.definition.specs.Reading.{reading, sheetTest}
 use Rattle.definition.specs.Sheet.{Edition, Sheet, edition1, edition2, foldWords, sheetLength, sheetOf}
 use Rattle.definition.specs.Verdict.{accepted, refused}
 use Rattle.definition.specs.Verify.{verify, verifyIn}
+use Rattle.completeness.specs.Conversion
 use Rattle.completeness.specs.Converter
 use Rattle.completeness.specs.EditionOne
 use Rattle.completeness.specs.Faults.{KeepsRule, PlainSheet1, readsBefore, sheetIn, sixHigher, turnOf}
@@ -92,9 +93,16 @@ module _ (bytes output : List ℕ) (n : ℕ) where
     pub to-2-reads : reading edition2 (take (512 * n) (toEdition2 bytes output .output)) ≡ accepted
     to-2-reads = Converter.to-2-reads bytes output n e
 
-    -- get the original's verdict, but for the word number of a 7, which is six higher,
+    -- get the original's verdict, but for the word number of a 7 or a 14, which is six higher,
     pub to-2-verdict : verifyIn edition2 (take (512 * n) (toEdition2 bytes output .output)) ≡ record { outcome = sixHigher (verify bytes .outcome); reads = verify bytes .reads }
     to-2-verdict = Converter.to-2-verdict bytes output n e
+
+    -- hold a sheet that says the same and the same words after it,
+    pub to-2-sheet : sheetIn edition2 (take (512 * n) (toEdition2 bytes output .output)) ≡ sheetIn edition1 bytes
+    to-2-sheet = Converter.to-2-sheet bytes output n e
+
+    pub to-2-body : bodyOf edition2 (streamOf (take (512 * n) (toEdition2 bytes output .output))) ≡ bodyOf edition1 (streamOf bytes)
+    to-2-body = Converter.to-2-body bytes output n e
 
     -- and converted back they are the original's bytes, where these are bytes; what stands after the blocks is as before.
     pub there-and-back : ((i : ℕ) → i < length bytes → getD bytes i 0 < 256) → (back : List ℕ) → length bytes ≤ length back →
@@ -104,7 +112,15 @@ module _ (bytes output : List ℕ) (n : ℕ) where
     pub to-2-after : drop (512 * n) (toEdition2 bytes output .output) ≡ drop (512 * n) output
     to-2-after = Converter.to-2-after bytes output n e
 
--- Refused: the output as before.
+-- Else it refuses, as reading does, and after that with 11 at the number of blocks due;
+pub to-2-refuses : (bytes output : List ℕ) (n q : ℕ) → reading edition1 bytes ≡ refused n q → toEdition2 bytes output .answer ≡ refusal n q
+to-2-refuses = Converter.to-2-refuses
+
+pub to-2-short : (bytes output : List ℕ) (n : ℕ) → reading edition1 bytes ≡ accepted → n ≡ blockCount (wordsDue edition2 (sheetIn edition1 bytes)) → length output < 512 * n →
+    toEdition2 bytes output .answer ≡ refusal 11 n
+to-2-short = Converter.to-2-short
+
+-- refused: the output as before.
 pub to-2-refused : (bytes output : List ℕ) (n q : ℕ) → toEdition2 bytes output .answer ≡ refusal n q → toEdition2 bytes output .output ≡ output
 to-2-refused = Converter.to-2-refused
 
@@ -125,6 +141,12 @@ module _ (bytes output : List ℕ) (n : ℕ) where
     }
     to-1-verdict = Converter.to-1-verdict bytes output n e
 
+    pub to-1-sheet : sheetIn edition1 (take (512 * n) (toEdition1 bytes output .output)) ≡ sheetIn edition2 bytes
+    to-1-sheet = Converter.to-1-sheet bytes output n e
+
+    pub to-1-body : bodyOf edition1 (streamOf (take (512 * n) (toEdition1 bytes output .output))) ≡ bodyOf edition2 (streamOf bytes)
+    to-1-body = Converter.to-1-body bytes output n e
+
     pub back-and-there : ((i : ℕ) → i < length bytes → getD bytes i 0 < 256) → (again : List ℕ) → length bytes ≤ length again →
         toEdition2 (take (512 * n) (toEdition1 bytes output .output)) again ≡ record { answer = done (length bytes / 512); output = bytes ++ drop (length bytes) again }
     back-and-there = Converter.back-and-there bytes output n e
@@ -132,10 +154,46 @@ module _ (bytes output : List ℕ) (n : ℕ) where
     pub to-1-after : drop (512 * n) (toEdition1 bytes output .output) ≡ drop (512 * n) output
     to-1-after = Converter.to-1-after bytes output n e
 
+-- Else it refuses: as reading does; then as 13 does; then with 11.
+pub to-1-refuses : (bytes output : List ℕ) (n q : ℕ) → reading edition2 bytes ≡ refused n q → toEdition1 bytes output .answer ≡ refusal n q
+to-1-refuses = Converter.to-1-refuses
+
+pub to-1-folds : (bytes output : List ℕ) (n q : ℕ) → reading edition2 bytes ≡ accepted → foldsTest (sheetIn edition2 bytes) ≡ refused n q → toEdition1 bytes output .answer ≡ refusal n q
+to-1-folds = Converter.to-1-folds
+
+pub to-1-short : (bytes output : List ℕ) (n : ℕ) → reading edition2 bytes ≡ accepted → foldsTest (sheetIn edition2 bytes) ≡ accepted →
+    n ≡ blockCount (wordsDue edition1 (sheetIn edition2 bytes)) → length output < 512 * n → toEdition1 bytes output .answer ≡ refusal 11 n
+to-1-short = Converter.to-1-short
+
 pub to-1-refused : (bytes output : List ℕ) (n q : ℕ) → toEdition1 bytes output .answer ≡ refusal n q → toEdition1 bytes output .output ≡ output
 to-1-refused = Converter.to-1-refused
 
--- 13: the folding numbers are equal exactly when each is k_0, and else its place is the first that is not.
+-- 5. THE SAME OF THE WORDS ALONE, whatever the output: a file of edition 1 that passes refusals 1 to 6,
+module _ (bytes : List ℕ) (read : reading edition1 bytes ≡ accepted) where
+  pub forward-reads : reading edition2 (fileOf (forward (streamOf bytes))) ≡ accepted
+  forward-reads = Conversion.forward-reads bytes read
+
+  pub forward-verdict : verifyIn edition2 (fileOf (forward (streamOf bytes))) ≡ record { outcome = sixHigher (verify bytes .outcome); reads = verify bytes .reads }
+  forward-verdict = Conversion.forward-verdict bytes read
+
+  pub forward-back : ((i : ℕ) → i < length bytes → getD bytes i 0 < 256) → fileOf (backward (streamOf (fileOf (forward (streamOf bytes))))) ≡ bytes
+  forward-back = Converter.bytes-back bytes read
+
+-- and one of edition 2 with equal folding numbers.
+module _ (bytes : List ℕ) (read : reading edition2 bytes ≡ accepted) (equal : foldsTest (sheetIn edition2 bytes) ≡ accepted) where
+  pub backward-reads : reading edition1 (fileOf (backward (streamOf bytes))) ≡ accepted
+  backward-reads = Conversion.backward-reads bytes read equal
+
+  pub backward-verdict : verifyIn edition2 bytes ≡ record {
+    outcome = sixHigher (verify (fileOf (backward (streamOf bytes))) .outcome);
+    reads = verify (fileOf (backward (streamOf bytes))) .reads;
+  }
+  backward-verdict = Conversion.backward-verdict bytes read equal
+
+  pub backward-forward : ((i : ℕ) → i < length bytes → getD bytes i 0 < 256) → fileOf (forward (streamOf (fileOf (backward (streamOf bytes))))) ≡ bytes
+  backward-forward = Converter.bytes-there bytes read equal
+
+-- 6. REFUSAL 13: the folding numbers are equal exactly when each is k_0, and else its place is the first that is not.
 pub folds-exactly : (h : Sheet) → (foldsTest h ≡ accepted) ↔ ((i : ℕ) → i < length (h .folds) → getD (h .folds) i 0 ≡ getD (h .folds) 0 0)
 folds-exactly = Converter.folds-exactly
 

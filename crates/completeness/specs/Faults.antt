@@ -2,7 +2,7 @@
 -- A file, of an edition ed, is the list of its bytes; w is the word stream that it holds, and h the sheet in front of it, whose M, s, levels, rounds and messages are
 -- Numbered's.
 use Prim.Native.Nat.{ℕ, zero, suc, _+_, _-_, _*_, _/_, _%_, _^_, _≤_, _<_}
-use mathlib.Core.Bool.{true, false, cond}
+use mathlib.Core.Bool.{true, false, cond, _||_}
 use mathlib.Core.List.{List, [], _∷_, map}
 use mathlib.Core.Path.{_≡_}
 use lib.Dec.{eqb, ltb}
@@ -187,6 +187,9 @@ pub record Kept (ed : Edition) (file : List ℕ) : Type 0 where
   -- 7: every out coin of every round i + 1 is different from every point of domain i + 1
   pub outside : (i : ℕ) → i < roundsOf (sheetIn ed file) → (j : ℕ) → j < outsOf (sheetIn ed file) → (m : ℕ) → m < levelOf (sheetIn ed file) (suc i) .size →
       partWord ed (sheetIn ed file) (streamOf file) (outs i) j ≡ point (sheetField (sheetIn ed file)) (sheetRoot (sheetIn ed file)) (levelOf (sheetIn ed file) (suc i)) m → ⊥
+  -- 14: in no round two out coins are equal
+  pub apart : (i : ℕ) → i < roundsOf (sheetIn ed file) → (a b : ℕ) → a < outsOf (sheetIn ed file) → b < outsOf (sheetIn ed file) →
+      partWord ed (sheetIn ed file) (streamOf file) (outs i) a ≡ partWord ed (sheetIn ed file) (streamOf file) (outs i) b → a ≡ b
   -- 8: in every round any two pairs agree
   pub agree : (i : ℕ) → i < roundsOf (sheetIn ed file) → (a b : ℕ) → a < length (pairsIn ed (sheetIn ed file) (streamOf file) i) → b < length (pairsIn ed (sheetIn ed file) (streamOf file) i) → Agree ed (sheetIn ed file) (streamOf file) i a b
   -- 9: at every final index the final polynomial is the fold of f_M
@@ -218,6 +221,11 @@ DomainFault ed h w q =
     (i : ℕ) × (i < roundsOf h) × ((j : ℕ) × (j < outsOf h) × (q ≡ partStart ed h (outs i) + j)
     × ((m : ℕ) × (m < levelOf h (suc i) .size) × (getD w q 0 ≡ point (sheetField h) (sheetRoot h) (levelOf h (suc i)) m)))
 
+-- a word number q, of out coin j of round i + 1, which is equal to out coin a before it
+abbrev pub EqualFault : Edition → Sheet → List ℕ → ℕ → Type 0
+EqualFault ed h w q =
+    (i : ℕ) × (i < roundsOf h) × ((j : ℕ) × (j < outsOf h) × (q ≡ partStart ed h (outs i) + j) × ((a : ℕ) × (a < j) × (getD w q 0 ≡ partWord ed h w (outs i) a)))
+
 -- a round i + 1, in which pairs a and b do not agree
 abbrev pub ClashFault : Edition → Sheet → List ℕ → ℕ → Type 0
 ClashFault ed h w q = (i : ℕ) × (i < roundsOf h) × (q ≡ suc i) × ((a : ℕ) × (b : ℕ) × (a < length (pairsIn ed h w i)) × (b < length (pairsIn ed h w i)) × (Agree ed h w i a b → ⊥))
@@ -225,32 +233,43 @@ ClashFault ed h w q = (i : ℕ) × (i < roundsOf h) × (q ≡ suc i) × ((a : �
 abbrev pub FinalFault : Edition → Sheet → List ℕ → ℕ → Type 0
 FinalFault ed h w j = (j < partLength h finals) × (Matches ed h w j → ⊥)
 
--- a fault of number n at place q
+-- the turn of number n among the tests: 14 comes after 7 and before 8
+abbrev pub numberTurn : ℕ → ℕ
+numberTurn n = cond (eqb n 14) 8 (cond (ltb n 8) n (suc n))
+
+-- a fault of number n at place q: one of these, in the order of their tests
 abbrev pub NoFault : ℕ → Type 0
 NoFault q = ⊥
 
+abbrev pub faultsOf : Edition → List ℕ → List (ℕ → Type 0)
+faultsOf ed file =
+    NoFault ∷ LengthFault file ∷ CheckFault file ∷ RuleFault ed (streamOf file) ∷ BlocksFault ed file ∷ RangeFault ed (sheetIn ed file) (streamOf file) ∷ FillFault ed file
+    ∷ DomainFault ed (sheetIn ed file) (streamOf file) ∷ EqualFault ed (sheetIn ed file) (streamOf file) ∷ ClashFault ed (sheetIn ed file) (streamOf file)
+    ∷ FinalFault ed (sheetIn ed file) (streamOf file) ∷ []
+
 abbrev pub Fault : Edition → List ℕ → ℕ → (ℕ → Type 0)
-Fault ed file n =
-    getD (NoFault ∷ LengthFault file ∷ CheckFault file ∷ RuleFault ed (streamOf file) ∷ BlocksFault ed file ∷ RangeFault ed (sheetIn ed file) (streamOf file) ∷ FillFault ed file
-    ∷ DomainFault ed (sheetIn ed file) (streamOf file) ∷ ClashFault ed (sheetIn ed file) (streamOf file) ∷ FinalFault ed (sheetIn ed file) (streamOf file) ∷ []) n NoFault
+Fault ed file n = getD (faultsOf ed file) (numberTurn n) NoFault
 
 -- the turn of place q among those of number n: the sheet's words have theirs, all other places go up
 unfoldable pub turnOf : Edition → ℕ → ℕ → ℕ
 turnOf ed n q = cond (eqb n 3) (wordTurn ed q) q
 
--- it is the first: none has a smaller number, and none of its number an earlier turn
+-- it is the first: no number at an earlier turn has one, and its number none at an earlier turn
 pub record FirstFault (ed : Edition) (file : List ℕ) (n q : ℕ) : Type 0 where
   pub there : Fault ed file n q
   pub place·first : (r : ℕ) → turnOf ed n r < turnOf ed n q → Fault ed file n r → ⊥
-  pub number·first : (m r : ℕ) → m < n → Fault ed file m r → ⊥
+  pub number·first : (m r : ℕ) → numberTurn m < numberTurn n → Fault ed file m r → ⊥
 
--- WHAT DECIDING USES. It comes to the shift coins of round i + 1 where there is no fault 7 and no round before clashes, and to final coin j where no round clashes and
--- no final coin before fails.
+-- WHAT DECIDING USES. It comes to the shift coins of round i + 1 where there is no fault 7 or 14 and no round before clashes, and to final coin j where no round clashes
+-- and no final coin before fails.
+abbrev pub OutsPass : Edition → Sheet → List ℕ → Type 0
+OutsPass ed h w = ((q : ℕ) → DomainFault ed h w q → ⊥) × ((q : ℕ) → EqualFault ed h w q → ⊥)
+
 abbrev pub ShiftsTreated : Edition → Sheet → List ℕ → ℕ → Type 0
-ShiftsTreated ed h w i = ((q : ℕ) → DomainFault ed h w q → ⊥) × ((q : ℕ) → q < suc i → ClashFault ed h w q → ⊥)
+ShiftsTreated ed h w i = OutsPass ed h w × ((q : ℕ) → q < suc i → ClashFault ed h w q → ⊥)
 
 abbrev pub FinalTreated : Edition → Sheet → List ℕ → ℕ → Type 0
-FinalTreated ed h w j = ((q : ℕ) → DomainFault ed h w q → ⊥) × ((q : ℕ) → ClashFault ed h w q → ⊥) × ((r : ℕ) → r < j → FinalFault ed h w r → ⊥)
+FinalTreated ed h w j = OutsPass ed h w × ((q : ℕ) → ClashFault ed h w q → ⊥) × ((r : ℕ) → r < j → FinalFault ed h w r → ⊥)
 
 -- point y of table i is used: it is root m, for some m below k_i, of a coin that is treated
 pub data Used (ed : Edition) (h : Sheet) (w : List ℕ) : ℕ → ℕ → Type 0 where
@@ -276,10 +295,10 @@ readsWith h accepted = readsBefore h (roundsOf h) + levelOf h (roundsOf h) .fold
 readsWith h (refused n q) =
     cond (eqb n 8) (readsBefore h q) (cond (eqb n 9) (readsBefore h (roundsOf h) + levelOf h (roundsOf h) .fold * suc q) 0)
 
--- THE OUTCOME OF A CONVERTED FILE is that of the original, but for the word number of a 7, which is six higher in edition 2.
+-- THE OUTCOME OF A CONVERTED FILE is that of the original, but for the word number of a 7 or a 14, which is six higher in edition 2.
 unfoldable pub sixHigher : Outcome → Outcome
 sixHigher accepted = accepted
-sixHigher (refused n q) = refused n (cond (eqb n 7) (6 + q) q)
+sixHigher (refused n q) = refused n (cond (eqb n 7 || eqb n 14) (6 + q) q)
 
 -- THE ANSWERS THAT EXIST, with the range of each place. Verify refuses with one of these,
 pub data VerifyRefusal (ed : Edition) (file : List ℕ) : ℕ → ℕ → Type 0 where
@@ -290,6 +309,7 @@ pub data VerifyRefusal (ed : Edition) (file : List ℕ) : ℕ → ℕ → Type 0
   word·over : (q : ℕ) → sheetLength ed ≤ q → q < dueOf ed (sheetIn ed file) → VerifyRefusal ed file 5 q
   fill·set : (q : ℕ) → dueOf ed (sheetIn ed file) ≤ q → q < 127 * blocksIn file → VerifyRefusal ed file 6 q
   coin·inside : (q : ℕ) → sheetLength ed ≤ q → q < dueOf ed (sheetIn ed file) → VerifyRefusal ed file 7 q
+  coin·equal : (q : ℕ) → sheetLength ed ≤ q → q < dueOf ed (sheetIn ed file) → VerifyRefusal ed file 14 q
   pairs·clash : (i : ℕ) → 1 ≤ i → i ≤ roundsOf (sheetIn ed file) → VerifyRefusal ed file 8 i
   final·differs : (j : ℕ) → j < partLength (sheetIn ed file) finals → VerifyRefusal ed file 9 j
 
@@ -301,6 +321,7 @@ pub data ProveRefusal (ed : Edition) (w f coins : List ℕ) : ℕ → ℕ → Ty
   coin·count : ProveRefusal ed w f coins 10 2
   word·over : (q : ℕ) → q < length f + length coins → ProveRefusal ed w f coins 5 q
   coin·inside : (q : ℕ) → q < length coins → ProveRefusal ed w f coins 7 q
+  coin·equal : (q : ℕ) → q < length coins → ProveRefusal ed w f coins 14 q
   output·short : ProveRefusal ed w f coins 11 (blockCount (wordsDue ed (sheetOf ed w)))
 
 -- and encode, whose sheets are of edition 1, with one of these.

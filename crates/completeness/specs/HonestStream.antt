@@ -1,10 +1,11 @@
--- The honest prover's words: each is of its kind and in range, and reading them back, whatever follows them, gives the honest transcript.
+-- The honest prover's words: each is of its kind and in range; reading them back, whatever follows them, gives the honest transcript; and the coins among them are the
+-- coins given.
 use Prim.Native.Nat.{ℕ, _/_, _<_}
 use native.Mathlib.Nat.{mod-lt}
 use native.Mathlib.Omega.{arith}
 use mathlib.Core.List.{List, [], _∷_, _++_, map, append-assoc}
 use mathlib.Core.Path.{_≡_, refl, ap, _∙_}
-use lib.ListN.{length, getD, take, drop, replicate, length-map, length-drop}
+use lib.ListN.{length, getD, take, drop, replicate, length-map, length-drop, take-append-drop}
 use lib.Seq.{take-at, drop-at}
 use borrow.Author.Tests.{lt-leb}
 use Rattle.definition.specs.Deciding.{outInDomain}
@@ -22,7 +23,8 @@ use Rattle.algebra.specs.Lengths
 use Rattle.algebra.specs.ListFacts.{All}
 use Rattle.completeness.specs.DecidingAccepts
 use Rattle.completeness.specs.DecidingAccepts.{Fair, table-length}
-use Rattle.completeness.specs.EachWord.{Each, each-join, each-later, each-replicate, each-same}
+use Rattle.completeness.specs.EachWord.{Each, each-join, each-later, each-length, each-replicate, each-same}
+use Rattle.completeness.specs.EqualOuts.{among-append, among-indices, among-messages, among-outs, coinsAmong}
 use Rattle.completeness.specs.FairCoins.{Passes}
 use Rattle.completeness.specs.LayoutFacts.{Dealt}
 use Rattle.completeness.specs.RoundTrip.{Shaped, round-trip}
@@ -38,6 +40,15 @@ later-each : (R : Kind → ℕ → Type 0) (n m : ℕ) (v : List ℕ) → Each R
 later-each R n m [] h = absurd h
 later-each R n m (a ∷ []) h = absurd (h .1)
 later-each R n m (a ∷ b ∷ v) h = h
+
+later-whole : (R : Kind → ℕ → Type 0) (n m : ℕ) (v : List ℕ) → Each R (coin ∷ coin ∷ replicate n (index m)) v → getD v 0 0 ∷ getD v 1 0 ∷ drop 2 v ≡ v
+later-whole R n m [] h = absurd h
+later-whole R n m (a ∷ []) h = absurd (h .1)
+later-whole R n m (a ∷ b ∷ v) h = refl
+
+among-later : (n m a b : ℕ) (u : List ℕ) → length u ≡ n → coinsAmong (coin ∷ coin ∷ replicate n (index m)) (a ∷ b ∷ u) ≡ a ∷ b ∷ u
+unfolding coinsAmong
+among-later n m a b u e = ap {B = List ℕ} (λ r. a ∷ b ∷ r) (among-indices n m u e)
 
 module _ (h : Sheet) (positive : 0 < h .prime) where
   abbrev F : Field ℕ
@@ -124,6 +135,41 @@ module _ (h : Sheet) (positive : 0 < h .prime) where
           rest-shaped s l ls (nextPoly F ω b g c) (getD v 1 0) (drop (laterCount b) (drop s w)) (DecidingAccepts.next-fits F L ω b f r c len (fair .0)) (d .2) (fair .1),
         )
 
+    -- the coins among the words of a round
+    round-coins : (s : ℕ) (b l : Level) (g outs v : List ℕ) → Each (Passes h) (replicate s (out l)) outs →
+        Each (Passes h) (coin ∷ coin ∷ replicate (b .repetitions) (index (shiftCount b))) v →
+        coinsAmong (roundLayout s b l) (roundWords (honestRound F ω g (roundCoins l outs v))) ≡ outs ++ v
+    unfolding roundLayout roundWords honestRound roundCoins
+    round-coins s b l g outs v ho hv =
+        let n = each-replicate (Passes h) s (out l) outs ho .0 in
+        let later = coin ∷ coin ∷ replicate (b .repetitions) (index (shiftCount b)) in
+        let replies = map (evaluate F g) outs in
+        let words = getD v 0 0 ∷ getD v 1 0 ∷ drop 2 v in
+        among-messages (l .size) (replicate s (out l) ++ (replicate s message ++ later)) (tableOf F ω l g) (outs ++ (replies ++ words)) (table-length F ω l g)
+        ∙ among-outs s l (replicate s message ++ later) outs (replies ++ words) n
+        ∙ ap (λ (x : List ℕ). outs ++ x) (among-messages s later replies words (length-map outs (evaluate F g) ∙ n)
+        ∙ among-later (b .repetitions) (shiftCount b) (getD v 0 0) (getD v 1 0) (drop 2 v)
+        (length-drop 2 v ∙ omega (arith, each-later (Passes h) (b .repetitions) (shiftCount b) v hv .0))
+        ∙ later-whole (Passes h) (b .repetitions) (shiftCount b) v hv)
+
+    -- and among those after fold coin 0
+    rest-coins : (s : ℕ) (b : Level) (ls : List Level) (f : List ℕ) (r : ℕ) (w : List ℕ) → length f ≡ b .degree → Dealt (Passes h) s b ls w →
+        Fair F L ω b (readRounds s b ls w) (readFinals s b ls w) →
+        coinsAmong (restLayout s b ls) (restWords (honestRest F ω b f r (readRounds s b ls w) (readFinals s b ls w))) ≡ w
+    unfolding restLayout restWords honestRest readRounds readFinals roundCoins
+    rest-coins s b [] f r w len d fair =
+        among-messages (finalCount b) (replicate (b .repetitions) (index (shiftCount b))) (foldPoly F (b .fold) r f) w
+        (each-replicate (Passes h) (finalCount b) message (foldPoly F (b .fold) r f) (final-each b f r len) .0)
+        ∙ among-indices (b .repetitions) (shiftCount b) w (each-replicate (Passes h) (b .repetitions) (index (shiftCount b)) w d .0)
+    rest-coins s b (l ∷ ls) f r w len d fair =
+        let g = foldPoly F (b .fold) r f in
+        let v = take (laterCount b) (drop s w) in
+        let c = roundCoins l (take s w) v in
+        among-append (roundLayout s b l) _ _ _ (each-length (Passes h) (roundLayout s b l) (roundWords (honestRound F ω g c)) (round-each s b l g (take s w) v (d .0) (d .1)))
+        ∙ (λ i. round-coins s b l g (take s w) v (d .0) (d .1) i
+        ++ rest-coins s l ls (nextPoly F ω b g c) (getD v 1 0) (drop (laterCount b) (drop s w)) (DecidingAccepts.next-fits F L ω b f r c len (fair .0)) (d .2) (fair .1) i)
+        ∙ append-assoc (take s w) v (drop (laterCount b) (drop s w)) ∙ ap (λ (x : List ℕ). take s w ++ x) (take-append-drop (laterCount b) (drop s w)) ∙ take-append-drop s w
+
     first-level-table : (f : List ℕ) → length (tableOf F ω (firstLevel h) f) ≡ h .size
     unfolding firstLevel
     first-level-table f = table-length F ω (firstLevel h) f
@@ -163,3 +209,16 @@ module _ (h : Sheet) (positive : 0 < h .prime) where
 
           shaped-degree : length f ≡ firstLevel h .degree
           shaped-degree = first-degree h f len
+
+      -- the coins among the words are those given
+      pub words-coins : 0 < length coins → coinsAmong (layout h) (transcriptWords (honest F ω (firstLevel h) f (readCoins h coins))) ≡ coins
+      unfolding layout transcriptWords honest readCoins coinsAmong
+      words-coins some =
+          let b = firstLevel h in
+          among-messages (h .size) (coin ∷ restLayout (h .outCoins) b (laterLevels h)) (tableOf F ω b f) _ (first-level-table f)
+          ∙ ap {B = List ℕ} (λ x. getD coins 0 0 ∷ x) (rest-coins (h .outCoins) b (laterLevels h) f (getD coins 0 0) (drop 1 coins) (first-degree h f len) d fair)
+          ∙ head-first coins some
+        where
+          head-first : (w : List ℕ) → 0 < length w → getD w 0 0 ∷ drop 1 w ≡ w
+          head-first [] l = absurd (omega arith)
+          head-first (x ∷ w) l = refl

@@ -17,7 +17,7 @@ use Rattle.definition.specs.Verdict.{accepted}
 use Rattle.completeness.specs.LevelsByNumber.{Paired}
 use Rattle.completeness.specs.Numbered.{degreeOf, roundsOf, total}
 use Rattle.completeness.specs.Tests.{and-true}
-use Rattle.completeness.specs.SheetRules.{between-true, few-points, fold-count, fold-product, fold-words, long-enough, logs, positive, pow-below, pow-most, power-of-two, powersOf, product-powers, rounds-most, rules-hold, small-repetitions}
+use Rattle.completeness.specs.SheetRules.{between-true, few-points, fold-count, fold-product, fold-words, long-enough, logs, positive, pow-below, pow-most, power-of-two, powersOf, product-powers, rounds-most, rules-hold, small-repetitions, some-repetitions}
 
 pub record Lawful (h : Sheet) : Type 0 where
   pub a : ℕ
@@ -35,6 +35,7 @@ pub record Lawful (h : Sheet) : Type 0 where
   pub outs : h .outCoins ≤ 2
   pub few : (i : ℕ) → i < roundsOf h → getD (h .repetitions) i 0 + h .outCoins < degreeOf h (suc i)
   pub times : (i : ℕ) → i ≤ roundsOf h → getD (h .repetitions) i 0 ≤ 48
+  pub once : (i : ℕ) → i ≤ roundsOf h → 1 ≤ getD (h .repetitions) i 0
 
 tail-length : (l : List ℕ) → 0 < length l → suc (length (tail l)) ≡ length l
 tail-length [] h = absurd (omega arith)
@@ -111,4 +112,5 @@ module _ (ed : Edition) (w : List ℕ) (long : sheetLength ed ≤ length w) (pas
         outs = o .1;
         few = few-here;
         times = λ i l. let q : i ≤ getD w 4 0 = omega (arith, rounds-word) in subst (λ (x : ℕ). x ≤ 48) (sym (times-word i q)) (small-repetitions ed w passed i (omega arith));
+        once = λ i l. let q : i ≤ getD w 4 0 = omega (arith, rounds-word) in subst (λ (x : ℕ). 1 ≤ x) (sym (times-word i q)) (some-repetitions ed w passed i q);
       }

@@ -10,6 +10,7 @@ use Rattle.algebra.specs.ListFacts.{All, all-append}
 use Rattle.completeness.specs.EachWord.{Each, each-append-at}
 use Rattle.completeness.specs.LevelSizes.{Chain, Sized}
 use Rattle.completeness.specs.ListLaws.{all-replicate}
+use Rattle.completeness.specs.SheetLevels.{Step, Steps}
 
 pub coins-append : (ks ks′ : List Kind) → coinKinds (ks ++ ks′) ≡ coinKinds ks ++ coinKinds ks′
 unfolding coinKinds
@@ -96,23 +97,25 @@ dealt R s b (l ∷ ls) w h =
     let q = each-append-at R (laterCount b) later (coinKinds (restLayout s l ls)) (drop s w) (omega (arith, length-replicate (b .repetitions) (index (shiftCount b)))) (r .1) in
     (r .0, q .0, dealt R s l ls (drop (laterCount b) (drop s w)) (q .1))
 
--- what holds of messages, coins, out coins and the indices of every level holds of every kind in the layout
-module _ (P : Kind → Type 0) (a : ℕ) (messages : P message) (coins : P coin) (outs : (l : Level) → P (out l)) (indices : (b : Level) → Sized a b → P (index (shiftCount b))) where
-  round-all : (s : ℕ) (b l : Level) → Sized a b → All P (roundLayout s b l)
+-- what holds of messages, coins, out coins of a level past level 0 and the indices of every level holds of every kind in the layout
+module _ (P : Kind → Type 0) (a : ℕ) (messages : P message) (coins : P coin) (outs : (l : Level) (before : ℕ) → l .number ≡ suc before → P (out l))
+    (indices : (b : Level) → Sized a b → P (index (shiftCount b))) where
+  round-all : (s : ℕ) (b l : Level) → Sized a b → Step s b l → All P (roundLayout s b l)
   unfolding roundLayout
-  round-all s b l r =
+  round-all s b l r st =
       all-append P (replicate (l .size) message) _ (all-replicate P (l .size) message messages)
-      (all-append P (replicate s (out l)) _ (all-replicate P s (out l) (outs l))
+      (all-append P (replicate s (out l)) _ (all-replicate P s (out l) (outs l (st .before) (st .number)))
       (all-append P (replicate s message) _ (all-replicate P s message messages)
       (coins, (coins, all-replicate P (b .repetitions) (index (shiftCount b)) (indices b r)))))
 
-  rest-all : (s : ℕ) (b : Level) (ls : List Level) → Chain a b ls → All P (restLayout s b ls)
+  rest-all : (s : ℕ) (b : Level) (ls : List Level) → Chain a b ls → Steps s b ls → All P (restLayout s b ls)
   unfolding restLayout
-  rest-all s b [] r =
+  rest-all s b [] r st =
       all-append P (replicate (finalCount b) message) _ (all-replicate P (finalCount b) message messages)
       (all-replicate P (b .repetitions) (index (shiftCount b)) (indices b r))
-  rest-all s b (l ∷ ls) r = all-append P (roundLayout s b l) _ (round-all s b l (r .0)) (rest-all s l ls (r .2))
+  rest-all s b (l ∷ ls) r st = all-append P (roundLayout s b l) _ (round-all s b l (r .0) (st .0)) (rest-all s l ls (r .2) (st .1))
 
-  pub layout-all : (h : Sheet) → Chain a (firstLevel h) (laterLevels h) → All P (layout h)
+  pub layout-all : (h : Sheet) → Chain a (firstLevel h) (laterLevels h) → Steps (h .outCoins) (firstLevel h) (laterLevels h) → All P (layout h)
   unfolding layout
-  layout-all h r = all-append P (replicate (h .size) message) _ (all-replicate P (h .size) message messages) (coins, rest-all (h .outCoins) (firstLevel h) (laterLevels h) r)
+  layout-all h r st =
+      all-append P (replicate (h .size) message) _ (all-replicate P (h .size) message messages) (coins, rest-all (h .outCoins) (firstLevel h) (laterLevels h) r st)

@@ -31,6 +31,7 @@ pub mod FileTrip
 pub mod FileRead
 pub mod Passed
 pub mod EachWord
+pub mod EqualOuts
 pub mod LayoutFacts
 pub mod CoinsAfter
 pub mod FairCoins
@@ -64,6 +65,7 @@ pub mod PartsByNumber
 pub mod PairsByNumber
 pub mod DecidedByNumber
 pub mod TestsByNumber
+pub mod EqualByNumber
 pub mod VerifyExactly
 pub mod AcceptedExactly
 -- the answers that exist; encode; and what a verdict depends on

@@ -1,37 +1,38 @@
--- The load (02, CR 2): whatever the generator holds, a run draws an allowed order. So verify accepts its honest file, and every line of a load with a seed other than
+-- The load (02, CR 2 and 6): whatever the generator holds, a run draws an allowed order. So verify accepts its honest file, and every line of a load with a seed other than
 -- 0 begins with `accepted`.
 use Prim.Native.Nat.{ℕ, zero, suc, _+_, _-_, _/_, _%_, _^_, _≤_, _<_}
 use native.Mathlib.Nat.{mod-lt}
 use native.Mathlib.Omega.{arith}
 use mathlib.Core.Bool.{Bool, true, false, not, cond, _&&_, _||_, true≢false}
 use mathlib.Core.List.{List, [], _∷_, _++_, append-nil, map, zipWith}
-use mathlib.Core.Option.{none}
+use mathlib.Core.Option.{Option, none, some}
 use mathlib.Core.Path.{_≡_, refl, sym, ap, _∙_, subst}
 use lib.Dec.{eqb, ltb, leb}
 use lib.ListN.{length, getD, take, replicate, length-append, length-map, length-replicate, List·getD-append}
 use borrow.Author.Tests.{eqb-true, lt-leb, leb-true, leb-false, ltb-true, eq-eqb, ne-eqb}
-use Rattle.definition.specs.Deciding.{outInDomain}
+use Rattle.definition.specs.Deciding.{outBefore, outInDomain, outRepeated, repeatedOuts, sameAs}
 use Rattle.definition.specs.Field.{knownField, primeOf}
 use Rattle.definition.specs.Layout.{Kind, coin, coinKinds, index, layout, limit, message, out}
 use Rattle.definition.specs.Lists.{firstTrue, member, productOf, range}
 use Rattle.definition.specs.Line.{decimal, decimalWithin, lineOf, outcomeText}
-use Rattle.definition.specs.Load.{step, drawBelow, keep, permits, candidates, permitted, workedSheet, drawWords, drawSheet, drawOut, drawKind, drawKinds, drawOrder, orders, verdictOn, loadRuns, loadLines}
-use Rattle.definition.specs.Prove.{coefficientsTest, coinDomainTest, coinsTest, inputRangeTest, sheetLengthTest}
+use Rattle.definition.specs.Load.{step, drawBelow, keep, permits, candidates, permitted, workedSheet, drawWords, drawSheet, notAllowed, undrawn, drawOut, drawKind, drawKinds, drawOrder, orders, verdictOn, loadRuns, loadLines}
+use Rattle.definition.specs.Prove.{coefficientsTest, coinDomainTest, coinEqualTest, coinsTest, inputRangeTest, sheetLengthTest}
 use Rattle.definition.specs.Reading.{outOfRange, sheetTest}
-use Rattle.definition.specs.Sheet.{Sheet, between, degreeRule, edition1, fieldRule, foldPlaces, foldRule, foldWords, foldingNumber, laterRules, mostRepetitions, outCoinsRule, powerOfTwo, repetitionsRule, roundsRule, sheetOf, sheetRules, sizeRule}
+use Rattle.definition.specs.Sheet.{Level, Sheet, between, degreeRule, edition1, fieldRule, foldPlaces, foldRule, foldWords, foldingNumber, laterRules, mostRepetitions, outCoinsRule, powerOfTwo, repetitionsRule, roundsRule, sheetOf, sheetRules, sizeRule}
 use Rattle.definition.specs.Verdict.{Verdict, accepted}
 use Rattle.algebra.specs.ListFacts.{All}
 use Rattle.completeness.specs.ByPlace.{at-place}
 use Rattle.completeness.specs.Completeness.{completeness}
 use Rattle.completeness.specs.EachWord.{Each, each-join, each-length, each-map, each-none}
+use Rattle.completeness.specs.EqualOuts.{NoRepeat}
 use Rattle.completeness.specs.FairCoins.{Passes}
 use Rattle.completeness.specs.Faults.{wordTurn}
 use Rattle.completeness.specs.ListLaws.{all-replicate}
 use Rattle.completeness.specs.Numbered.{Allowed, readsDue}
-use Rattle.completeness.specs.Premises.{Zero, by-hand, coins-of, layout-zeros, message-zero}
+use Rattle.completeness.specs.Premises.{Plain, by-hand, coins-of, layout-plain, message-plain, plain-apart, plain-one, plain-zero, smallest-is}
 use Rattle.completeness.specs.Ready.{Ready, ready}
 use Rattle.completeness.specs.RulesByWord.{sheet-exactly}
-use Rattle.completeness.specs.Tests.{and-true, at-none, if-false}
+use Rattle.completeness.specs.Tests.{and-true, at-none, if-false, none-true}
 use Rattle.completeness.specs.SheetRules.{between-true, count-small, power-of-two}
 
 -- ---- the sheet
@@ -186,41 +187,62 @@ sheet-faultless v = words-faultless 12 [] v refl (λ j l. absurd (omega arith))
 
 -- ---- coefficients and coins
 
+-- a word of its kind, after an out coin of its round or none, that none of refusals 5, 7 and 14 meets
+abbrev Fits : Sheet → Option ℕ → Kind → ℕ → Type 0
+Fits h before k x = Passes h k x × (outRepeated before k x ≡ false)
+
+neither : (a b : Bool) → (a || b) ≡ false → (a ≡ false) × (b ≡ false)
+neither true b e = absurd (true≢false e)
+neither false b e = (refl, e)
+
 module _ (h : Sheet) (r : Ready h) where
   -- a draw below a limit that is not 0 is in range
-  in-range : (k : Kind) (v : ℕ) → Zero h r k → outOfRange h k (step v % limit (h .prime) k) ≡ false
+  in-range : (k : Kind) (v : ℕ) → Plain (Passes h) k → outOfRange h k (step v % limit (h .prime) k) ≡ false
   unfolding outOfRange
-  in-range k v z = lt-leb (limit (h .prime) k) (step v % limit (h .prime) k) (mod-lt (step v) (leb-false (limit (h .prime) k) 0 (z .0)))
+  in-range k v z = lt-leb (limit (h .prime) k) (step v % limit (h .prime) k) (mod-lt (step v) (leb-false (limit (h .prime) k) 0 (plain-zero (Passes h) k z .0)))
 
-  out-passes : (k : Kind) (again v : ℕ) → limit (h .prime) k ≡ h .prime → Zero h r k → Passes h k (drawOut h k again v .value)
-  unfolding drawOut drawBelow
-  out-passes k zero v e z = go (outInDomain h k (step v % h .prime)) refl
+  -- an out coin that has no draw left
+  undrawn-fits : (before : Option ℕ) (l : Level) → Plain (Passes h) (out l) → Fits h before (out l) (undrawn h before (out l))
+  unfolding undrawn outRepeated sameAs
+  undrawn-fits none l z = (z .0, refl)
+  undrawn-fits (some y) l z =
+      subst (Fits h (some y) (out l)) (sym (smallest-is h r (some y) l z)) (plain-one (Passes h) (some y) (out l) z, plain-apart (some y) (out l))
+
+  out-fits : (before : Option ℕ) (l : Level) (again v : ℕ) → Plain (Passes h) (out l) → Fits h before (out l) (drawOut h before (out l) again v .value)
+  unfolding drawOut drawBelow notAllowed limit
+  out-fits before l zero v z = go (notAllowed h before (out l) (step v % h .prime)) refl
     where
-      go : (b : Bool) → outInDomain h k (step v % h .prime) ≡ b → Passes h k (cond b (record { value = 0; next = step v }) (drawBelow (h .prime) v) .value)
-      go true q = z
-      go false q = (subst (λ (n : ℕ). outOfRange h k (step v % n) ≡ false) e (in-range k v z), q)
-  out-passes k (suc again) v e z = go (outInDomain h k (step v % h .prime)) refl (out-passes k again (step v) e z)
+      go : (b : Bool) → notAllowed h before (out l) (step v % h .prime) ≡ b →
+          Fits h before (out l) (cond b (record { value = undrawn h before (out l); next = step v }) (drawBelow (h .prime) v) .value)
+      go true q = undrawn-fits before l z
+      go false q = let n = neither (outInDomain h (out l) (step v % h .prime)) _ q in ((in-range (out l) v z, n .0), n .1)
+  out-fits before l (suc again) v z = go (notAllowed h before (out l) (step v % h .prime)) refl (out-fits before l again (step v) z)
     where
-      go : (b : Bool) → outInDomain h k (step v % h .prime) ≡ b → Passes h k (drawOut h k again (step v) .value) →
-          Passes h k (cond b (drawOut h k again (step v)) (drawBelow (h .prime) v) .value)
+      go : (b : Bool) → notAllowed h before (out l) (step v % h .prime) ≡ b → Fits h before (out l) (drawOut h before (out l) again (step v) .value) →
+          Fits h before (out l) (cond b (drawOut h before (out l) again (step v)) (drawBelow (h .prime) v) .value)
       go true q p = p
-      go false q p = (subst (λ (n : ℕ). outOfRange h k (step v % n) ≡ false) e (in-range k v z), q)
+      go false q p = let n = neither (outInDomain h (out l) (step v % h .prime)) _ q in ((in-range (out l) v z, n .0), n .1)
 
-  kind-passes : (k : Kind) (v : ℕ) → Zero h r k → Passes h k (drawKind h k v .value)
-  unfolding drawKind drawBelow outInDomain limit
-  kind-passes message v z = (in-range message v z, refl)
-  kind-passes coin v z = (in-range coin v z, refl)
-  kind-passes (out l) v z = out-passes (out l) 64 v refl z
-  kind-passes (index n) v z = (in-range (index n) v z, refl)
+  kind-fits : (before : Option ℕ) (k : Kind) (v : ℕ) → Plain (Passes h) k → Fits h before k (drawKind h before k v .value)
+  unfolding drawKind drawBelow outInDomain outRepeated limit
+  kind-fits before message v z = ((in-range message v z, refl), refl)
+  kind-fits before coin v z = ((in-range coin v z, refl), refl)
+  kind-fits before (out l) v z = out-fits before l 64 v z
+  kind-fits before (index n) v z = ((in-range (index n) v z, refl), refl)
 
-  kinds-pass : (ks : List Kind) (v : ℕ) → All (Zero h r) ks → Each (Passes h) ks (drawKinds h ks v .value)
-  unfolding drawKinds
-  kinds-pass [] v z = tt
-  kinds-pass (k ∷ ks) v z = (kind-passes k v (z .0), kinds-pass ks (drawKind h k v .next) (z .1))
+  kinds-fit : (before : Option ℕ) (ks : List Kind) (v : ℕ) → All (Plain (Passes h)) ks →
+      Each (Passes h) ks (drawKinds h before ks v .value) × NoRepeat before ks (drawKinds h before ks v .value)
+  unfolding drawKinds repeatedOuts
+  kinds-fit before [] v z = (tt, tt)
+  kinds-fit before (k ∷ ks) v z =
+      let x = drawKind h before k v in
+      let a = kind-fits before k v (z .0) in
+      let b = kinds-fit (outBefore before k (x .value)) ks (x .next) (z .1) in
+      ((a .0, b .0), (a .1, b .1))
 
 -- Whatever the generator holds, what a run draws is allowed.
 pub draws-allowed : (v : ℕ) → Allowed edition1 (drawOrder v .value .sheet) (drawOrder v .value .coefficients) (drawOrder v .value .coins)
-unfolding drawOrder sheetLengthTest coefficientsTest coinsTest inputRangeTest coinDomainTest
+unfolding drawOrder sheetLengthTest coefficientsTest coinsTest inputRangeTest coinDomainTest coinEqualTest
 draws-allowed v =
     let s = sheet-faultless v in
     let w = drawSheet v .value in
@@ -228,18 +250,19 @@ draws-allowed v =
     let r = ready edition1 w (omega (arith, s .0)) (s .1) in
     let ms = replicate (h .degree) message in
     let ks = coinKinds (layout h) in
-    let f = drawKinds h ms (drawSheet v .next) in
-    let c = drawKinds h ks (f .next) in
-    let fs = kinds-pass h r ms (drawSheet v .next) (all-replicate (Zero h r) (h .degree) message (message-zero h r)) in
-    let cs = kinds-pass h r ks (f .next) (coins-of (Zero h r) (layout h) (layout-zeros h r)) in
-    let both = each-join (Passes h) ms ks (f .value) (c .value) fs cs in
+    let f = drawKinds h none ms (drawSheet v .next) in
+    let c = drawKinds h none ks (f .next) in
+    let fs = kinds-fit h r none ms (drawSheet v .next) (all-replicate (Plain (Passes h)) (h .degree) message (message-plain h r)) .0 in
+    let cs = kinds-fit h r none ks (f .next) (coins-of (Plain (Passes h)) (layout h) (layout-plain h r)) in
+    let both = each-join (Passes h) ms ks (f .value) (c .value) fs (cs .0) in
     record {
       words = if-false 10 0 _ (ap not (eq-eqb _ _ (s .0)));
       sheet = s .1;
       coefficients = if-false 10 1 _ (ap not (eq-eqb _ _ (each-length (Passes h) ms (f .value) fs ∙ length-replicate (h .degree) message)));
-      full = if-false 10 2 _ (ap not (eq-eqb _ _ (each-length (Passes h) ks (c .value) cs)));
+      full = if-false 10 2 _ (ap not (eq-eqb _ _ (each-length (Passes h) ks (c .value) (cs .0))));
       range = at-none 5 _ (no-fault (outOfRange h) (ms ++ ks) (f .value ++ c .value) (each-map (ms ++ ks) (f .value ++ c .value) both (λ k x p. p .0)));
-      outside = at-none 7 _ (no-fault (outInDomain h) ks (c .value) (each-map ks (c .value) cs (λ k x p. p .1)));
+      outside = at-none 7 _ (no-fault (outInDomain h) ks (c .value) (each-map ks (c .value) (cs .0) (λ k x p. p .1)));
+      apart = at-none 14 _ (none-true 0 _ (cs .1));
     }
   where
     no-fault : (t : Kind → ℕ → Bool) (ks : List Kind) (w : List ℕ) → Each (λ k x. t k x ≡ false) ks w → firstTrue 0 (zipWith t ks w) ≡ none

@@ -11,7 +11,7 @@ use Rattle.definition.specs.Field.{Field, primeField}
 use Rattle.definition.specs.Layout.{coinKinds, laterCount, layout, readTranscript, wordsDue}
 use Rattle.definition.specs.Lists.{productOf}
 use Rattle.definition.specs.Polynomial.{Sample, distinct, evaluate, foldPoly, interpolate, points, quotient, subPoly, vanishing}
-use Rattle.definition.specs.Prove.{coefficientsTest, coinDomainTest, coinsTest, inputRangeTest, outputTest, sheetLengthTest}
+use Rattle.definition.specs.Prove.{coefficientsTest, coinDomainTest, coinEqualTest, coinsTest, inputRangeTest, outputTest, sheetLengthTest}
 use Rattle.definition.specs.Prover.{honestAnswers, honestStream, nextPoly}
 use Rattle.definition.specs.Reading.{sheetTest}
 use Rattle.definition.specs.Sheet.{Edition, Level, Sheet, finalCount, firstLevel, rootOfUnity, sheetLength, sheetOf}
@@ -57,7 +57,8 @@ unfoldable pub readsDue : Sheet → ℕ
 readsDue h = total (zipWith _*_ (h .folds) (h .repetitions))
 
 -- THE PREMISES: the tests that prove makes of its input, in their order.
--- the edition's words without a broken rule; d0 coefficients; a full coin list; every word in range; every out coin outside its round's domain
+-- the edition's words without a broken rule; d0 coefficients; a full coin list; every word in range; every out coin outside its round's domain;
+-- no two equal out coins in a round
 pub record Allowed (e : Edition) (w f coins : List ℕ) : Type 0 where
   pub words : sheetLengthTest e w ≡ accepted
   pub sheet : sheetTest e w ≡ accepted
@@ -65,6 +66,7 @@ pub record Allowed (e : Edition) (w f coins : List ℕ) : Type 0 where
   pub full : coinsTest (sheetOf e w) coins ≡ accepted
   pub range : inputRangeTest (sheetOf e w) (coinKinds (layout (sheetOf e w))) (f ++ coins) ≡ accepted
   pub outside : coinDomainTest (sheetOf e w) coins ≡ accepted
+  pub apart : coinEqualTest (sheetOf e w) coins ≡ accepted
 
 -- the output holds the blocks due
 abbrev pub Room : Edition → Sheet → List ℕ → Type 0

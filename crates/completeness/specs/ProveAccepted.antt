@@ -8,7 +8,7 @@ use lib.ListN.{length, take, drop}
 use lib.Seq.{take-at}
 use Rattle.definition.specs.Block.{blockCount, fileOf}
 use Rattle.definition.specs.Layout.{coinKinds, layout, wordsDue}
-use Rattle.definition.specs.Prove.{Result, coefficientsTest, coinDomainTest, coinsTest, done, finish, inputRangeTest, proveIn, proveTests, refusal, sheetLengthTest}
+use Rattle.definition.specs.Prove.{Result, coefficientsTest, coinDomainTest, coinEqualTest, coinsTest, done, finish, inputRangeTest, proveIn, proveTests, refusal, sheetLengthTest}
 use Rattle.definition.specs.Prover.{honestStream}
 use Rattle.definition.specs.Reading.{sheetTest}
 use Rattle.definition.specs.Sheet.{Edition, sheetOf}
@@ -41,11 +41,12 @@ module _ (ed : Edition) (w f coins output : List ℕ) where
       let d = then-passes (coinsTest (sheetOf ed w) coins) _ (c .1) in
       let g = then-passes (inputRangeTest (sheetOf ed w) (coinKinds (layout (sheetOf ed w))) (f ++ coins)) _ (d .1) in
       let k = then-passes (coinDomainTest (sheetOf ed w) coins) _ (g .1) in
-      (record { words = a .0; sheet = b .0; coefficients = c .0; full = d .0; range = g .0; outside = k .0 }, k .1)
+      let m = then-passes (coinEqualTest (sheetOf ed w) coins) _ (k .1) in
+      (record { words = a .0; sheet = b .0; coefficients = c .0; full = d .0; range = g .0; outside = k .0; apart = m .0 }, m .1)
 
   pass-tests : Allowed ed w f coins → Room ed (sheetOf ed w) output → tests ≡ accepted
   unfolding proveTests _then_
-  pass-tests ok room = rw (ok .words, ok .sheet, ok .coefficients, ok .full, ok .range, ok .outside, room)
+  pass-tests ok room = rw (ok .words, ok .sheet, ok .coefficients, ok .full, ok .range, ok .outside, ok .apart, room)
 
   -- done only if the tests pass, and then with the number of blocks that the sheet needs
   pub done-allowed : (n : ℕ) → proveIn ed w f coins output .answer ≡ done n → Allowed ed w f coins × Room ed (sheetOf ed w) output × (n ≡ blockCount (wordsDue ed (sheetOf ed w)))

@@ -9,7 +9,7 @@ use mathlib.Core.Path.{_≡_, refl, sym, ap, _∙_}
 use lib.ListN.{length, take, drop, length-append, length-map, length-take}
 use borrow.Author.Tests.{ne-eqb}
 use Rattle.definition.specs.Block.{streamOf}
-use Rattle.definition.specs.Deciding.{Place, decide, decideFinal, decideRest, deciding, differences, outTest, placesOf, readsOf, treated}
+use Rattle.definition.specs.Deciding.{Place, decide, decideFinal, decideRest, deciding, differences, equalTest, outTest, outTests, placesOf, readsOf, treated}
 use Rattle.definition.specs.Field.{Field}
 use Rattle.definition.specs.Layout.{layout, readTranscript}
 use Rattle.definition.specs.Lists.{firstTrue, range}
@@ -129,23 +129,29 @@ module _ (ed : Edition) (h : Sheet) (w : List ℕ) (full : dueOf ed h ≤ length
       ∙ by-outcome _ _ ∙ sym (ap (readsWith h) (ap (λ (x : Verdict). x .outcome) e ∙ decided ed h w long))
 
 -- a refusal before deciding has no reads
-no-reads : (h : Sheet) (n q : ℕ) → n ≤ 7 → 0 ≡ readsWith h (refused n q)
-unfolding readsWith
-no-reads h n q l = sym (λ t. cond (ne-eqb n 8 (omega arith) t) (readsBefore h q)
-    (cond (ne-eqb n 9 (omega arith) t) (readsBefore h (roundsOf h) + levelOf h (roundsOf h) .fold * suc q) 0))
+abbrev Unread : ℕ → ℕ → Type 0
+Unread n q = (n ≡ 8 → ⊥) × (n ≡ 9 → ⊥)
 
-reading-refuses : (ed : Edition) (file : List ℕ) → Refuses (λ n q. n ≤ 7) (reading ed file)
+small : (n q : ℕ) → n ≤ 7 → Unread n q
+small n q l = (λ e. omega arith, λ e. omega arith)
+
+no-reads : (h : Sheet) (n q : ℕ) → Unread n q → 0 ≡ readsWith h (refused n q)
+unfolding readsWith
+no-reads h n q l = sym (λ t. cond (ne-eqb n 8 (l .0) t) (readsBefore h q)
+    (cond (ne-eqb n 9 (l .1) t) (readsBefore h (roundsOf h) + levelOf h (roundsOf h) .fold * suc q) 0))
+
+reading-refuses : (ed : Edition) (file : List ℕ) → Refuses Unread (reading ed file)
 unfolding reading streamTests bodyTests lengthTest checkTest blocksTest rangeTest fillTest
 reading-refuses ed file =
-    let Q : ℕ → ℕ → Type 0 = λ n q. n ≤ 7 in
+    let Q = Unread in
     let w = streamOf file in
-    then-refuses Q (lengthTest file) _ (if-refuses Q 1 0 _ (omega arith))
-    (then-refuses Q (checkTest file) _ (at-refuses Q 2 0 _ (λ j l. omega arith))
-    (then-refuses Q (sheetTest ed w) _ (refuses-sheet Q ed w (λ i l. omega arith))
-    (then-refuses Q (blocksTest (sheetLength ed + length (layout (sheetOf ed w))) (length file / 512)) _ (if-refuses Q 4 _ _ (omega arith))
-    (then-refuses Q (rangeTest (sheetOf ed w) (sheetLength ed) (layout (sheetOf ed w)) w) _ (at-refuses Q 5 (sheetLength ed) _ (λ j l. omega arith)) (at-refuses Q 6 _ _ (λ j l. omega arith))))))
+    then-refuses Q (lengthTest file) _ (if-refuses Q 1 0 _ (small 1 0 (omega arith)))
+    (then-refuses Q (checkTest file) _ (at-refuses Q 2 0 _ (λ j l. small 2 j (omega arith)))
+    (then-refuses Q (sheetTest ed w) _ (refuses-sheet Q ed w (λ i l. small 3 i (omega arith)))
+    (then-refuses Q (blocksTest (sheetLength ed + length (layout (sheetOf ed w))) (length file / 512)) _ (if-refuses Q 4 _ _ (small 4 0 (omega arith)))
+    (then-refuses Q (rangeTest (sheetOf ed w) (sheetLength ed) (layout (sheetOf ed w)) w) _ (at-refuses Q 5 (sheetLength ed) _ (λ j l. small 5 j (omega arith))) (at-refuses Q 6 _ _ (λ j l. small 6 j (omega arith)))))))
 
-then-reads : (h : Sheet) (o : Outcome) (v : Verdict) → Refuses (λ n q. n ≤ 7) o → (o ≡ accepted → v .reads ≡ readsWith h (v .outcome)) →
+then-reads : (h : Sheet) (o : Outcome) (v : Verdict) → Refuses Unread o → (o ≡ accepted → v .reads ≡ readsWith h (v .outcome)) →
     thenVerdict o v .reads ≡ readsWith h (thenVerdict o v .outcome)
 unfolding thenVerdict
 then-reads h accepted v g e = e refl
@@ -153,10 +159,12 @@ then-reads h (refused n q) v g e = no-reads h n q g
 
 -- The reads of verify go with its outcome.
 pub verify-reads : (ed : Edition) (file : List ℕ) → verifyIn ed file .reads ≡ readsWith (sheetIn ed file) (verifyIn ed file .outcome)
-unfolding verifyIn deciding outTest
+unfolding verifyIn deciding outTests outTest equalTest
 verify-reads ed file =
     let w = streamOf file in
     let h = sheetIn ed file in
     then-reads h (reading ed file) (deciding ed w) (reading-refuses ed file) (λ passed.
     let o = ordered ed file passed in
-    then-reads h (outTest h (sheetLength ed) (layout h) w) _ (at-refuses (λ n q. n ≤ 7) 7 (sheetLength ed) _ (λ j l. omega arith)) (λ outside. decided-reads ed h w (o .full) (o .long) _ refl))
+    then-reads h (outTests h (sheetLength ed) (layout h) w) _
+    (then-refuses Unread (outTest h (sheetLength ed) (layout h) w) _ (at-refuses Unread 7 (sheetLength ed) _ (λ j l. small 7 j (omega arith)))
+    (at-refuses Unread 14 (sheetLength ed) _ (λ j l. (λ e. omega (arith, e), λ e. omega (arith, e))))) (λ outside. decided-reads ed h w (o .full) (o .long) _ refl))

@@ -73,5 +73,5 @@ shift-count a b r =
 pub layout-fits : (h : Sheet) → Ready h → All (λ k. limit (h .prime) k ≤ 4294967296) (layout h)
 unfolding limit
 layout-fits h r =
-    layout-all (λ k. limit (h .prime) k ≤ 4294967296) (suc (r .e)) (omega (arith, r .small)) (omega (arith, r .small)) (λ l. omega (arith, r .small))
-    (λ b s. omega (arith, r .bound, shift-count (suc (r .e)) b s)) h (r .chain)
+    layout-all (λ k. limit (h .prime) k ≤ 4294967296) (suc (r .e)) (omega (arith, r .small)) (omega (arith, r .small)) (λ l i e. omega (arith, r .small))
+    (λ b s. omega (arith, r .bound, shift-count (suc (r .e)) b s)) h (r .chain) (r .steps)

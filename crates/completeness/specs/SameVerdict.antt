@@ -2,24 +2,26 @@
 use Prim.Native.Nat.{ℕ, zero, suc, _+_, _-_, _/_, _≤_, _<_}
 use native.Mathlib.Decide.{decLt}
 use native.Mathlib.Omega.{arith}
-use mathlib.Core.Bool.{Bool, false, not, true≢false}
+use mathlib.Core.Bool.{Bool, true, false, not, true≢false}
 use mathlib.Core.List.{List, map, zipWith}
+use mathlib.Core.Option.{none}
 use mathlib.Core.Path.{_≡_, refl, sym, ap, _∙_, subst}
 use lib.ListN.{length, getD, take, drop, length-drop, take-append-drop}
 use lib.Seq.{ext-getD, getD-drop, getD-take, length-take-le}
 use Rattle.definition.specs.Block.{streamOf}
-use Rattle.definition.specs.Deciding.{decide, deciding, outInDomain, outTest}
+use Rattle.definition.specs.Deciding.{decide, deciding, equalTest, outInDomain, outTest, outTests}
 use Rattle.definition.specs.Field.{primeField}
-use Rattle.definition.specs.Layout.{Kind, laterCount, layout, message, readTranscript, wordsDue}
+use Rattle.definition.specs.Layout.{Kind, coin, index, laterCount, layout, message, out, readTranscript, wordsDue}
 use Rattle.definition.specs.Lists.{firstTrue}
 use Rattle.definition.specs.Reading.{blocksTest, bodyTests, checkTest, lengthTest, reading, sheetTest, streamTests}
 use Rattle.definition.specs.Sheet.{Edition, Sheet, firstLevel, rootOfUnity, sheetLength, sheetOf, sheetRules, testOrder}
-use Rattle.definition.specs.Verdict.{Outcome, Verdict, accepted, refuseAt, refused, thenVerdict}
+use Rattle.definition.specs.Verdict.{Outcome, Verdict, _then_, accepted, refuseAt, refused, thenVerdict}
 use Rattle.definition.specs.Verify.{verifyIn}
 use Rattle.completeness.specs.ByPlace.{at-place}
 use Rattle.completeness.specs.DecidedByNumber.{decide-rounds}
 use Rattle.completeness.specs.Dependence.{Beside, decided-same}
-use Rattle.completeness.specs.Faults.{BlocksFault, DomainFault, LengthFault, Part, PartDue, RuleFault, SameOutside, SameWhereUsed, combination, dueOf, finals, fold, outs, partLength, partStart, partWord, partWords, sheetIn, shifts, words}
+use Rattle.completeness.specs.EqualOuts.{SameOuts, repeated-same}
+use Rattle.completeness.specs.Faults.{BlocksFault, DomainFault, EqualFault, LengthFault, OutsPass, Part, PartDue, RuleFault, SameOutside, SameWhereUsed, combination, dueOf, finals, fold, outs, partLength, partStart, partWord, partWords, sheetIn, shifts, words}
 use Rattle.completeness.specs.LevelsByNumber.{Paired}
 use Rattle.completeness.specs.Numbered.{final, lengthOf, levelOf, outsOf, replies, roundStart, roundsOf, startOf, table, wordCount}
 use Rattle.completeness.specs.PairsByNumber.{part-length, part-word}
@@ -68,13 +70,20 @@ module _ (ed : Edition) (file : List ℕ) (passed : reading ed file ≡ accepted
     kinds = VerifyExactly.kinds-length ed file whole ruled counted;
   }
 
-  -- no out coin in its domain, where test 7 passes
-  pub outside : outTest (sheetIn ed file) (sheetLength ed) (layout (sheetIn ed file)) (streamOf file) ≡ accepted → (q : ℕ) → DomainFault ed (sheetIn ed file) (streamOf file) q → ⊥
-  unfolding outTest
-  outside e q p =
-      let c = VerifyExactly.domain-complete ed file whole ruled counted q p in
-      let bs = zipWith (outInDomain (sheetIn ed file)) (layout (sheetIn ed file)) (drop (sheetLength ed) (streamOf file)) in
-      true≢false (sym (c .3) ∙ at-place (λ (b : Bool). b ≡ false) bs false (all-false 7 (sheetLength ed) bs e) (c .0) (c .2))
+  -- no fault 7 and no fault 14, where their tests pass
+  no-faults : (n : ℕ) (bs : List Bool) (P : ℕ → Type 0) → refuseAt n (firstTrue (sheetLength ed) bs) ≡ accepted →
+      ((q : ℕ) → P q → (j : ℕ) × (q ≡ sheetLength ed + j) × (j < length bs) × (getD bs j false ≡ true)) → (q : ℕ) → P q → ⊥
+  no-faults n bs P e complete q p =
+      let c = complete q p in
+      true≢false (sym (c .3) ∙ at-place (λ (b : Bool). b ≡ false) bs false (all-false n (sheetLength ed) bs e) (c .0) (c .2))
+
+  pub outside : outTests (sheetIn ed file) (sheetLength ed) (layout (sheetIn ed file)) (streamOf file) ≡ accepted → OutsPass ed (sheetIn ed file) (streamOf file)
+  unfolding outTests outTest equalTest
+  outside e =
+      let p = then-passes _ _ e in (
+        no-faults 7 _ (DomainFault ed (sheetIn ed file) (streamOf file)) (p .0) (VerifyExactly.domain-complete ed file whole ruled counted),
+        no-faults 14 _ (EqualFault ed (sheetIn ed file) (streamOf file)) (p .1) (VerifyExactly.equal-complete ed file whole ruled counted),
+      )
 
 -- a part that is no table
 abbrev NoTable : Part → Type 0
@@ -179,40 +188,45 @@ module _ (ed : Edition) (v w : List ℕ) (ov : Ordered ed v) (ow : Ordered ed w)
     finals·same = part-same finals tt tt;
   }
 
-  -- test 7 sees no table
+  -- the tests of out coins see no table
   abbrev ks : List Kind
   ks = layout (sheetOf ed v)
 
   enough : (length ks ≤ length (drop n₀ v)) × (length ks ≤ length (drop n₀ w))
   enough = (omega (arith, length-drop n₀ v, ov .full, ov .kinds), omega (arith, length-drop n₀ w, full-w, ov .kinds))
 
-  by-part : (j : ℕ) (x : Part) → PartDue h x → (i : ℕ) → i < partLength h x → n₀ + j ≡ partStart ed h x + i →
-      outInDomain h (partKind h x) (getD v (n₀ + j) 0) ≡ outInDomain h (partKind h x) (getD w (n₀ + j) 0)
-  unfolding partKind outInDomain
-  by-part j (words m) d i l e = refl
-  by-part j (outs k) d i l e = ap (outInDomain h (partKind h (outs k))) (same (n₀ + j) (λ a b u g f. off-tables ed h (outs k) d tt i l a b u g (sym e ∙ f)))
-  by-part j (combination k) d i l e = refl
-  by-part j (fold k) d i l e = refl
-  by-part j (shifts k) d i l e = refl
-  by-part j finals d i l e = refl
+  by-part : (j : ℕ) (x : Part) → PartDue h x → (i : ℕ) → i < partLength h x → n₀ + j ≡ partStart ed h x + i → SameOuts (partKind h x) (getD v (n₀ + j) 0) (getD w (n₀ + j) 0)
+  unfolding partKind
+  by-part j (words m) d i l e = tt
+  by-part j (outs k) d i l e = same (n₀ + j) (λ a b u g f. off-tables ed h (outs k) d tt i l a b u g (sym e ∙ f))
+  by-part j (combination k) d i l e = tt
+  by-part j (fold k) d i l e = tt
+  by-part j (shifts k) d i l e = tt
+  by-part j finals d i l e = tt
+
+  outs-same : (j : ℕ) → j < length ks → SameOuts (getD ks j message) (getD (drop n₀ v) j 0) (getD (drop n₀ w) j 0)
+  outs-same j l =
+      let p = every-word ed h (n₀ + j) (omega arith) (omega (arith, ov .kinds)) in
+      let k = part-kind ed h (ov .long) (p .0) (p .1) (p .2 .0) (p .2 .1) j (p .2 .2) in
+      rw (getD-drop n₀ v j 0, getD-drop n₀ w j 0, k) (by-part j (p .0) (p .1) (p .2 .0) (p .2 .1) (p .2 .2))
+
+  domain-same : (k : Kind) (x y : ℕ) → SameOuts k x y → outInDomain h k x ≡ outInDomain h k y
+  unfolding outInDomain
+  domain-same message x y e = refl
+  domain-same coin x y e = refl
+  domain-same (out l) x y e = ap (outInDomain h (out l)) e
+  domain-same (index n) x y e = refl
 
   row-same : zipWith (outInDomain h) ks (drop n₀ v) ≡ zipWith (outInDomain h) ks (drop n₀ w)
   row-same =
       let nv = zip-length (outInDomain h) message ks (drop n₀ v) (enough .0) in
       ext-getD false _ _ (nv ∙ sym (zip-length (outInDomain h) message ks (drop n₀ w) (enough .1)))
       (λ j l. let u : j < length ks = omega (arith, nv) in
-      zip-at (outInDomain h) message ks (drop n₀ v) j u (enough .0) ∙ ap (outInDomain h (getD ks j message)) (getD-drop n₀ v j 0)
-      ∙ tested j u ∙ sym (ap (outInDomain h (getD ks j message)) (getD-drop n₀ w j 0)) ∙ sym (zip-at (outInDomain h) message ks (drop n₀ w) j u (enough .1)))
-    where
-      tested : (j : ℕ) → j < length ks → outInDomain h (getD ks j message) (getD v (n₀ + j) 0) ≡ outInDomain h (getD ks j message) (getD w (n₀ + j) 0)
-      tested j l =
-          let p = every-word ed h (n₀ + j) (omega arith) (omega (arith, ov .kinds)) in
-          let k = part-kind ed h (ov .long) (p .0) (p .1) (p .2 .0) (p .2 .1) j (p .2 .2) in
-          ap (λ (z : Kind). outInDomain h z (getD v (n₀ + j) 0)) k ∙ by-part j (p .0) (p .1) (p .2 .0) (p .2 .1) (p .2 .2) ∙ sym (ap (λ (z : Kind). outInDomain h z (getD w (n₀ + j) 0)) k)
+      zip-at (outInDomain h) message ks (drop n₀ v) j u (enough .0) ∙ domain-same (getD ks j message) _ _ (outs-same j u) ∙ sym (zip-at (outInDomain h) message ks (drop n₀ w) j u (enough .1)))
 
-  pub out-same : outTest (sheetOf ed v) (sheetLength ed) (layout (sheetOf ed v)) v ≡ outTest (sheetOf ed v) (sheetLength ed) (layout (sheetOf ed v)) w
-  unfolding outTest
-  out-same = ap (λ (bs : List Bool). refuseAt 7 (firstTrue n₀ bs)) row-same
+  pub out-same : outTests (sheetOf ed v) (sheetLength ed) (layout (sheetOf ed v)) v ≡ outTests (sheetOf ed v) (sheetLength ed) (layout (sheetOf ed v)) w
+  unfolding outTests outTest equalTest
+  out-same = λ i. refuseAt 7 (firstTrue n₀ (row-same i)) then refuseAt 14 (firstTrue n₀ (repeated-same none ks (drop n₀ v) (drop n₀ w) (enough .0) (enough .1) outs-same i))
 
 then-same : (o : Outcome) (a b : Verdict) → (o ≡ accepted → a ≡ b) → thenVerdict o a ≡ thenVerdict o b
 unfolding thenVerdict
@@ -221,7 +235,7 @@ then-same (refused n q) a b h = refl
 
 -- deciding's verdict on a stream, by its sheet
 decidedBy : Edition → List ℕ → Sheet → Verdict
-decidedBy ed w h = thenVerdict (outTest h (sheetLength ed) (layout h) w) (decide (primeField (h .prime)) (rootOfUnity h) (firstLevel h) (readTranscript h (drop (sheetLength ed) w)))
+decidedBy ed w h = thenVerdict (outTests h (sheetLength ed) (layout h) w) (decide (primeField (h .prime)) (rootOfUnity h) (firstLevel h) (readTranscript h (drop (sheetLength ed) w)))
 
 -- Dependence: the verdicts are equal, outcome and reads.
 pub dependence : (ed : Edition) (x y : List ℕ) → reading ed x ≡ accepted → reading ed y ≡ accepted → SameOutside ed (sheetIn ed x) (streamOf x) (streamOf y) →
@@ -234,7 +248,7 @@ dependence ed x y rx ry same used =
     let ov = ordered ed x rx in
     let ow = ordered ed y ry in
     (λ t. thenVerdict ((rx ∙ sym ry) t) (deciding ed v))
-    ∙ ap (thenVerdict (reading ed y)) (then-same (outTest h (sheetLength ed) (layout h) v) _ _ (λ e.
+    ∙ ap (thenVerdict (reading ed y)) (then-same (outTests h (sheetLength ed) (layout h) v) _ _ (λ e.
     decide-rounds ed h v (ov .long) ∙ decided-same ed h v w (beside ed v w ov ow same) (ov .full) used (outside ed x rx e) ∙ sym (decide-rounds ed h w (ov .long)))
     ∙ ap (λ (o : Outcome). thenVerdict o (decide (primeField (h .prime)) (rootOfUnity h) (firstLevel h) (readTranscript h (drop (sheetLength ed) w)))) (out-same ed v w ov ow same)
     ∙ ap (decidedBy ed w) (sheet-same ed v w ov ow same))

@@ -11,7 +11,7 @@ use lib.Dec.{eqb, ltb, leb}
 use lib.ListN.{length, getD, take, drop, replicate, drop-of-length-le, getD-replicate}
 use lib.Pow.{pow-add, pow-mono, pow-pos}
 use lib.Seq.{drop-cons}
-use borrow.Author.Tests.{ltb-true, leb-true, eqb-true, not-false, lt-ltb, le-leb}
+use borrow.Author.Tests.{eqb-false, eqb-true, le-leb, leb-true, lt-ltb, ltb-false, ltb-true, not-false}
 use Rattle.definition.specs.Field.{knownField}
 use Rattle.definition.specs.Lists.{member, productOf, range}
 use Rattle.definition.specs.Reading.{sheetTest}
@@ -226,6 +226,19 @@ count-small ed w i e = go (ltb i (getD w 4 0)) (eqb i (getD w 4 0)) _ e
 
 pub small-repetitions : (ed : Edition) (w : List ℕ) → sheetTest ed w ≡ accepted → (i : ℕ) → i < 6 → getD w (6 + i) 0 ≤ 48
 small-repetitions ed w passed i l = count-small ed w i (repetitions-hold ed w passed i l)
+
+-- and at least 1 up to t_M
+pub some-repetitions : (ed : Edition) (w : List ℕ) → sheetTest ed w ≡ accepted → (i : ℕ) → i ≤ getD w 4 0 → 1 ≤ getD w (6 + i) 0
+unfolding repetitionsRule
+some-repetitions ed w passed i l = go (ltb i (getD w 4 0)) (eqb i (getD w 4 0)) _ refl refl (repetitions-hold ed w passed i (omega (arith, rounds-most ed w passed)))
+  where
+    t : ℕ
+    t = getD w (6 + i) 0
+
+    go : (x y v : Bool) → ltb i (getD w 4 0) ≡ x → eqb i (getD w 4 0) ≡ y → cond x (between 1 48 t && v) (cond y (between 1 48 t) (eqb t 0)) ≡ true → 1 ≤ t
+    go true y v p q k = between-true 1 48 t (and-true (between 1 48 t) v k .0) .0
+    go false true v p q k = between-true 1 48 t k .0
+    go false false v p q k = let z : i ≡ getD w 4 0 → ⊥ = eqb-false i (getD w 4 0) q in absurd (omega (arith, ltb-false i (getD w 4 0) p))
 
 -- t_i + s < d_(i+1), for i below M
 pub few-points : (ed : Edition) (w : List ℕ) → sheetTest ed w ≡ accepted → (i : ℕ) → i < getD w 4 0 →

@@ -5,18 +5,20 @@
 -- DecidingAccepts.deciding-accepts (any list of levels), RoundPolynomials, Domains, and Causal (any party that sends and asks).
 use Prim.Native.Nat.{ℕ, suc, _+_, _-_, _*_, _%_, _^_, _≤_, _<_}
 use native.Mathlib.Omega.{arith}
-use mathlib.Core.Bool.{true}
+use mathlib.Core.Bool.{true, cond}
 use mathlib.Core.List.{List, [], _∷_, _++_, map}
 use mathlib.Core.Logic.{_↔_}
+use mathlib.Core.Option.{some}
 use mathlib.Core.Path.{_≡_}
+use lib.Dec.{eqb}
 use lib.ListN.{length, getD, take, drop, replicate}
 use Rattle.definition.specs.Block.{blockCount, fileOf, streamOf}
 use Rattle.definition.specs.Deciding.{answers, outTest}
 use Rattle.definition.specs.Domain.{foldAt, point, rootNumbers, shiftPoint}
 use Rattle.definition.specs.Field.{Field, element, found, inverseOf, noInverse, power, primeField, primeOf, product, reciprocal, unknownField}
-use Rattle.definition.specs.Layout.{coinKinds, layout, message, readTranscript, wordsDue}
+use Rattle.definition.specs.Layout.{coinKinds, layout, message, out, readTranscript, wordsDue}
 use Rattle.definition.specs.Lists.{member, range}
-use Rattle.definition.specs.Load.{candidates, drawOrder, loadLines, permits, verdictOn}
+use Rattle.definition.specs.Load.{candidates, drawOrder, loadLines, permits, smallestAllowed, verdictOn}
 use Rattle.definition.specs.Polynomial.{addPoly, evaluate, foldPoly, geometric, mulPoly, points}
 use Rattle.definition.specs.Prove.{coefficientsTest, done, inputRangeTest, proveIn, refusal, sheetLengthTest}
 use Rattle.definition.specs.Prover.{honest, honestStream}
@@ -255,18 +257,23 @@ by-hand-allowed = Premises.by-hand
 -- and for every sheet without a fault and every list of d0 elements there is an allowed coin list.
 pub some-coins-allowed : (ed : Edition) (w f : List ℕ) → sheetLengthTest ed w ≡ accepted → sheetTest ed w ≡ accepted → coefficientsTest (sheetOf ed w) f ≡ accepted →
     inputRangeTest (sheetOf ed w) [] f ≡ accepted → (coins : List ℕ) × Allowed ed w f coins
-some-coins-allowed ed w f words sheet coefficients elements = (replicate (length (coinKinds (layout (sheetOf ed w)))) 0, Premises.zeros-allowed ed w f words sheet coefficients elements)
+some-coins-allowed ed w f words sheet coefficients elements = (_, Premises.plain-allowed ed w f words sheet coefficients elements)
 
 -- 10. NO ACCEPTED FILE IS SO LONG as 65,536 bytes (01, A transcript by hand), so what `check` reads is enough.
 pub accepted-short : (ed : Edition) (bytes : List ℕ) → verifyIn ed bytes .outcome ≡ accepted → length bytes < 65536
 accepted-short = FileSize.accepted-short
 
--- 11. THE STATED LOAD (02, CR 2). Whatever the generator holds, a run draws a sheet of edition 1, coefficients and coins that are allowed, and verify accepts its honest file.
+-- 11. THE STATED LOAD (02, CR 2 and 6). Whatever the generator holds, a run draws a sheet of edition 1, coefficients and coins that are allowed, and verify accepts its honest file.
 pub draws-allowed : (v : ℕ) → Allowed edition1 (drawOrder v .value .sheet) (drawOrder v .value .coefficients) (drawOrder v .value .coins)
 draws-allowed = LoadAllowed.draws-allowed
 
 pub draws-accepted : (v : ℕ) → verdictOn (drawOrder v .value) ≡ record { outcome = accepted; reads = readsDue (sheetOf edition1 (drawOrder v .value .sheet)) }
 draws-accepted = LoadAllowed.draws-accepted
+
+-- A second out coin that has no draw left becomes the smallest element allowed after the first, y: 1 where y is 0, else 0.
+pub second-coin-smallest : (ed : Edition) (w : List ℕ) → sheetLength ed ≤ length w → sheetTest ed w ≡ accepted → (i y : ℕ) → i < roundsOf (sheetOf ed w) →
+    smallestAllowed (sheetOf ed w) (some y) (out (levelOf (sheetOf ed w) (suc i))) ≡ cond (eqb 0 y) 1 0
+second-coin-smallest = Premises.smallest-second
 
 -- So for every seed other than 0 there are a thousand lines, and each begins with `accepted`.
 pub load-lines : (seed : ℕ) → (seed ≡ 0 → ⊥) → length (loadLines seed) ≡ 1000

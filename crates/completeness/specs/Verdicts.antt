@@ -2,13 +2,14 @@
 -- To read it: the definition (crate `definition`) and the vocabularies Numbered.antt and Faults.antt, which say by number what stands in a file and what a fault is.
 -- All theorems are of both editions and of every list of bytes or words, of any length and content; encode's are of edition 1, whose sheets it takes.
 use Prim.Native.Nat.{ℕ, suc, _+_, _*_, _≤_, _<_}
-use mathlib.Core.List.{List, _++_}
+use mathlib.Core.List.{List, [], _∷_, _++_, map}
 use mathlib.Core.Logic.{_↔_}
 use mathlib.Core.Path.{_≡_}
 use lib.ListN.{length, getD, drop}
 use Rattle.definition.specs.Block.{streamOf}
 use Rattle.definition.specs.Deciding.{placesOf}
 use Rattle.definition.specs.Domain.{foldAt, point, shiftPoint}
+use Rattle.definition.specs.Lists.{range}
 use Rattle.definition.specs.Polynomial.{correctedValue, distinct, evaluate}
 use Rattle.definition.specs.Prove.{done, encode, proveIn, refusal}
 use Rattle.definition.specs.Prover.{tableOf}
@@ -19,7 +20,7 @@ use Rattle.definition.specs.Verify.{verifyIn}
 use Rattle.completeness.specs.AcceptedExactly
 use Rattle.completeness.specs.Answers
 use Rattle.completeness.specs.EncodeExactly
-use Rattle.completeness.specs.Faults.{Encodable, EncodeRefusal, ProveRefusal, VerifyRefusal, FirstFault, KeepsRule, Kept, Part, PartDue, PlainSheet, SameOutside, SameWhereUsed, blockWord, blocksIn, combination, dueOf, fold, functionIn, outs, pairIn, pairsIn, partLength, partStart, partWord, readsWith, sheetIn, shifts, wordTurn, words}
+use Rattle.completeness.specs.Faults.{Encodable, EncodeRefusal, ProveRefusal, VerifyRefusal, FirstFault, KeepsRule, Kept, Part, PartDue, PlainSheet, SameOutside, SameWhereUsed, blockWord, blocksIn, combination, dueOf, fold, functionIn, numberTurn, outs, pairIn, pairsIn, partLength, partStart, partWord, readsWith, sheetIn, shifts, wordTurn, words}
 use Rattle.completeness.specs.FileByNumber
 use Rattle.completeness.specs.Numbered.{levelOf, outsOf, replies, roundsOf, sheetField, sheetRoot, table}
 use Rattle.completeness.specs.PairsByNumber
@@ -29,14 +30,21 @@ use Rattle.completeness.specs.PlainSheet
 use Rattle.completeness.specs.ReadsByNumber
 use Rattle.completeness.specs.RulesByWord
 use Rattle.completeness.specs.SameVerdict
+use Rattle.completeness.specs.VerifyExactly
 
--- 1. ACCEPTED EXACTLY. Verify accepts a file exactly when all of Kept holds: of every block, sheet word, stream word, out coin, two pairs and final index.
+-- 1. ACCEPTED EXACTLY. Verify accepts a file exactly when all of Kept holds: of every block, sheet word, stream word, out coin, two out coins of a round, two pairs and final
+-- index.
 pub accepted-exactly : (ed : Edition) (file : List ℕ) → (verifyIn ed file .outcome ≡ accepted) ↔ Kept ed file
 accepted-exactly = AcceptedExactly.accepted-exactly
 
--- REFUSED EXACTLY. It refuses a file with number n and place q exactly when there is a fault n at q, none of number n at an earlier turn and none of a smaller number.
+-- REFUSED EXACTLY. It refuses a file with number n and place q exactly when there is a fault n at q, none of number n at an earlier turn and none of a number at an earlier
+-- turn.
 pub refused-exactly : (ed : Edition) (file : List ℕ) (n q : ℕ) → (verifyIn ed file .outcome ≡ refused n q) ↔ FirstFault ed file n q
 refused-exactly = AcceptedExactly.refused-exactly
+
+-- The numbers in the order of their turns.
+pub numbers-in-order : map numberTurn (1 ∷ 2 ∷ 3 ∷ 4 ∷ 5 ∷ 6 ∷ 7 ∷ 14 ∷ 8 ∷ 9 ∷ []) ≡ range 1 10
+numbers-in-order = VerifyExactly.numbers-in-order
 
 -- 2. WHAT STANDS IN A FILE. The sheet's words are tested in the order of their turns,
 pub word-of-turn : (ed : Edition) (i : ℕ) → i < sheetLength ed → getD (testOrder ed) (wordTurn ed i) 0 ≡ i
@@ -85,11 +93,11 @@ module _ (ed : Edition) (h : Sheet) (w : List ℕ) (full : dueOf ed h ≤ length
   }
   pair-of-shift = PairsByNumber.pair-of-shift ed h w full
 
--- 3. THE ANSWERS THAT EXIST. An outcome of verify is accepted or refused, and refused with one of the numbers 1 to 9 and a place in the number's range;
+-- 3. THE ANSWERS THAT EXIST. An outcome of verify is accepted or refused, and refused with one of the numbers 1 to 9 and 14 and a place in the number's range;
 pub verify-refusals : (ed : Edition) (file : List ℕ) (n q : ℕ) → verifyIn ed file .outcome ≡ refused n q → VerifyRefusal ed file n q
 verify-refusals = Answers.verify-refusals
 
--- an answer of prove is done or a refusal, and a refusal with one of 10, 3, 5, 7 and 11;
+-- an answer of prove is done or a refusal, and a refusal with one of 10, 3, 5, 7, 14 and 11;
 pub prove-refusals : (ed : Edition) (w f coins output : List ℕ) (n q : ℕ) → proveIn ed w f coins output .answer ≡ refusal n q → ProveRefusal ed w f coins n q
 prove-refusals = Answers.prove-refusals
 
@@ -131,7 +139,7 @@ pub coin-places : (ed : Edition) (h : Sheet) (w : List ℕ) (i : ℕ) (js : List
     ≡ record { table = i; number = getD js a 0 + m * shiftCount (levelOf h i) }
 coin-places = Places.coin-places
 
--- The reads go with the outcome: k_i for each coin of level i treated, and none for 1 to 7.
+-- The reads go with the outcome: k_i for each coin of level i treated, and none for 1 to 7 and 14.
 pub verify-reads : (ed : Edition) (file : List ℕ) → verifyIn ed file .reads ≡ readsWith (sheetIn ed file) (verifyIn ed file .outcome)
 verify-reads = ReadsByNumber.verify-reads
 

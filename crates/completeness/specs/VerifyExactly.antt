@@ -4,13 +4,14 @@ use native.Mathlib.Nat.{zero-add}
 use native.Mathlib.Omega.{arith}
 use mathlib.Core.Bool.{Bool, true, false, cond, not, _||_, true≢false}
 use mathlib.Core.List.{List, [], _∷_, map, zipWith}
+use mathlib.Core.Option.{none}
 use mathlib.Core.Path.{_≡_, refl, sym, ap, _∙_, subst}
-use lib.Dec.{eqb, leb}
+use lib.Dec.{eqb, leb, ltb}
 use lib.ListN.{length, getD, drop, length-drop, length-map, List·getD-eq-default}
 use lib.Seq.{getD-drop}
-use borrow.Author.Tests.{eq-eqb, eqb-false, eqb-true, le-leb, leb-true, ne-eqb, not-true}
+use borrow.Author.Tests.{eq-eqb, eqb-false, eqb-true, le-leb, leb-true, ltb-false, ltb-true, ne-eqb, not-true}
 use Rattle.definition.specs.Block.{blockCount, fileBlocks, streamOf, wrongChecks}
-use Rattle.definition.specs.Deciding.{decide, deciding, differences, outInDomain, outTest}
+use Rattle.definition.specs.Deciding.{decide, deciding, differences, equalTest, outInDomain, outTest, outTests, repeatedOuts}
 use Rattle.definition.specs.Domain.{foldAt, shiftPoint}
 use Rattle.definition.specs.Field.{Field, primeField}
 use Rattle.definition.specs.Layout.{Kind, layout, limit, message, readTranscript, wordsDue}
@@ -21,11 +22,12 @@ use Rattle.definition.specs.Sheet.{Edition, Sheet, firstLevel, rootOfUnity, she
 use Rattle.definition.specs.Verdict.{Outcome, Verdict, _then_, accepted, refuseAt, refused, thenVerdict}
 use Rattle.definition.specs.Verify.{verifyIn}
 use Rattle.completeness.specs.DecidedByNumber.{clashes, decided, finalTests}
-use Rattle.completeness.specs.Faults.{BlocksFault, CheckFault, ClashFault, DomainFault, Fault, FillFault, FinalFault, LengthFault, NoFault, Part, PartDue, RangeFault, RuleFault, blocksIn, combination, dueOf, finals, fold, functionIn, outs, pairsIn, partLength, partLimit, partStart, partWord, partWords, sheetIn, shifts, turnOf, wordTurn, words}
+use Rattle.completeness.specs.Faults.{BlocksFault, CheckFault, ClashFault, DomainFault, EqualFault, Fault, FillFault, FinalFault, LengthFault, NoFault, Part, PartDue, RangeFault, RuleFault, blocksIn, combination, dueOf, faultsOf, finals, fold, functionIn, numberTurn, outs, pairsIn, partLength, partLimit, partStart, partWord, partWords, sheetIn, shifts, turnOf, wordTurn, words}
+use Rattle.completeness.specs.EqualByNumber
 use Rattle.completeness.specs.FileByNumber.{check-at, checks-length, stream-length}
 use Rattle.completeness.specs.FirstFaults.{Exact, exact-at, exact-if, exact-places, first-of}
 use Rattle.completeness.specs.FileSize.{short-sheet}
-use Rattle.completeness.specs.Lawful.{lawful}
+use Rattle.completeness.specs.Lawful.{Lawful, lawful}
 use Rattle.completeness.specs.LevelsByNumber.{Paired}
 use Rattle.completeness.specs.ListLaws.{getD-map, getD-map-range, range-length}
 use Rattle.completeness.specs.Numbered.{final, levelOf, roundsOf, sheetField, sheetRoot}
@@ -58,6 +60,25 @@ kind-limit h (combination i) = refl
 kind-limit h (fold i) = refl
 kind-limit h (shifts i) = refl
 kind-limit h finals = refl
+
+-- no two numbers have one turn
+pub own-turn : (m n : ℕ) → numberTurn m ≡ numberTurn n → m ≡ n
+own-turn m n e = go (eqb m 14) (eqb n 14) (ltb m 8) (ltb n 8) refl refl refl refl e
+  where
+    go : (a b c d : Bool) → eqb m 14 ≡ a → eqb n 14 ≡ b → ltb m 8 ≡ c → ltb n 8 ≡ d → cond a 8 (cond c m (suc m)) ≡ cond b 8 (cond d n (suc n)) → m ≡ n
+    go true true c d p q r s e = eqb-true m 14 p ∙ sym (eqb-true n 14 q)
+    go true false c true p q r s e = absurd (omega (arith, ltb-true n 8 s))
+    go true false c false p q r s e = absurd (omega (arith, ltb-false n 8 s))
+    go false true true d p q r s e = absurd (omega (arith, ltb-true m 8 r))
+    go false true false d p q r s e = absurd (omega (arith, ltb-false m 8 r))
+    go false false true true p q r s e = e
+    go false false true false p q r s e = absurd (omega (arith, ltb-true m 8 r, ltb-false n 8 s))
+    go false false false true p q r s e = absurd (omega (arith, ltb-false m 8 r, ltb-true n 8 s))
+    go false false false false p q r s e = omega arith
+
+pub numbers-in-order : map numberTurn (1 ∷ 2 ∷ 3 ∷ 4 ∷ 5 ∷ 6 ∷ 7 ∷ 14 ∷ 8 ∷ 9 ∷ []) ≡ range 1 10
+unfolding range
+numbers-in-order = refl
 
 -- not false
 pub is-true : (b : Bool) → ((b ≡ true → ⊥) → ⊥) → b ≡ true
@@ -96,10 +117,11 @@ module _ (ed : Edition) (file : List ℕ) where
 
   -- the outcome as one row of tests
   in-order : verifyIn ed file .outcome
-      ≡ (lengthTest file then checkTest file then sheetTest ed w then blocksTest (wordsDue ed h) (blocksIn file) then rangeTest h (sheetLength ed) (layout h) w then fillTest (wordsDue ed h) w then outTest h (sheetLength ed) (layout h) w then decision)
-  unfolding verifyIn reading streamTests bodyTests deciding wordsDue
+      ≡ (lengthTest file then checkTest file then sheetTest ed w then blocksTest (wordsDue ed h) (blocksIn file) then rangeTest h (sheetLength ed) (layout h) w then fillTest (wordsDue ed h) w then outTest h (sheetLength ed) (layout h) w then equalTest h (sheetLength ed) (layout h) w then decision)
+  unfolding verifyIn reading streamTests bodyTests deciding outTests wordsDue
   in-order =
-      then-outcome (reading ed file) (deciding ed w) ∙ ap (λ (o : Outcome). reading ed file then o) (then-outcome (outTest h (sheetLength ed) (layout h) w) _)
+      then-outcome (reading ed file) (deciding ed w)
+      ∙ ap (λ (o : Outcome). reading ed file then o) (then-outcome (outTests h (sheetLength ed) (layout h) w) _ ∙ then-assoc (outTest h (sheetLength ed) (layout h) w) _ _)
       ∙ then-assoc (lengthTest file) _ _ ∙ ap (λ (o : Outcome). lengthTest file then o) (then-assoc (checkTest file) _ _
       ∙ ap (λ (o : Outcome). checkTest file then o) (then-assoc (sheetTest ed w) _ _
       ∙ ap (λ (o : Outcome). sheetTest ed w then o) (then-assoc (blocksTest (wordsDue ed h) (blocksIn file)) _ _
@@ -162,8 +184,11 @@ module _ (ed : Edition) (file : List ℕ) where
     sheet-passes : sheetTest ed w ≡ accepted
     sheet-passes = sheet-exactly ed w .1 (λ i l. is-true _ (λ k. ruled i (l, k)))
 
+    law : Lawful h
+    law = lawful ed w (omega (arith, short-sheet ed, stream-length file, some-block)) sheet-passes
+
     pub long : Paired h
-    long = lawful ed w (omega (arith, short-sheet ed, stream-length file, some-block)) sheet-passes .paired
+    long = law .paired
 
     due : wordsDue ed h ≡ dueOf ed h
     due = due-is ed h long
@@ -281,6 +306,15 @@ module _ (ed : Edition) (file : List ℕ) where
           let m = p .2 .3 in
           failing-word (outInDomain h) (outs (p .0)) (p .1) (p .2 .0) q (p .2 .1) (p .2 .2) (point-inside (h .prime) ω (levelOf h (suc (p .0))) (m .0) (getD w q 0) (m .1) (m .2))
 
+      -- 14
+      equal-sound : (j : ℕ) → j < length (repeatedOuts none kinds (drop (sheetLength ed) w)) → getD (repeatedOuts none kinds (drop (sheetLength ed) w)) j false ≡ true →
+          EqualFault ed h w (sheetLength ed + j)
+      equal-sound = EqualByNumber.equal-sound ed h w law all-due
+
+      pub equal-complete : (q : ℕ) → EqualFault ed h w q →
+          (j : ℕ) × (q ≡ sheetLength ed + j) × (j < length (repeatedOuts none kinds (drop (sheetLength ed) w))) × (getD (repeatedOuts none kinds (drop (sheetLength ed) w)) j false ≡ true)
+      equal-complete = EqualByNumber.equal-complete ed h w law all-due
+
       -- 8
       clashes-length : length (clashes ed h w 0 M) ≡ M
       clashes-length = length-map (range 0 M) _ ∙ range-length 0 M
@@ -325,16 +359,16 @@ module _ (ed : Edition) (file : List ℕ) where
       final-complete : (q : ℕ) → FinalFault ed h w q → (j : ℕ) × (q ≡ 0 + j) × (j < length (finalTests ed h w)) × (getD (finalTests ed h w) j false ≡ true)
       final-complete q p = (q, sym (zero-add q), omega (arith, p .0, final-length), final-at q (p .0) ∙ differs _ _ (p .1))
 
-  -- there is no fault of a number past 9, and none of number 0
-  none-past : (n q : ℕ) → 10 ≤ n → P n q → ⊥
-  none-past n q l p =
-      subst (λ (f : ℕ → Type 0). f q)
-      (List·getD-eq-default (NoFault ∷ LengthFault file ∷ CheckFault file ∷ RuleFault ed w ∷ BlocksFault ed file ∷ RangeFault ed h w ∷ FillFault ed file
-      ∷ DomainFault ed h w ∷ ClashFault ed h w ∷ FinalFault ed h w ∷ []) NoFault {n = n} l) p
+  -- there is no fault at a turn past that of 9, and none at turn 0
+  none-past : (n q : ℕ) → 11 ≤ numberTurn n → P n q → ⊥
+  none-past n q l p = subst (λ (f : ℕ → Type 0). f q) (List·getD-eq-default (faultsOf ed file) NoFault {n = numberTurn n} l) p
 
-  pub numbered : (n q : ℕ) → P n q → 1 ≤ n
-  numbered zero q p = absurd p
-  numbered (suc n) q p = omega arith
+  pub numbered : (n q : ℕ) → P n q → 1 ≤ numberTurn n
+  numbered n q p = go (numberTurn n) p
+    where
+      go : (t : ℕ) → getD (faultsOf ed file) t NoFault q → 1 ≤ t
+      go zero p = absurd p
+      go (suc t) p = omega arith
 
   -- no two faults of one number have one turn
   pub apart : (n q r : ℕ) → P n q → P n r → turnOf ed n q ≡ turnOf ed n r → q ≡ r
@@ -348,18 +382,19 @@ module _ (ed : Edition) (file : List ℕ) where
       go false t f = f
 
   -- Verify finds the first fault.
-  pub exact : Exact (Fault ed file) (turnOf ed) 1 (verifyIn ed file .outcome)
-  unfolding lengthTest checkTest sheetTest blocksTest rangeTest fillTest outTest turnOf
-  exact = subst (Exact P T 1) (sym in-order)
-      (exact-if P T 1 0 wrongLength _ length-sound length-complete (λ n₁.
-      exact-at P T 2 0 (wrongChecks 0 (fileBlocks file)) _ (λ q. refl) check-sound check-complete (λ n₂.
-      exact-places P T 3 (λ j. getD (testOrder ed) j 0) (map not (sheetRules ed w)) (firstOf (testOrder ed) (map not (sheetRules ed w))) _
+  pub exact : Exact (Fault ed file) (turnOf ed) numberTurn own-turn 1 (verifyIn ed file .outcome)
+  unfolding lengthTest checkTest sheetTest blocksTest rangeTest fillTest outTest equalTest turnOf
+  exact = subst (Exact P T numberTurn own-turn 1) (sym in-order)
+      (exact-if P T numberTurn own-turn 1 0 wrongLength _ length-sound length-complete (λ n₁.
+      exact-at P T numberTurn own-turn 2 0 (wrongChecks 0 (fileBlocks file)) _ (λ q. refl) check-sound check-complete (λ n₂.
+      exact-places P T numberTurn own-turn 3 (λ j. getD (testOrder ed) j 0) (map not (sheetRules ed w)) (firstOf (testOrder ed) (map not (sheetRules ed w))) _
       (first-of (testOrder ed) (map not (sheetRules ed w)) (omega (arith, rules-length ed w, order-count ed))) rules-rise rule-sound rule-complete (λ n₃.
-      exact-if P T 4 (blockCount (wordsDue ed h)) (not (eqb (blocksIn file) (blockCount (wordsDue ed h)))) _ (blocks-sound n₁ n₃) (blocks-complete n₁ n₃) (λ n₄.
-      exact-at P T 5 (sheetLength ed) (zipWith (outOfRange h) (layout h) (drop (sheetLength ed) w)) _ (λ q. refl) (range-sound n₁ n₃ n₄) (range-complete n₁ n₃ n₄) (λ n₅.
-      exact-at P T 6 (wordsDue ed h) (map (λ (x : ℕ). not (eqb x 0)) (drop (wordsDue ed h) w)) _ (λ q. refl) (fill-sound n₁ n₃ n₄) (fill-complete n₁ n₃ n₄) (λ n₆.
-      exact-at P T 7 (sheetLength ed) (zipWith (outInDomain h) (layout h) (drop (sheetLength ed) w)) _ (λ q. refl) (domain-sound n₁ n₃ n₄) (domain-complete n₁ n₃ n₄) (λ n₇.
-      subst (Exact P T 8) (sym (decided ed h w (long n₁ n₃)))
-      (exact-at P T 8 1 (clashes ed h w 0 M) _ (λ q. refl) (clash-sound n₁ n₃ n₄) (clash-complete n₁ n₃ n₄) (λ n₈.
-      subst (Exact P T 9) (sym (then-accepted (refuseAt 9 (firstTrue 0 (finalTests ed h w)))))
-      (exact-at P T 9 0 (finalTests ed h w) accepted (λ q. refl) (final-sound n₁ n₃ n₄) (final-complete n₁ n₃ n₄) (λ n₉. none-past))))))))))))
+      exact-if P T numberTurn own-turn 4 (blockCount (wordsDue ed h)) (not (eqb (blocksIn file) (blockCount (wordsDue ed h)))) _ (blocks-sound n₁ n₃) (blocks-complete n₁ n₃) (λ n₄.
+      exact-at P T numberTurn own-turn 5 (sheetLength ed) (zipWith (outOfRange h) (layout h) (drop (sheetLength ed) w)) _ (λ q. refl) (range-sound n₁ n₃ n₄) (range-complete n₁ n₃ n₄) (λ n₅.
+      exact-at P T numberTurn own-turn 6 (wordsDue ed h) (map (λ (x : ℕ). not (eqb x 0)) (drop (wordsDue ed h) w)) _ (λ q. refl) (fill-sound n₁ n₃ n₄) (fill-complete n₁ n₃ n₄) (λ n₆.
+      exact-at P T numberTurn own-turn 7 (sheetLength ed) (zipWith (outInDomain h) (layout h) (drop (sheetLength ed) w)) _ (λ q. refl) (domain-sound n₁ n₃ n₄) (domain-complete n₁ n₃ n₄) (λ n₇.
+      exact-at P T numberTurn own-turn 14 (sheetLength ed) (repeatedOuts none (layout h) (drop (sheetLength ed) w)) _ (λ q. refl) (equal-sound n₁ n₃ n₄) (equal-complete n₁ n₃ n₄) (λ n₁₄.
+      subst (Exact P T numberTurn own-turn 9) (sym (decided ed h w (long n₁ n₃)))
+      (exact-at P T numberTurn own-turn 8 1 (clashes ed h w 0 M) _ (λ q. refl) (clash-sound n₁ n₃ n₄) (clash-complete n₁ n₃ n₄) (λ n₈.
+      subst (Exact P T numberTurn own-turn 10) (sym (then-accepted (refuseAt 9 (firstTrue 0 (finalTests ed h w)))))
+      (exact-at P T numberTurn own-turn 9 0 (finalTests ed h w) accepted (λ q. refl) (final-sound n₁ n₃ n₄) (final-complete n₁ n₃ n₄) (λ n₉. none-past)))))))))))))

@@ -4,8 +4,8 @@ use native.Mathlib.Decide.{decLt}
 use native.Mathlib.Omega.{arith}
 use mathlib.Core.List.{List, [], _∷_, _++_, append-assoc}
 use mathlib.Core.Path.{_≡_, sym, ap, _∙_}
-use lib.ListN.{length, getD, take, drop, set, replicate, getD-replicate, length-append, length-drop, length-replicate, length-take, List·getD-append}
-use lib.Seq.{drop-at, drop-drop, getD-append-add, getD-drop, getD-take, length-take-le, take-add, take-append-add, take-take}
+use lib.ListN.{length, getD, take, drop, set, replicate, getD-replicate, length-append, length-drop, length-replicate, length-take, take-append-drop, List·getD-append}
+use lib.Seq.{drop-at, drop-drop, getD-append-add, getD-drop, getD-take, length-take-le, take-add, take-at, take-take}
 use Rattle.definition.specs.Convert.{backward, bodyOf, forward, spread}
 use Rattle.definition.specs.Layout.{layout, wordsDue}
 use Rattle.definition.specs.Sheet.{edition1, edition2, sheetOf}
@@ -115,31 +115,33 @@ begins l s n d m e h =
     let k : d + (n - d) ≡ n = omega arith in
     sym (take-take m (n - d) (drop d l) (omega arith)) ∙ ap (take m) (sym (drop-take d (n - d) l) ∙ ap (λ (x : ℕ). drop d (take x l)) k ∙ ap (drop d) e)
 
-spread-long : (w : List ℕ) → 12 ≤ length w → length (spread w) ≡ 18
-unfolding spread laterFolds
-spread-long w h =
-    let p = laterFolds (getD w 4 0) (getD w 3 0) in
-    length-append (take 12 w) (p ++ (2 ∷ [])) ∙ (λ i. length-take-le 12 w h i + (length-append p (2 ∷ []) ∙ ap (λ (n : ℕ). n + 1) (later-long (getD w 4 0) (getD w 3 0))) i)
+-- the rest of a list, after the words of the new stream
+joined : (a x : List ℕ) (m : ℕ) {l₁ new : List ℕ} → l₁ ≡ a ++ x → a ++ take m x ≡ new → l₁ ≡ new ++ drop m x
+joined a x m f e = f ∙ ap (λ (y : List ℕ). a ++ y) (sym (take-append-drop m x)) ∙ sym (append-assoc a (take m x) (drop m x)) ∙ ap (λ (y : List ℕ). y ++ drop m x) e
 
--- the stream s stands from place 6 on, before its sheet is laid anew
-pub forward-words : (l s : List ℕ) (n : ℕ) {l₁ : List ℕ} {due : ℕ} → 18 ≤ length l → take n (drop 6 l) ≡ s → due ≤ length s → l₁ ≡ spread (drop 6 l) ++ drop 18 l →
-    due ≡ wordsDue edition1 (sheetOf edition1 s) → take (due + 6) l₁ ≡ forward s
+-- the stream s stands from place 6 on, and its sheet is laid anew
+pub forward-begins : (l s : List ℕ) (n : ℕ) {l₁ : List ℕ} → take n (drop 6 l) ≡ s → wordsDue edition1 (sheetOf edition1 s) ≤ length s → l₁ ≡ spread (drop 6 l) ++ drop 18 l →
+    l₁ ≡ forward s ++ drop (length (layout (sheetOf edition1 s))) (drop 18 l)
 unfolding forward bodyOf wordsDue
-forward-words l s n {l₁} {due} long e there f is =
-    let few : due ≤ n = omega (arith, ap length e, length-take n (drop 6 l)) in
+forward-begins l s n e there f =
     let m = length (layout (sheetOf edition1 s)) in
+    let few : 12 + m ≤ n = omega (arith, ap length e, length-take n (drop 6 l)) in
     let sheet : spread (drop 6 l) ≡ spread s = spread-words (drop 6 l) ∙ ap spread (begins (drop 6 l) s n 0 12 e (omega arith)) ∙ sym (spread-words s) in
-    let count : due + 6 ≡ length (spread (drop 6 l)) + m = omega (arith, spread-long (drop 6 l) (simp length-drop (omega arith))) in
-    (λ i. take (count i) (f i)) ∙ take-append-add (spread (drop 6 l)) (drop 18 l) m
-    ∙ (λ i. sheet i ++ (ap (take m) (sym (drop-drop 12 6 l)) ∙ begins (drop 6 l) s n 12 m e (omega arith)) i)
+    joined (spread (drop 6 l)) (drop 18 l) m f (λ i. sheet i ++ (ap (take m) (sym (drop-drop 12 6 l)) ∙ begins (drop 6 l) s n 12 m e few) i)
 
--- the stream s stands at the front, before its sheet is laid anew
-pub backward-words : (l s : List ℕ) (n : ℕ) {l₁ : List ℕ} {due : ℕ} → 18 ≤ length l → take n l ≡ s → due ≤ length s → l₁ ≡ take 12 l ++ drop 18 l →
-    due ≡ wordsDue edition2 (sheetOf edition2 s) → take (due - 6) l₁ ≡ backward s
+-- the stream s stands at the front, and its sheet is laid anew
+pub backward-begins : (l s : List ℕ) (n : ℕ) {l₁ : List ℕ} → take n l ≡ s → wordsDue edition2 (sheetOf edition2 s) ≤ length s → l₁ ≡ take 12 l ++ drop 18 l →
+    l₁ ≡ backward s ++ drop (length (layout (sheetOf edition2 s))) (drop 18 l)
 unfolding backward bodyOf wordsDue
-backward-words l s n {l₁} {due} long e there f is =
-    let few : due ≤ n = omega (arith, ap length e, length-take n l) in
+backward-begins l s n e there f =
     let m = length (layout (sheetOf edition2 s)) in
-    let count : due - 6 ≡ length (take 12 l) + m = omega (arith, length-take-le 12 l (omega arith)) in
-    (λ i. take (count i) (f i)) ∙ take-append-add (take 12 l) (drop 18 l) m
-    ∙ (λ i. begins l s n 0 12 e (omega arith) i ++ begins l s n 18 m e (omega arith) i)
+    let few : 18 + m ≤ n = omega (arith, ap length e, length-take n l) in
+    joined (take 12 l) (drop 18 l) m f (λ i. begins l s n 0 12 e (omega arith) i ++ begins l s n 18 m e few i)
+
+-- a list that begins with the words to write
+module _ (new rest : List ℕ) {l₁ : List ℕ} {count : ℕ} (e : l₁ ≡ new ++ rest) (n : count ≡ length new) where
+  pub begun-there : count ≤ length l₁
+  begun-there = omega (arith, ap length e, length-append new rest)
+
+  pub begun-is : take count l₁ ≡ new
+  begun-is = ap (take count) e ∙ take-at new rest count (sym n)

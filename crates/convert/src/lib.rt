@@ -2,6 +2,7 @@
 // no byte is written. The words after the sheet stay where they were read, and the sheet is laid before them.
 use edition::Edition;
 use outcome::Answer;
+use outcome::Found;
 use outcome::Outcome;
 ghost use mathlib.Core.Path.{_≡_};
 ghost use mathlib.Core.List.{_++_};
@@ -9,14 +10,14 @@ ghost use Prim.Native.Nat.{_+_, _*_, _/_, _≤_, _<_, min};
 ghost use lib.ListN.{length, getD, take, drop};
 ghost use Rattle.definition.specs.Block.{blockCount, fileOf, streamOf};
 ghost use Rattle.definition.specs.Convert.{backward as backwardOf, foldsTest, forward as forwardOf, spread, toEdition1, toEdition2};
-ghost use Rattle.definition.specs.Prove.{done, outputTest};
+ghost use Rattle.definition.specs.Prove.{done};
 ghost use Rattle.definition.specs.Reading.{reading};
 ghost use Rattle.definition.specs.Sheet.{edition1, edition2, sheetOf};
-ghost use Rattle.definition.specs.Verdict.{_then_};
-ghost use Rattle.outcome.specs.Meaning.{answerOf, outcomeOf};
+ghost use Rattle.definition.specs.Verdict.{_then_, refuseAt};
+ghost use Rattle.outcome.specs.Meaning.{answerOf, placeOf};
 ghost use Rattle.stream.specs.Overwriting.{overwrite};
 ghost use Rattle.convert.specs.Sheets.{laterFolds};
-ghost use Rattle.convert.specs.Stages.{Tested, outputFor};
+ghost use Rattle.convert.specs.Stages.{Sized, Tested, outputFor};
 
 // Places for the words of the largest file that can be accepted, 67 blocks, and one block more, after six for a longer sheet.
 fn room() -> [u32; 8642]
@@ -86,60 +87,61 @@ fn cut_sheet(words: &mut [u32])
     copy_within(words, 0, 6, 6);
 }
 
-// Refusal 13, of a sheet of edition 2: the first level whose folding number is not k_0.
-fn folds_test(w: &[u32]) -> Outcome
+// The first level of a sheet of edition 2 whose folding number is not k_0.
+fn other_fold(w: &[u32]) -> Found
     requires { ⌜ (18 ≤ length (now w)) × (getD (now w) 4 0 ≤ 5) ⌝ }
-    ensures { λ r. ⌜ outcomeOf r ≡ foldsTest (sheetOf edition2 (now (w .entry))) ⌝ }
+    ensures { λ r. ⌜ refuseAt 13 (placeOf r) ≡ foldsTest (sheetOf edition2 (now (w .entry))) ⌝ }
 {
     let first = edition::fold(Edition::Two, w, 0);
     let rounds = w[4] as usize;
     let mut i = 1;
     while i <= rounds {
         if edition::fold(Edition::Two, w, i) != first {
-            return Outcome::Refused(13, i);
+            return Found::At(i);
         }
         i += 1;
     }
-    Outcome::Accepted
+    Found::Nothing
 }
 
-// Refusal 11, of a number of words to write and the number of bytes of the output.
-fn output_test(count: usize, size: usize) -> Outcome
-    requires { ⌜ count ≤ 8515 ⌝ }
-    ensures { λ r. ⌜ outcomeOf r ≡ outputTest (blockCount count) (512 * blockCount count) size ⌝ }
+// Refusal 11, of the number of words to write and the number of bytes of the output; or that number of words.
+fn output_test(count: usize, size: usize) -> Answer
+    requires { ⌜ count ≤ 8642 ⌝ }
+    ensures { λ r. ⌜ Sized count size r ⌝ }
 {
     let blocks = (count + 126) / 127;
     if size < 512 * blocks {
-        return Outcome::Refused(11, blocks);
+        return Answer::Refusal(11, blocks);
     }
-    Outcome::Accepted
+    Answer::Done(count)
 }
 
-// All tests of the way to edition 2; `size` is the number of bytes of the output. Where they pass, the words of the file stand at the front of the places lent.
-fn forward_tests(file: &[u8], words: &mut [u32], size: usize) -> Outcome
+// All tests of the way to edition 2; `size` is the number of bytes of the output. Where they pass, the answer is the number of words to write, and the words of the
+// file stand at the front of the places lent.
+fn forward_tests(file: &[u8], words: &mut [u32], size: usize) -> Answer
     requires { ⌜ (127 * min (length (now file) / 512) 68 ≤ length (now words)) × (12 ≤ length (now words)) ⌝ }
-    ensures { λ r. ⌜ Tested (reading edition1 (now (file .entry)) then outputFor (forwardOf (streamOf (now (file .entry)))) size) (now (file .entry)) r (now (words .exit)) ⌝ }
+    ensures { λ r. ⌜ Tested (reading edition1 (now (file .entry)) then outputFor (forwardOf (streamOf (now (file .entry)))) size) (forwardOf (streamOf (now (file .entry)))) (now (file .entry)) r (now (words .exit)) ⌝ }
 {
     let read = reading::read(Edition::One, file, words);
     if let Outcome::Refused(number, place) = read {
-        return Outcome::Refused(number, place);
+        return Answer::Refusal(number, place);
     }
     output_test(sheet::words_due(Edition::One, &words[..12]) + 6, size)
 }
 
 // All tests of the way to edition 1.
-fn backward_tests(file: &[u8], words: &mut [u32], size: usize) -> Outcome
+fn backward_tests(file: &[u8], words: &mut [u32], size: usize) -> Answer
     requires { ⌜ (127 * min (length (now file) / 512) 68 ≤ length (now words)) × (18 ≤ length (now words)) ⌝ }
-    ensures { λ r. ⌜ Tested (reading edition2 (now (file .entry)) then foldsTest (sheetOf edition2 (streamOf (now (file .entry)))) then outputFor (backwardOf (streamOf (now (file .entry)))) size) (now (file .entry)) r (now (words .exit)) ⌝ }
+    ensures { λ r. ⌜ Tested ((reading edition2 (now (file .entry)) then foldsTest (sheetOf edition2 (streamOf (now (file .entry))))) then outputFor (backwardOf (streamOf (now (file .entry)))) size) (backwardOf (streamOf (now (file .entry)))) (now (file .entry)) r (now (words .exit)) ⌝ }
 {
     let read = reading::read(Edition::Two, file, words);
     if let Outcome::Refused(number, place) = read {
-        return Outcome::Refused(number, place);
+        return Answer::Refusal(number, place);
     }
     let head = &words[..18];
-    let folds = folds_test(head);
-    if let Outcome::Refused(number, place) = folds {
-        return Outcome::Refused(number, place);
+    let other = other_fold(head);
+    if let Found::At(level) = other {
+        return Answer::Refusal(13, level);
     }
     output_test(sheet::words_due(Edition::Two, head) - 6, size)
 }
@@ -161,12 +163,11 @@ fn forward(file: &[u8], words: &mut [u32], output: &mut [u8]) -> Answer
     ensures { λ r. ⌜ now (output .exit) ≡ toEdition2 (now (file .entry)) (now (output .entry)) .output ⌝ }
 {
     let tests = forward_tests(file, &mut words[6..], output.len());
-    if let Outcome::Refused(number, place) = tests {
-        return Answer::Refusal(number, place);
-    }
-    let due = sheet::words_due(Edition::One, &words[6..18]);
+    let Answer::Done(count) = tests else {
+        return tests;
+    };
     spread_sheet(words);
-    write(words, due + 6, output)
+    write(words, count, output)
 }
 
 // From edition 2 to edition 1, by way of the places lent: the new file's words stand from place 6 on.
@@ -176,12 +177,11 @@ fn backward(file: &[u8], words: &mut [u32], output: &mut [u8]) -> Answer
     ensures { λ r. ⌜ now (output .exit) ≡ toEdition1 (now (file .entry)) (now (output .entry)) .output ⌝ }
 {
     let tests = backward_tests(file, words, output.len());
-    if let Outcome::Refused(number, place) = tests {
-        return Answer::Refusal(number, place);
-    }
-    let due = sheet::words_due(Edition::Two, &words[..18]);
+    let Answer::Done(count) = tests else {
+        return tests;
+    };
     cut_sheet(words);
-    write(&words[6..], due - 6, output)
+    write(&words[6..], count, output)
 }
 
 // A file of edition 1 as one of edition 2: the answer, and the whole output as it then is. A short file is spared the clearing of many places.

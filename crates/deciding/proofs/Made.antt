@@ -6,7 +6,7 @@ use lib.ListN.{getD, take, drop}
 use Rattle.definition.specs.Polynomial.{Sample}
 use Rattle.definition.specs.Sheet.{Sheet}
 use Rattle.lists.specs.Correcting.{Correcting}
-use Rattle.rounds.specs.declared.Function.{Function}
+use Rattle.fractions.specs.declared.Function.{Function}
 use Rattle.deciding.specs.declared.Stand.{Stand}
 use Rattle.deciding.specs.Stand.{coefficientsOf, combinationOf, finalsOf, firstFunction, firstStand, foldCoinOf, foldOf, nextFold, nextFunction, nextStand, outsOf, repetitionsOf, repliesOf, shiftsOf}
 

@@ -1,55 +1,47 @@
 -- What the functions hand to each other, over plain numbers and lists: what a call requires, and what it gives, in the words of the stream.
-use Prim.Native.Nat.{ℕ, _+_, _*_, _/_, _^_, _≤_, _<_}
-use native.Mathlib.Nat.{mul-le-mul-right}
+use Prim.Native.Nat.{ℕ, _+_, _/_, _≤_, _<_}
 use native.Mathlib.Omega.{arith}
 use mathlib.Core.Path.{_≡_, refl, sym, ap, _∙_, subst}
 use mathlib.Core.List.{List, zipWith}
 use mathlib.Core.Option.{Option, none, some}
-use lib.ListN.{length, getD, take, drop}
-use lib.Pow.{pow-pos}
-use lib.Seq.{length-take-le}
+use lib.ListN.{length, getD, drop}
 use Rattle.completeness.specs.Numbered.{roundsOf}
-use Rattle.completeness.specs.Tests.{at-none, at-passes}
-use Rattle.definition.specs.Deciding.{decide, deciding, outInDomain, outTest}
+use Rattle.completeness.specs.Tests.{at-passes, then-passes}
+use Rattle.definition.specs.Deciding.{decide, deciding, outInDomain, outTest, outTests}
 use Rattle.definition.specs.Field.{fieldOf, primeField}
 use Rattle.definition.specs.Layout.{layout, readTranscript, wordsDue}
 use Rattle.definition.specs.Lists.{firstTrue}
 use Rattle.definition.specs.Polynomial.{Sample, pair}
 use Rattle.definition.specs.Reading.{rangeTest, sheetTest}
 use Rattle.definition.specs.Sheet.{Edition, Sheet, firstLevel, rootOfUnity, sheetLength, sheetOf}
-use Rattle.definition.specs.Verdict.{Verdict, accepted, refuseAt, refused, thenVerdict}
+use Rattle.definition.specs.Verdict.{Outcome, Verdict, accepted, refused, thenVerdict}
 use Rattle.domain.specs.OfSheet.{fitting}
 use Rattle.domain.specs.Powers.{Fitting, Powers}
 use Rattle.outcome.specs.declared.Found.{Found}
 use Rattle.outcome.specs.declared.Found.the-variants.{At, Nothing}
-use Rattle.outcome.specs.Meaning.{placeOf}
+use Rattle.outcome.specs.declared.Outcome.{Outcome as Tested}
+use Rattle.outcome.specs.declared.Outcome.the-variants.{Accepted, Refused}
+use Rattle.outcome.specs.Meaning.{outcomeOf, placeOf}
 use Rattle.lists.specs.Correcting.{Columned, Correcting}
 use Rattle.samples.specs.declared.Gathered.{Gathered}
 use Rattle.samples.specs.declared.Gathered.the-variants.{Clash, From}
 use Rattle.samples.specs.Samples.{Room, kept}
 use Rattle.samples.specs.Answers.{kept-clash, kept-from}
-use Rattle.rounds.specs.declared.Function.{Function}
-use Rattle.rounds.specs.Round.{Below, Clear, Fits}
+use Rattle.fractions.specs.declared.Function.{Function}
+use Rattle.fractions.specs.Values.{Below, Clear, Fits}
 use Rattle.rounds.specs.RoundLaws.{Answered, Compared, Serves}
 use Rattle.deciding.specs.declared.Stand.{Stand}
 use Rattle.algebra.specs.Different.{Apart}
 use Rattle.deciding.specs.Divisors.{samples-apart}
-use Rattle.deciding.specs.First.{first-room, first-step, placed-first, range-after, served-first, shaped, sheet-there, standing-first, written}
+use Rattle.deciding.specs.First.{first-room, first-step, range-after, served-first, shaped, sheet-there, standing-first, written}
 use Rattle.deciding.specs.Inside.{standing-next}
-use Rattle.deciding.specs.Outs.{Scaled, outs-first, scaled-first}
-use Rattle.deciding.specs.Stand.{afterFold, coefficientsOf, combinationOf, finalsOf, firstFunction, firstStand, foldCoinOf, foldOf, kindsAfterFold, nextDegree, nextFold, nextFunction, nextStand, outsFrom, outsOf, repetitionsOf, repliesOf, shiftsOf, tableOf}
-use Rattle.deciding.specs.Standing.{Decided, Differing, FinalInside, Placed, RoundInside, Served, Shaped, Sifted, Standing, Written}
+use Rattle.deciding.specs.Outs.{outs-first}
+use Rattle.deciding.specs.Stand.{afterFold, coefficientsOf, combinationOf, finalsOf, firstFunction, firstStand, foldCoinOf, foldOf, kindsAfterFold, nextDegree, nextFold, nextFunction, nextStand, outsOf, repetitionsOf, repliesOf, shiftsOf, tableOf}
+use Rattle.deciding.specs.Standing.{Decided, Differing, FinalInside, RoundInside, Served, Shaped, Sifted, Standing, Written}
 use Rattle.deciding.specs.Steps.{clash-step, next-step, part-length, served-next}
-
--- the first k of 16 places are k
-pub first-k : (k : ℕ) (l : List ℕ) → length l ≡ 16 → k ≤ 16 → length (take k l) ≡ k
-first-k k l e h = length-take-le k l (omega arith)
 
 pub not-last : (level last word : ℕ) → word ≡ last → level ≤ last → (level ≡ word → ⊥) → level < last
 not-last level last word e h d = omega arith
-
-pub scale-some : (scale level : ℕ) → scale ≡ 2 ^ level → 0 < 2 * scale
-scale-some scale level e = omega (arith, e, pow-pos level)
 
 -- ---- parts of the words, by another name
 
@@ -106,13 +98,6 @@ module _ (h : Sheet) (w : List ℕ) {points answers factors : ℕ} (st : Stand) 
         fits-table table et ek,
         (subst (λ (n : ℕ). Below n finals) (sym (ok .step)) (subst (λ (js : List ℕ). Below (st .size / foldOf h st) js) (sym ef) (i .below)), omega (arith, nf, i .numbers .few)),
       )
-
--- places for the fractions, for as many values
-pub sizes-for : {n t b f k k′ : ℕ} → k ≡ k′ → (n * k ≤ t) × ((n * k ≤ b) × ((n * k ≤ f) × (n ≤ 4096))) → (n * k′ ≤ t) × ((n * k′ ≤ b) × ((n * k′ ≤ f) × (n ≤ 4096)))
-sizes-for e h = rw (sym e) h
-
-pub most-places : (n k : ℕ) → n ≤ 50 → k ≤ 16 → n * k ≤ 800
-most-places n k l h = omega (arith, mul-le-mul-right k l)
 
 -- ---- answers
 
@@ -232,37 +217,24 @@ module _ (ed : Edition) (w : List ℕ) (passed : sheetTest ed w ≡ accepted) (d
         (subst (λ (y : ℕ). Decided h w pw ac vg (firstStand from h) y (firstFunction h) v) (er ∙ ap (λ (n : ℕ). getD w (from + n) 0) (sheet-written .size))
         (subst (λ (x : Function). Decided h w pw ac vg (firstStand from h) r x v) eh (subst (λ (x : Stand). Decided h w pw ac vg x r how v) es d)))
 
-  module _ (pw : List ℕ) (ranged : rangeTest (sheetOf ed w) (sheetLength ed) (layout (sheetOf ed w)) w ≡ accepted) (size : length pw ≡ getD w 1 0)
-      (st : Stand) (es : st ≡ firstStand (sheetLength ed) (sheetOf ed w)) where
-    pub outs-ready : Placed (sheetOf ed w) w st × Scaled (length pw) st 1
-    outs-ready = (
-      subst (Placed h w) (sym es) (placed-first from h w words-from sheet-shaped (range-rest ranged)),
-      subst (λ (x : Stand). Scaled (length pw) x 1) (sym es) (scaled-first (length pw) from h (size ∙ sheet-written .size)),
-    )
+-- ---- the tests of out coins, then the rest
 
-    pub outs-start : {v : Option ℕ} → v ≡ outsFrom (sheetOf ed w) w st →
-        v ≡ firstTrue (sheetLength ed) (zipWith (outInDomain (sheetOf ed w)) (layout (sheetOf ed w)) (drop (sheetLength ed) w))
-    outs-start e = e ∙ ap (outsFrom h w) es ∙ outs-first from h w words-from
-
--- ---- refusal 7, then the rest
-
-module _ (ed : Edition) (w : List ℕ) (f : Found)
-    (first : placeOf f ≡ firstTrue (sheetLength ed) (zipWith (outInDomain (sheetOf ed w)) (layout (sheetOf ed w)) (drop (sheetLength ed) w))) where
+module _ (ed : Edition) (w : List ℕ) (r : Tested) (tested : outcomeOf r ≡ outTests (sheetOf ed w) (sheetLength ed) (layout (sheetOf ed w)) w) where
   abbrev decided : Verdict
   decided = decide (primeField (sheetOf ed w .prime)) (rootOfUnity (sheetOf ed w)) (firstLevel (sheetOf ed w)) (readTranscript (sheetOf ed w) (drop (sheetLength ed) w))
 
-  by-place : (o : Option ℕ) → placeOf f ≡ o → deciding ed w ≡ thenVerdict (refuseAt 7 o) decided
-  unfolding deciding outTest
-  by-place o e = ap (λ (x : Option ℕ). thenVerdict (refuseAt 7 x) decided) (sym first ∙ e)
+  by-outcome : (o : Outcome) → outcomeOf r ≡ o → deciding ed w ≡ thenVerdict o decided
+  unfolding deciding
+  by-outcome o e = ap (λ (x : Outcome). thenVerdict x decided) (sym tested ∙ e)
 
-  pub out-refused : {i : ℕ} → f ≡ At i → record { outcome = refused 7 i; reads = 0 } ≡ deciding ed w
-  unfolding placeOf thenVerdict refuseAt
-  out-refused {i} e = sym (by-place (some i) (ap placeOf e))
+  pub out-refused : {number place : ℕ} → r ≡ Refused number place → record { outcome = refused number place; reads = 0 } ≡ deciding ed w
+  unfolding outcomeOf thenVerdict
+  out-refused {number} {place} e = sym (by-outcome (refused number place) (ap outcomeOf e))
 
-  pub out-passed : {v : Verdict} → f ≡ Nothing → v ≡ decided → v ≡ deciding ed w
-  unfolding placeOf thenVerdict refuseAt
-  out-passed e d = d ∙ sym (by-place none (ap placeOf e))
+  pub out-passed : {v : Verdict} → r ≡ Accepted → v ≡ decided → v ≡ deciding ed w
+  unfolding outcomeOf thenVerdict
+  out-passed e d = d ∙ sym (by-outcome accepted (ap outcomeOf e))
 
-  pub outside-passed : f ≡ Nothing → outTest (sheetOf ed w) (sheetLength ed) (layout (sheetOf ed w)) w ≡ accepted
-  unfolding placeOf outTest
-  outside-passed e = at-none 7 _ (sym first ∙ ap placeOf e)
+  pub outside-passed : r ≡ Accepted → outTest (sheetOf ed w) (sheetLength ed) (layout (sheetOf ed w)) w ≡ accepted
+  unfolding outcomeOf outTests
+  outside-passed e = then-passes _ _ (sym tested ∙ ap outcomeOf e) .0

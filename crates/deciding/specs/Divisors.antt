@@ -30,9 +30,9 @@ use Rattle.domain.specs.OutCoins.{firstInside, orElse}
 use Rattle.lists.specs.Correcting.{Correcting}
 use Rattle.polynomial.specs.Pairs.{points-pair}
 use Rattle.samples.specs.SampleLaws.{sifted-some}
-use Rattle.rounds.specs.declared.Function.{Function}
-use Rattle.rounds.specs.PointsIn.{pointIn, point-in}
-use Rattle.rounds.specs.Round.{Clear, point-room}
+use Rattle.fractions.specs.declared.Function.{Function}
+use Rattle.folds.specs.PointsIn.{pointIn, point-in}
+use Rattle.fractions.specs.Values.{Clear, point-room}
 use Rattle.rounds.specs.RoundLaws.{opposite-signs}
 use Rattle.deciding.specs.declared.Stand.{Stand}
 use Rattle.deciding.specs.Begins.{begins-after, begins-front, begins-run}

@@ -20,7 +20,7 @@ use Rattle.definition.specs.Sheet.{Edition, Level, Sheet, firstLevel, foldWords
 use Rattle.definition.specs.Verdict.{Verdict, accepted}
 use Rattle.domain.specs.Powers.{Powers}
 use Rattle.rounds.specs.NextRound.{serves-first}
-use Rattle.rounds.specs.Round.{Fits}
+use Rattle.fractions.specs.Values.{Fits}
 use Rattle.rounds.specs.RoundLaws.{Serves}
 use Rattle.deciding.specs.declared.Stand.{Stand}
 use Rattle.deciding.specs.Begins.{Begins, begins-tested, tested-after}

@@ -16,8 +16,8 @@ use Rattle.completeness.specs.SheetLevels.{sized}
 use Rattle.definition.specs.Layout.{coin, index, laterCount, limit, message, out, restLayout, roundLayout}
 use Rattle.definition.specs.Sheet.{Edition, Level, Sheet, finalCount, shiftCount}
 use Rattle.lists.specs.Correcting.{Columned}
-use Rattle.rounds.specs.declared.Function.{Function}
-use Rattle.rounds.specs.Round.{Below, Fits}
+use Rattle.fractions.specs.declared.Function.{Function}
+use Rattle.fractions.specs.Values.{Below, Fits}
 use Rattle.deciding.specs.declared.Stand.{Stand}
 use Rattle.deciding.specs.Begins.{Begins, begins-after, begins-front, begins-long, begins-run, begins-tail}
 use Rattle.deciding.specs.Stand.{finalsOf, foldOf, kindsOf, levelOf, levelsOf, nextDegree, nextFold, nextFunction, nextSize, nextStand, repetitionsOf, shiftsAt, shiftsOf}

@@ -1,11 +1,9 @@
 -- The out coins that lie in their domains: the first from a place on, which is that of the definition's layout.
-use Prim.Native.Nat.{ℕ, _+_, _*_, _/_, _^_, _≤_, _<_}
-use native.Mathlib.Nat.{div-div-eq-div-mul}
+use Prim.Native.Nat.{ℕ, _+_, _≤_, _<_}
 use native.Mathlib.Omega.{arith}
 use mathlib.Core.Path.{_≡_, refl, sym, ap, _∙_}
 use mathlib.Core.Bool.{false}
 use mathlib.Core.List.{List, [], _∷_, _++_, zipWith, append-assoc}
-use mathlib.Core.Option.{Option, none}
 use lib.ListN.{length, getD, drop, replicate, length-append, length-replicate}
 use Rattle.algebra.specs.ListFacts.{all-append}
 use Rattle.completeness.specs.Numbered.{roundsOf}
@@ -13,25 +11,16 @@ use Rattle.definition.specs.Deciding.{outInDomain}
 use Rattle.definition.specs.Field.{fieldOf, primeField, primeOf}
 use Rattle.definition.specs.Layout.{Kind, coin, index, layout, message, out, restLayout, roundLayout}
 use Rattle.definition.specs.Lists.{firstTrue}
-use Rattle.definition.specs.Sheet.{Level, Sheet, finalCount, rootOfUnity, shiftCount}
-use Rattle.domain.specs.OutCoins.{FirstInside, all-quiet, coin-quiet, firstInside, indices-quiet, messages-quiet, orElse, outs-run, quiet}
-use Rattle.domain.specs.Powers.{Powers}
+use Rattle.definition.specs.Sheet.{Level, Sheet, rootOfUnity, shiftCount}
+use Rattle.domain.specs.OutCoins.{coin-quiet, firstInside, indices-quiet, messages-quiet, orElse, outs-run, quiet}
 use Rattle.deciding.specs.declared.Stand.{Stand}
 use Rattle.deciding.specs.First.{first-kinds, first-room}
-use Rattle.deciding.specs.Inside.{scale-next, words-there}
+use Rattle.deciding.specs.Inside.{words-there}
 use Rattle.deciding.specs.Stand.{afterFold, firstStand, kindsAfterFold, kindsOf, levelOf, nextSize, nextStand, outsAt, outsFrom, repetitionsOf, repliesAt}
 use Rattle.deciding.specs.Standing.{Placed}
-use Rattle.deciding.specs.Words.{levels-end, levels-next}
+use Rattle.deciding.specs.Words.{levels-next}
 
 module _ (h : Sheet) (w : List ℕ) (st : Stand) (ok : Placed h w st) where
-  pub outs-last : st .level ≡ roundsOf h → outsFrom h w st ≡ none
-  unfolding outsFrom restLayout
-  outs-last end =
-      let b = levelOf h st in
-      ap (λ (ls : List Level). firstTrue (st .at) (zipWith (outInDomain h) (restLayout (h .outCoins) b ls) (drop (st .at) w))) (levels-end h st (ok .sheet .law .paired) end)
-      ∙ all-quiet (outInDomain h) (replicate (finalCount b) message ++ replicate (b .repetitions) (index (shiftCount b))) (drop (st .at) w) (st .at)
-      (all-append (λ k. (x : ℕ) → outInDomain h k x ≡ false) (replicate (finalCount b) message) _ (messages-quiet h (finalCount b)) (indices-quiet h (b .repetitions) (shiftCount b)))
-
   regroup : (m o p r : List Kind) → (m ++ (o ++ p)) ++ r ≡ m ++ (o ++ (p ++ r))
   regroup m o p r = append-assoc m (o ++ p) r ∙ ap {B = List Kind} (λ x. m ++ x) (append-assoc o p r)
 
@@ -77,31 +66,3 @@ module _ (from : ℕ) (h : Sheet) (w : List ℕ) (due : from + length (layout h)
 
   pub outs-first : outsFrom h w (firstStand from h) ≡ firstTrue from (zipWith (outInDomain h) (layout h) (drop from w))
   outs-first = outs-rest ∙ sym outs-all
-
--- ---- the scale of a level in the table of points
-
-pub record Scaled (points : ℕ) (st : Stand) (scale : ℕ) : Type 0 where
-  pub power : scale ≡ 2 ^ st .level
-  pub size : st .size ≡ points / scale
-
-pub scaled-first : (points from : ℕ) (h : Sheet) → points ≡ h .size → Scaled points (firstStand from h) 1
-unfolding firstStand
-scaled-first points from h e = record { power = refl; size = omega arith }
-
-pub scaled-next : (points : ℕ) (h : Sheet) (st : Stand) (scale : ℕ) → Scaled points st scale → Scaled points (nextStand h st) (2 * scale)
-unfolding nextStand
-scaled-next points h st scale r =
-    let e : scale * 2 ≡ 2 * scale = omega arith in
-    record {
-      power = scale-next scale (st .level) (r .power);
-      size = ap (λ (n : ℕ). n / 2) (r .size) ∙ div-div-eq-div-mul points scale 2 ∙ ap (λ (n : ℕ). points / n) e;
-    }
-
--- the run of a round's out coins
-pub round-outs : (h : Sheet) (w pw : List ℕ) (st : Stand) (scale : ℕ) {v : Option ℕ} → Scaled (length pw) st scale → Powers (getD w 0 0) (rootOfUnity h) pw →
-    FirstInside w pw (2 * scale) (outsAt st) (h .outCoins) v →
-    v ≡ firstInside (getD w 0 0) (rootOfUnity h) (levelOf h (nextStand h st)) w (outsAt st) (h .outCoins)
-unfolding levelOf
-round-outs h w pw st scale r p f =
-    let n = scaled-next (length pw) h st scale r in
-    f (getD w 0 0) (rootOfUnity h) (levelOf h (nextStand h st)) p (sym (n .power)) (n .size)

@@ -8,7 +8,7 @@ use Rattle.definition.specs.Layout.{Kind, readRest, restLayout}
 use Rattle.definition.specs.Lists.{firstTrue}
 use Rattle.definition.specs.Sheet.{Level, Sheet, firstLevel, laterLevels, levelsFrom}
 use Rattle.definition.specs.Transcript.{Round, Rest}
-use Rattle.rounds.specs.declared.Function.{Function}
+use Rattle.fractions.specs.declared.Function.{Function}
 use Rattle.deciding.specs.declared.Stand.{Stand}
 
 -- the level's folding number and repetitions

@@ -11,8 +11,8 @@ use Rattle.definition.specs.Field.{fieldOf, primeOf}
 use Rattle.definition.specs.Polynomial.{Sample}
 use Rattle.definition.specs.Sheet.{Edition, Sheet, foldWords, rootOfUnity, sheetLength}
 use Rattle.definition.specs.Verdict.{Verdict}
-use Rattle.rounds.specs.declared.Function.{Function}
-use Rattle.rounds.specs.Round.{Below, Clear, Fits}
+use Rattle.fractions.specs.declared.Function.{Function}
+use Rattle.fractions.specs.Values.{Below, Clear, Fits}
 use Rattle.rounds.specs.RoundLaws.{Answered, Compared, Serves}
 use Rattle.deciding.specs.declared.Stand.{Stand}
 use Rattle.deciding.specs.Begins.{Begins}

@@ -21,10 +21,10 @@ use Rattle.definition.specs.Verdict.{Verdict, accepted, refuseAt, refused}
 use Rattle.domain.specs.OutCoins.{first-below}
 use Rattle.lists.specs.Correcting.{Correcting}
 use Rattle.samples.specs.SampleLaws.{sifted-none, sifted-some}
-use Rattle.rounds.specs.declared.Function as how
+use Rattle.fractions.specs.declared.Function as how
 use Rattle.rounds.specs.NextRound.{serves-next}
 use Rattle.rounds.specs.Reads.{reads-add, reads-all, reads-are, reads-until}
-use Rattle.rounds.specs.Round.{Fits}
+use Rattle.fractions.specs.Values.{Fits}
 use Rattle.rounds.specs.RoundLaws.{Serves}
 use Rattle.deciding.specs.declared.Stand.{Stand}
 use Rattle.deciding.specs.Divisors.{clear-next, outside-next}

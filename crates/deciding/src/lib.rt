@@ -1,34 +1,30 @@
-// Deciding, of the words w of a stream of edition e that passes reading: refusals 7 to 9, and the reads. pw is the table of the points of domain 0.
+// Deciding, of the words w of a stream of edition e that passes reading: refusals 7, 14, 8 and 9, and the reads. pw is the table of the points of domain 0.
 use edition::Edition;
+use fractions::Function;
 use outcome::Found;
 use outcome::Outcome;
 use outcome::Verdict;
-use rounds::Function;
 use samples::Gathered;
 ghost use mathlib.Core.Path.{_≡_};
-ghost use mathlib.Core.List.{zipWith};
 ghost use Prim.Native.Nat.{_+_, _*_, _/_, _≤_, _<_};
-ghost use lib.ListN.{length, getD, take, drop};
-ghost use Rattle.definition.specs.Deciding.{decide as decideBy, deciding as decidingOf, outInDomain, outTest};
+ghost use lib.ListN.{length, getD, drop};
+ghost use Rattle.definition.specs.Deciding.{decide as decideBy, deciding as decidingOf, outTest};
 ghost use Rattle.definition.specs.Field.{primeField, fieldOf};
 ghost use Rattle.definition.specs.Polynomial.{pair};
 ghost use Rattle.algebra.specs.Different.{Apart};
 ghost use Rattle.completeness.specs.Numbered.{roundsOf};
 ghost use Rattle.lists.specs.Correcting.{Columned, Correcting};
 ghost use Rattle.definition.specs.Layout.{layout, readTranscript, wordsDue};
-ghost use Rattle.definition.specs.Lists.{firstTrue};
 ghost use Rattle.definition.specs.Reading.{rangeTest, sheetTest};
 ghost use Rattle.definition.specs.Sheet.{firstLevel, rootOfUnity, sheetLength, sheetOf};
 ghost use Rattle.definition.specs.Verdict.{accepted};
 ghost use Rattle.domain.specs.Powers.{Powers};
 ghost use Rattle.edition.specs.Meaning.{editionOf};
 ghost use Rattle.outcome.specs.Meaning.{placeOf, verdictOf};
-ghost use Rattle.rounds.specs.Round.{Fits, Below, Clear};
-ghost use Rattle.rounds.specs.RoundLaws.{Answered, Compared};
+ghost use Rattle.fractions.specs.Values.{Clear};
 ghost use Rattle.samples.specs.Samples.{kept, Room};
-ghost use Rattle.deciding.specs.Stand.{afterFold, combinationOf, firstFunction, firstStand, foldCoinOf, kindsAfterFold, nextFold, nextFunction, nextStand, outsFrom};
-ghost use Rattle.deciding.specs.Standing.{Decided, Differing, FinalInside, Placed, RoundInside, Served, Shaped, Sifted, Standing, Written};
-ghost use Rattle.deciding.specs.Outs.{Scaled};
+ghost use Rattle.deciding.specs.Stand.{afterFold, combinationOf, firstFunction, firstStand, foldCoinOf, kindsAfterFold, nextFold, nextFunction, nextStand};
+ghost use Rattle.deciding.specs.Standing.{Decided, Differing, FinalInside, RoundInside, Served, Shaped, Sifted, Standing, Written};
 
 // A place: the level's number, domain size and degree bound, where its table and the words after its fold coin begin, and the reads so far. It holds no
 // element: the level's fold coin is handed on beside it.
@@ -46,13 +42,6 @@ fn room() -> [u32; 50]
     ensures { λ r. ⌜ length r ≡ 50 ⌝ }
 {
     [0u32; 50]
-}
-
-// Places for the values at the roots of a shift point, at most 16.
-fn roots() -> [u32; 16]
-    ensures { λ r. ⌜ length r ≡ 16 ⌝ }
-{
-    [0u32; 16]
 }
 
 // The first place: at level 0, after fold coin 0.
@@ -156,137 +145,6 @@ fn correction(
     )
 }
 
-// Places for the fractions of a round, at most 50 coins with 16 roots each; and for those of a small one.
-fn many() -> [u32; 800]
-    ensures { λ r. ⌜ length r ≡ 800 ⌝ }
-{
-    [0u32; 800]
-}
-
-fn few() -> [u32; 64]
-    ensures { λ r. ⌜ length r ≡ 64 ⌝ }
-{
-    [0u32; 64]
-}
-
-// G of a round in the last places of px and py, with places of its own for k values. The caller lends places for the fractions.
-fn answer_in(
-    field: u32,
-    pw: &[u32],
-    table: &[u32],
-    ac: &[u32],
-    vg: &[u32],
-    how: Function,
-    k: usize,
-    r: u32,
-    shifts: &[u32],
-    outs: &[u32],
-    replies: &[u32],
-    tops: &mut [u32],
-    bottoms: &mut [u32],
-    behind: &mut [u32],
-    px: &mut [u32],
-    py: &mut [u32],
-) -> Gathered
-    requires { ⌜ (length (now ac) ≡ 66) × ((length (now vg) ≡ 132) × (Clear field (now pw) (length (now table)) (now vg) how)) ⌝ }
-    requires { ⌜ Fits (length (now pw)) (length (now table)) how k ⌝ }
-    requires { ⌜ Below (how .step) (now shifts) ⌝ }
-    requires { ⌜ (length (now py) ≡ length (now px)) × ((length (now replies) ≡ length (now outs)) × (length (now outs) + length (now shifts) ≤ length (now px))) ⌝ }
-    requires { ⌜ (length (now shifts) * k ≤ length (now tops)) × ((length (now shifts) * k ≤ length (now bottoms)) × ((length (now shifts) * k ≤ length (now behind)) × (length (now shifts) ≤ 4096))) ⌝ }
-    ensures { λ v. ⌜ Answered field (now (pw .entry)) (now (table .entry)) (now (ac .entry)) (now (vg .entry)) how k r (now (shifts .entry)) (now (outs .entry)) (now (replies .entry)) (kept v (now (px .exit)) (now (py .exit))) ⌝ }
-    ensures { λ v. ⌜ Room (length (now (px .entry))) (length (now (outs .entry)) + length (now (shifts .entry))) v ⌝ }
-{
-    let mut values = roots();
-    rounds::answer(
-        field,
-        pw,
-        table,
-        ac,
-        vg,
-        how,
-        r,
-        shifts,
-        outs,
-        replies,
-        &mut values[..k],
-        tops,
-        bottoms,
-        behind,
-        px,
-        py,
-    )
-}
-
-// G of a round in the last places of px and py.
-fn answer(
-    field: u32,
-    pw: &[u32],
-    table: &[u32],
-    ac: &[u32],
-    vg: &[u32],
-    how: Function,
-    k: usize,
-    r: u32,
-    shifts: &[u32],
-    outs: &[u32],
-    replies: &[u32],
-    px: &mut [u32],
-    py: &mut [u32],
-) -> Gathered
-    requires { ⌜ (length (now ac) ≡ 66) × ((length (now vg) ≡ 132) × (Clear field (now pw) (length (now table)) (now vg) how)) ⌝ }
-    requires { ⌜ Fits (length (now pw)) (length (now table)) how k ⌝ }
-    requires { ⌜ Below (how .step) (now shifts) ⌝ }
-    requires { ⌜ (length (now py) ≡ length (now px)) × ((length (now replies) ≡ length (now outs)) × (length (now outs) + length (now shifts) ≤ length (now px))) ⌝ }
-    requires { ⌜ length (now px) ≤ 50 ⌝ }
-    ensures { λ v. ⌜ Answered field (now (pw .entry)) (now (table .entry)) (now (ac .entry)) (now (vg .entry)) how k r (now (shifts .entry)) (now (outs .entry)) (now (replies .entry)) (kept v (now (px .exit)) (now (py .exit))) ⌝ }
-    ensures { λ v. ⌜ Room (length (now (px .entry))) (length (now (outs .entry)) + length (now (shifts .entry))) v ⌝ }
-{
-    if shifts.len() * k <= 64 {
-        let mut tops = few();
-        let mut bottoms = few();
-        let mut behind = few();
-        return answer_in(
-            field,
-            pw,
-            table,
-            ac,
-            vg,
-            how,
-            k,
-            r,
-            shifts,
-            outs,
-            replies,
-            &mut tops,
-            &mut bottoms,
-            &mut behind,
-            px,
-            py,
-        );
-    }
-    let mut tops = many();
-    let mut bottoms = many();
-    let mut behind = many();
-    answer_in(
-        field,
-        pw,
-        table,
-        ac,
-        vg,
-        how,
-        k,
-        r,
-        shifts,
-        outs,
-        replies,
-        &mut tops,
-        &mut bottoms,
-        &mut behind,
-        px,
-        py,
-    )
-}
-
 // G of the next round, from the words, with the level's fold coin.
 fn round_at(
     e: Edition,
@@ -311,7 +169,7 @@ fn round_at(
     let t = w[6 + stand.level] as usize;
     let outs = stand.at + stand.size / 2;
     let replies = outs + s;
-    answer(
+    answers::answer(
         w[0],
         pw,
         lists::part(w, stand.table, stand.size),
@@ -325,104 +183,6 @@ fn round_at(
         lists::part(w, replies, s),
         px,
         py,
-    )
-}
-
-// The first final index at which the final polynomial differs, with places of its own for k values. The caller lends places for the fractions.
-fn difference_in(
-    field: u32,
-    pw: &[u32],
-    table: &[u32],
-    ac: &[u32],
-    vg: &[u32],
-    how: Function,
-    k: usize,
-    r: u32,
-    coefficients: &[u32],
-    finals: &[u32],
-    tops: &mut [u32],
-    bottoms: &mut [u32],
-    behind: &mut [u32],
-) -> Found
-    requires { ⌜ (length (now ac) ≡ 66) × ((length (now vg) ≡ 132) × (Clear field (now pw) (length (now table)) (now vg) how)) ⌝ }
-    requires { ⌜ Fits (length (now pw)) (length (now table)) how k ⌝ }
-    requires { ⌜ Below (how .step) (now finals) ⌝ }
-    requires { ⌜ (length (now finals) * k ≤ length (now tops)) × ((length (now finals) * k ≤ length (now bottoms)) × ((length (now finals) * k ≤ length (now behind)) × (length (now finals) ≤ 4096))) ⌝ }
-    ensures { λ v. ⌜ Compared field (now (pw .entry)) (now (table .entry)) (now (ac .entry)) (now (vg .entry)) how k r (now (coefficients .entry)) (now (finals .entry)) (placeOf v) ⌝ }
-{
-    let mut values = roots();
-    rounds::first_difference(
-        field,
-        pw,
-        table,
-        ac,
-        vg,
-        how,
-        r,
-        coefficients,
-        finals,
-        &mut values[..k],
-        tops,
-        bottoms,
-        behind,
-    )
-}
-
-// The first final index at which the final polynomial differs.
-fn difference(
-    field: u32,
-    pw: &[u32],
-    table: &[u32],
-    ac: &[u32],
-    vg: &[u32],
-    how: Function,
-    k: usize,
-    r: u32,
-    coefficients: &[u32],
-    finals: &[u32],
-) -> Found
-    requires { ⌜ (length (now ac) ≡ 66) × ((length (now vg) ≡ 132) × (Clear field (now pw) (length (now table)) (now vg) how)) ⌝ }
-    requires { ⌜ Fits (length (now pw)) (length (now table)) how k ⌝ }
-    requires { ⌜ (Below (how .step) (now finals)) × (length (now finals) ≤ 50) ⌝ }
-    ensures { λ v. ⌜ Compared field (now (pw .entry)) (now (table .entry)) (now (ac .entry)) (now (vg .entry)) how k r (now (coefficients .entry)) (now (finals .entry)) (placeOf v) ⌝ }
-{
-    if finals.len() * k <= 64 {
-        let mut tops = few();
-        let mut bottoms = few();
-        let mut behind = few();
-        return difference_in(
-            field,
-            pw,
-            table,
-            ac,
-            vg,
-            how,
-            k,
-            r,
-            coefficients,
-            finals,
-            &mut tops,
-            &mut bottoms,
-            &mut behind,
-        );
-    }
-    let mut tops = many();
-    let mut bottoms = many();
-    let mut behind = many();
-    difference_in(
-        field,
-        pw,
-        table,
-        ac,
-        vg,
-        how,
-        k,
-        r,
-        coefficients,
-        finals,
-        &mut tops,
-        &mut bottoms,
-        &mut behind,
     )
 }
 
@@ -445,7 +205,7 @@ fn final_at(
     let k = edition::fold(e, w, stand.level);
     let t = w[6 + stand.level] as usize;
     let d = stand.degree / k;
-    difference(
+    answers::difference(
         w[0],
         pw,
         lists::part(w, stand.table, stand.size),
@@ -557,44 +317,17 @@ pub fn decide(e: Edition, w: &[u32], pw: &[u32]) -> Verdict
     )
 }
 
-// The first out coin after a place that lies in the domain of its round.
-fn outs(e: Edition, w: &[u32], pw: &[u32], stand: Stand, scale: usize) -> Found
-    requires { ⌜ Written (editionOf e) (sheetOf (editionOf e) (now w)) (now w) ⌝ }
-    requires { ⌜ (Placed (sheetOf (editionOf e) (now w)) (now w) stand) × (Scaled (length (now pw)) stand scale) ⌝ }
-    requires { ⌜ Powers (getD (now w) 0 0) (rootOfUnity (sheetOf (editionOf e) (now w))) (now pw) ⌝ }
-    ensures { λ r. ⌜ placeOf r ≡ outsFrom (sheetOf (editionOf e) (now (w .entry))) (now (w .entry)) stand ⌝ }
-{
-    if stand.level == w[4] as usize {
-        return Found::Nothing;
-    }
-    let f = domain::first_inside(w, pw, 2 * scale, stand.at + stand.size / 2, w[5] as usize);
-    if let Found::At(i) = f {
-        return Found::At(i);
-    }
-    outs(e, w, pw, next_stand(e, w, stand), 2 * scale)
-}
-
-// Refusal 7: the first out coin of a round that lies in the round's domain, by its number in the stream. All rounds are tested before any refusal 8.
-pub fn out_in_domain(e: Edition, w: &[u32], pw: &[u32]) -> Found
-    requires { ⌜ (sheetTest (editionOf e) (now w) ≡ accepted) × (rangeTest (sheetOf (editionOf e) (now w)) (sheetLength (editionOf e)) (layout (sheetOf (editionOf e) (now w))) (now w) ≡ accepted) ⌝ }
-    requires { ⌜ wordsDue (editionOf e) (sheetOf (editionOf e) (now w)) ≤ length (now w) ⌝ }
-    requires { ⌜ (Powers (getD (now w) 0 0) (rootOfUnity (sheetOf (editionOf e) (now w))) (now pw)) × (length (now pw) ≡ getD (now w) 1 0) ⌝ }
-    ensures { λ r. ⌜ placeOf r ≡ firstTrue (sheetLength (editionOf e)) (zipWith (outInDomain (sheetOf (editionOf e) (now (w .entry)))) (layout (sheetOf (editionOf e) (now (w .entry)))) (drop (sheetLength (editionOf e)) (now (w .entry)))) ⌝ }
-{
-    outs(e, w, pw, first_stand(e, w), 1)
-}
-
-// Refusal 7, then 8 and 9, by the table of points.
+// The tests of out coins, then refusals 8 and 9, by the table of points.
 fn decide_by(e: Edition, w: &[u32], pw: &[u32]) -> Verdict
     requires { ⌜ (sheetTest (editionOf e) (now w) ≡ accepted) × (rangeTest (sheetOf (editionOf e) (now w)) (sheetLength (editionOf e)) (layout (sheetOf (editionOf e) (now w))) (now w) ≡ accepted) ⌝ }
     requires { ⌜ wordsDue (editionOf e) (sheetOf (editionOf e) (now w)) ≤ length (now w) ⌝ }
     requires { ⌜ (Powers (getD (now w) 0 0) (rootOfUnity (sheetOf (editionOf e) (now w))) (now pw)) × (length (now pw) ≡ getD (now w) 1 0) ⌝ }
-    ensures { λ v. ⌜ verdictOf v ≡ decidingOf (editionOf e) (now (w .entry)) ⌝ }
+    ensures { λ r. ⌜ verdictOf r ≡ decidingOf (editionOf e) (now (w .entry)) ⌝ }
 {
-    let f = out_in_domain(e, w, pw);
-    if let Found::At(i) = f {
+    let outs = out_coins::tests(e, w, pw);
+    if let Outcome::Refused(number, place) = outs {
         return Verdict {
-            outcome: Outcome::Refused(7, i),
+            outcome: Outcome::Refused(number, place),
             reads: 0,
         };
     }

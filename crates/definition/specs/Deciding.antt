@@ -1,8 +1,9 @@
--- Deciding: refusals 7 to 9, and the reads (01, Verify, prove, encode; 000, Construction 5.2, decision phase).
+-- Deciding: refusals 7, 14, 8 and 9, and the reads (01, Verify, prove, encode; 02, CR 6; 000, Construction 5.2, decision phase).
 use Prim.Native.Nat.{ℕ, suc}
 use mathlib.Core.Bool.{Bool, false, not, cond}
 use mathlib.Core.List.{List, [], _∷_, _++_, map, flatMap, zipWith}
 use mathlib.Core.Option.{Option, none, some}
+use lib.Dec.{eqb}
 use lib.ListN.{length, getD, take, drop}
 use Rattle.definition.specs.Lists.{firstTrue}
 use Rattle.definition.specs.Field.{Field, primeField}
@@ -11,7 +12,7 @@ use Rattle.definition.specs.Polynomial.{Sample, pair, evaluate, clash, d
 use Rattle.definition.specs.Domain.{point, inDomain, shiftPoint, foldAt, rootNumbers}
 use Rattle.definition.specs.Transcript.{Round, RoundCoins, Rest, final, round, Transcript}
 use Rattle.definition.specs.Layout.{Kind, message, coin, out, index, layout, readTranscript}
-use Rattle.definition.specs.Verdict.{Outcome, refused, Verdict, refuseAt, thenVerdict}
+use Rattle.definition.specs.Verdict.{Outcome, refused, Verdict, refuseAt, _then_, thenVerdict}
 
 -- is a word of a kind an out coin of round i that lies in domain i?
 unfoldable pub outInDomain : Sheet → Kind → ℕ → Bool
@@ -20,10 +21,42 @@ outInDomain h coin x = false
 outInDomain h (out l) x = inDomain (primeField (h .prime)) (rootOfUnity h) l x
 outInDomain h (index n) x = false
 
--- 7: of the words from a number on, whose kinds are given, an out coin of round i that lies in domain i, at the word number of the first; all
--- rounds are tested before any test 8
+-- 7: of the words from a number on, whose kinds are given, an out coin of round i that lies in domain i, at the word number of the first
 unfoldable pub outTest : Sheet → ℕ → List Kind → List ℕ → Outcome
 outTest h from kinds w = refuseAt 7 (firstTrue from (zipWith (outInDomain h) kinds (drop from w)))
+
+-- is x equal to the out coin before it, if there is one?
+unfoldable pub sameAs : Option ℕ → ℕ → Bool
+sameAs none x = false
+sameAs (some y) x = eqb x y
+
+-- the out coin before the next word, after a word x of a kind: a round's out coins end at a message or an index
+unfoldable pub outBefore : Option ℕ → Kind → ℕ → Option ℕ
+outBefore before message x = none
+outBefore before coin x = before
+outBefore before (out l) x = some x
+outBefore before (index n) x = none
+
+-- is a word of a kind an out coin equal to the one before it in its round, if there is one?
+unfoldable pub outRepeated : Option ℕ → Kind → ℕ → Bool
+outRepeated before message x = false
+outRepeated before coin x = false
+outRepeated before (out l) x = sameAs before x
+outRepeated before (index n) x = false
+
+-- this, of each word
+unfoldable pub repeatedOuts : Option ℕ → List Kind → List ℕ → List Bool
+repeatedOuts before [] w = []
+repeatedOuts before (k ∷ ks) [] = []
+repeatedOuts before (k ∷ ks) (x ∷ w) = outRepeated before k x ∷ repeatedOuts (outBefore before k x) ks w
+
+-- 14: of the words from a number on, whose kinds are given, the second of two equal out coins of a round, at the word number of the first such
+unfoldable pub equalTest : Sheet → ℕ → List Kind → List ℕ → Outcome
+equalTest h from kinds w = refuseAt 14 (firstTrue from (repeatedOuts none kinds (drop from w)))
+
+-- the tests of out coins: 7 in all rounds, then 14, before any test 8
+unfoldable pub outTests : Sheet → ℕ → List Kind → List ℕ → Outcome
+outTests h from kinds w = outTest h from kinds w then equalTest h from kinds w
 
 -- A place: the table's number and the point's.
 pub record Place : Type 0 where
@@ -104,5 +137,5 @@ module _ {A : Type 0} (F : Field A) (ω : A) where
 unfoldable pub deciding : Edition → List ℕ → Verdict
 deciding e w =
     let h = sheetOf e w in
-    thenVerdict (outTest h (sheetLength e) (layout h) w)
+    thenVerdict (outTests h (sheetLength e) (layout h) w)
     (decide (primeField (h .prime)) (rootOfUnity h) (firstLevel h) (readTranscript h (drop (sheetLength e) w)))

@@ -1,4 +1,4 @@
--- Verify, accepted and refusals 7 to 9 (01, Verify, prove, encode): places, reads and the order of the tests, on whole files, by computation.
+-- Verify, accepted and refusals 7, 14, 8 and 9 (01, Verify, prove, encode; 02, CR 6): places, reads and the order of the tests, on whole files, by computation.
 use Prim.Native.Nat.{ℕ}
 use mathlib.Core.Path.{_≡_, refl}
 use mathlib.Core.List.{[], _∷_}
@@ -24,7 +24,6 @@ pub record DecidingCases : Type 0 where
   pub shift·repeated : verify (fileOf (set (set (set doubled 41 5) 43 2) 44 0)) ≡ accept 8
   pub final·repeated : verify (fileOf (set doubled 46 1)) ≡ accept 8
   pub two·outs : verify (fileOf twoOuts) ≡ accept 6
-  pub two·equal·outs : verify (fileOf (set (set (set (set twoOuts 38 0) 40 5) 44 2) 45 0)) ≡ accept 6
   -- the combination coin 12 makes cx = 1 at x = 10, which final coin 1 reads (P7); the combination coin 0
   pub cx·1 : verify (fileOf (set (set (set stream 39 12) 42 7) 43 6)) ≡ accept 4
   pub cx·1·wrong : verify (fileOf (set stream 39 12)) ≡ refuse 9 0 4
@@ -43,15 +42,20 @@ pub record DecidingCases : Type 0 where
   pub second·out·coin : verify (fileOf (set twoOuts 38 3)) ≡ refuse 7 38 0
   pub first·out·coin : verify (fileOf (set (set twoOuts 37 14) 38 3)) ≡ refuse 7 37 0
   pub point·of·domain·0 : verify (fileOf (set doubled 37 13)) ≡ refuse 9 0 6
-  -- 7 before 8: two equal out coins in domain 1 with different replies
-  pub seven·before·eight : verify (fileOf (set (set twoOuts 37 3) 38 3)) ≡ refuse 7 37 0
+  -- 7 before 14: two equal out coins in domain 1; 7 before 8: the second out coin is a shift point
+  pub seven·before·fourteen : verify (fileOf (set (set twoOuts 37 3) 38 3)) ≡ refuse 7 37 0
+  pub seven·before·eight : verify (fileOf (set (set twoOuts 37 3) 38 4)) ≡ refuse 7 37 0
+  -- 14: two equal out coins, with different replies, with equal ones and a right final message, with equal wrong ones
+  pub equal·outs : verify (fileOf (set twoOuts 38 0)) ≡ refuse 14 38 0
+  pub equal·outs·right : verify (fileOf (set (set (set (set twoOuts 38 0) 40 5) 44 2) 45 0)) ≡ refuse 14 38 0
+  pub equal·outs·wrong : verify (fileOf (set (set (set twoOuts 38 0) 39 6) 40 6)) ≡ refuse 14 38 0
+  -- 14 before 8: both out coins are the shift point
+  pub fourteen·before·eight : verify (fileOf (set (set twoOuts 37 4) 38 4)) ≡ refuse 14 38 0
   -- 8: an out coin is the first shift point, or the second; the reads are those of all shift coins of the round
   pub clash·with·first·shift : verify (fileOf (set doubled 37 9)) ≡ refuse 8 1 4
   pub clash·with·second·shift : verify (fileOf (set doubled 37 4)) ≡ refuse 8 1 4
-  -- 8: two equal out coins with different replies; the second out coin is a shift point; equal replies do not clash, not even wrong ones
-  pub clash·of·outs : verify (fileOf (set twoOuts 38 0)) ≡ refuse 8 1 2
+  -- 8: the second out coin is a shift point
   pub clash·of·second·out : verify (fileOf (set twoOuts 38 4)) ≡ refuse 8 1 2
-  pub equal·wrong·replies : verify (fileOf (set (set (set twoOuts 38 0) 39 6) 40 6)) ≡ refuse 9 0 4
   -- 8 before 9
   pub eight·before·nine : verify (fileOf (set (set doubled 37 9) 43 0)) ≡ refuse 8 1 4
   -- 9: at the first final coin, at the second alone, at both; the reads are up to and with the failing coin
@@ -66,16 +70,21 @@ pub record DecidingCases : Type 0 where
   -- the places of a coin are its roots in the level's own table: of coins 0 and 3 in table 0, of coin 1 in table 1
   pub places·of·table·0 : placesOf level0 (tableFunction F₁₇ 3 level0 [] .places) (0 ∷ 3 ∷ []) ≡ place 0 0 ∷ place 0 8 ∷ place 0 3 ∷ place 0 11 ∷ []
   pub places·of·table·1 : placesOf level1 (nextFunction F₁₇ 3 [] round1 .places) (1 ∷ []) ≡ place 1 1 ∷ place 1 5 ∷ []
-  -- two rounds, out coins 61 62 and 77 78, replies 63 64 and 79 80: 8 in round 1, in round 2, in both; the place is the round, and the
-  -- reads are those of the rounds up to it
+  -- two rounds, out coins 61 62 and 77 78, replies 63 64 and 79 80: accepted, with an out coin of round 1 and one of round 2 equal; 8 in
+  -- round 1, in round 2, in both; the place is the round, and the reads are those of the rounds up to it
+  pub two·rounds : verify (fileOf twoRounds) ≡ accept 8
   pub clash·in·round·1 : verify (fileOf (set twoRounds 63 1)) ≡ refuse 8 1 4
-  pub clash·in·round·2 : verify (fileOf (set twoRounds 79 1)) ≡ refuse 8 2 6
-  pub clash·in·both : verify (fileOf (set (set twoRounds 63 1) 79 1)) ≡ refuse 8 1 4
+  pub clash·in·round·2 : verify (fileOf (set twoRounds 80 1)) ≡ refuse 8 2 6
+  pub clash·in·both : verify (fileOf (set (set twoRounds 63 1) 80 1)) ≡ refuse 8 1 4
   -- 7 in round 2 comes before 8 in round 1; a coin of round 2 is tested against domain 2 alone: 65529 is in both domains, 65025 in
   -- domain 1 only
   pub out·coin·of·round·2 : verify (fileOf (set (set twoRounds 63 1) 78 65529)) ≡ refuse 7 78 0
   pub out·coins·of·both : verify (fileOf (set (set twoRounds 62 65025) 77 65529)) ≡ refuse 7 62 0
   pub round·2·and·domain·1 : verify (fileOf (set (set twoRounds 63 1) 77 65025)) ≡ refuse 8 1 4
+  -- 14 in both rounds; 14 in round 2 comes before 8 in round 1, and 7 in round 2 before 14 in round 1
+  pub equal·outs·of·both : verify (fileOf (set (set twoRounds 61 0) 78 0)) ≡ refuse 14 62 0
+  pub equal·outs·of·round·2 : verify (fileOf (set (set twoRounds 63 1) 78 0)) ≡ refuse 14 78 0
+  pub seven·before·every·fourteen : verify (fileOf (set (set twoRounds 61 0) 78 65529)) ≡ refuse 7 78 0
 
 pub decidingCases : DecidingCases
 unfolding definitions
@@ -84,7 +93,6 @@ decidingCases = record {
   shift·repeated = refl;
   final·repeated = refl;
   two·outs = refl;
-  two·equal·outs = refl;
   cx·1 = refl;
   cx·1·wrong = refl;
   c·0 = refl;
@@ -99,12 +107,15 @@ decidingCases = record {
   second·out·coin = refl;
   first·out·coin = refl;
   point·of·domain·0 = refl;
+  seven·before·fourteen = refl;
   seven·before·eight = refl;
+  equal·outs = refl;
+  equal·outs·right = refl;
+  equal·outs·wrong = refl;
+  fourteen·before·eight = refl;
   clash·with·first·shift = refl;
   clash·with·second·shift = refl;
-  clash·of·outs = refl;
   clash·of·second·out = refl;
-  equal·wrong·replies = refl;
   eight·before·nine = refl;
   first·final = refl;
   second·final = refl;
@@ -115,10 +126,14 @@ decidingCases = record {
   table·1·not·read = refl;
   places·of·table·0 = refl;
   places·of·table·1 = refl;
+  two·rounds = refl;
   clash·in·round·1 = refl;
   clash·in·round·2 = refl;
   clash·in·both = refl;
   out·coin·of·round·2 = refl;
   out·coins·of·both = refl;
   round·2·and·domain·1 = refl;
+  equal·outs·of·both = refl;
+  equal·outs·of·round·2 = refl;
+  seven·before·every·fourteen = refl;
 }

@@ -2,7 +2,7 @@
 use Prim.Native.Nat.{ℕ}
 use mathlib.Core.Path.{_≡_, refl}
 use mathlib.Core.List.{List, [], _∷_, _++_}
-use lib.ListN.{drop, set, replicate}
+use lib.ListN.{take, drop, set, replicate}
 use Rattle.definition.specs.Block.{fileOf}
 use Rattle.definition.specs.Sheet.{edition2}
 use Rattle.definition.specs.Verdict.{accepted, refused}
@@ -11,7 +11,7 @@ use Rattle.definition.specs.Verify.{verifyIn}
 use Rattle.definition.specs.Prover.{honestStream}
 use Rattle.definition.specs.Prove.{proveIn, done, Result}
 use Rattle.definition.specs.Convert.{toEdition1, toEdition2}
-use Rattle.definition.specs.WorkedTranscript.{sheetWords, coefficients, coins, stream, file, oneToEight, accept, refuse, kept, definitions}
+use Rattle.definition.specs.WorkedTranscript.{sheetWords, coefficients, coins, stream, file, oneToEight, twoOuts, accept, refuse, kept, definitions}
 
 -- the sheet of the transcript by hand in edition 2, and its stream
 abbrev sheet2 : List ℕ
@@ -29,6 +29,10 @@ abbrev mixed : List ℕ
 mixed =
     mixedSheet ++ (5 ∷ 1 ∷ 9 ∷ 12 ∷ 13 ∷ 3 ∷ 5 ∷ 13 ∷ 0 ∷ 6 ∷ 11 ∷ 14 ∷ 8 ∷ 8 ∷ 8 ∷ 2 ∷ 2 ∷ 13 ∷ 12 ∷ 11 ∷ 3 ∷ 14 ∷ 15 ∷ 16 ∷ 7
     ∷ 0 ∷ 5 ∷ 2 ∷ 4 ∷ 0 ∷ 5 ∷ 8 ∷ 1 ∷ 0 ∷ [])
+
+-- two out coins, 43 44, with replies 45 46
+abbrev twoOuts2 : List ℕ
+twoOuts2 = take 12 twoOuts ++ (2 ∷ 0 ∷ 0 ∷ 0 ∷ 0 ∷ 2 ∷ drop 12 twoOuts)
 
 abbrev largeFirst : List ℕ
 largeFirst = 1 ∷ 64 ∷ 32 ∷ 8 ∷ 1 ∷ 1 ∷ 2 ∷ 1 ∷ 0 ∷ 0 ∷ 0 ∷ 0 ∷ 2 ∷ 0 ∷ 0 ∷ 0 ∷ 0 ∷ 2 ∷ []
@@ -67,10 +71,14 @@ pub record EditionCases : Type 0 where
   pub mixed·stream : honestStream edition2 mixedSheet oneToEight (2 ∷ 0 ∷ 2 ∷ 4 ∷ 0 ∷ 5 ∷ 1 ∷ 0 ∷ []) ≡ mixed
   pub mixed·wrong : verifyIn edition2 (fileOf (set mixed 49 9)) ≡ refuse 9 0 8
   pub mixed·out : verifyIn edition2 (fileOf (set mixed 43 3)) ≡ refuse 7 43 0
+  pub two·outs : verifyIn edition2 (fileOf twoOuts2) ≡ accept 6
+  pub equal·outs : verifyIn edition2 (fileOf (set twoOuts2 44 0)) ≡ refuse 14 44 0
   pub mixed·index : verifyIn edition2 (fileOf (set mixed 51 2)) ≡ refuse 5 51 0
   pub prove·18 : proveIn edition2 sheetWords coefficients coins (replicate 512 7) ≡ kept 10 0 (replicate 512 7)
-  -- the converter
+  pub prove·equal·outs : proveIn edition2 (take 18 twoOuts2) oneToEight (2 ∷ 0 ∷ 0 ∷ 2 ∷ 4 ∷ 5 ∷ 1 ∷ 2 ∷ []) [] ≡ kept 14 2 []
+  -- the converter, which looks at no out coin
   pub forth : toEdition2 file (replicate 513 7) ≡ record { answer = done 1; output = fileOf stream2 ++ (7 ∷ []) }
+  pub forth·equal·outs : toEdition2 (fileOf (set twoOuts 38 0)) (replicate 512 7) ≡ record { answer = done 1; output = fileOf (set twoOuts2 44 0) }
   pub forth·short : toEdition2 file (replicate 511 7) ≡ kept 11 1 (replicate 511 7)
   pub forth·empty : toEdition2 [] (replicate 511 7) ≡ kept 1 0 (replicate 511 7)
   pub back : toEdition1 (fileOf stream2) (replicate 513 7) ≡ record { answer = done 1; output = file ++ (7 ∷ []) }
@@ -107,9 +115,13 @@ editionCases = record {
   mixed·stream = refl;
   mixed·wrong = refl;
   mixed·out = refl;
+  two·outs = refl;
+  equal·outs = refl;
   mixed·index = refl;
   prove·18 = refl;
+  prove·equal·outs = refl;
   forth = refl;
+  forth·equal·outs = refl;
   forth·short = refl;
   forth·empty = refl;
   back = refl;

@@ -1,7 +1,8 @@
--- The load: a thousand runs that a seed fixes (02, CR 2), with sheets of edition 1.
+-- The load: a thousand runs that a seed fixes (02, CR 2 and 6), with sheets of edition 1.
 use Prim.Native.Nat.{ℕ, zero, suc, _+_, _*_, _/_, _%_, _^_}
-use mathlib.Core.Bool.{Bool, true, false, cond}
+use mathlib.Core.Bool.{Bool, true, false, not, cond, _||_}
 use mathlib.Core.List.{List, [], _∷_, _++_, map, flatMap}
+use mathlib.Core.Option.{Option, none, some}
 use lib.Bits.{bitXor}
 use lib.Dec.{eqb}
 use lib.ListN.{length, getD, take, replicate}
@@ -12,7 +13,7 @@ use Rattle.definition.specs.Layout.{Kind, message, coin, out, index, lay
 use Rattle.definition.specs.Block.{wordOf, fileOf}
 use Rattle.definition.specs.Verdict.{refused, Verdict}
 use Rattle.definition.specs.Line.{lineOf}
-use Rattle.definition.specs.Deciding.{outInDomain}
+use Rattle.definition.specs.Deciding.{outInDomain, outBefore, outRepeated}
 use Rattle.definition.specs.Verify.{verify}
 use Rattle.definition.specs.Prover.{honestStream}
 
@@ -67,24 +68,38 @@ drawWords (suc count) w v =
 unfoldable pub drawSheet : ℕ → Drawn (List ℕ)
 drawSheet v = drawWords (sheetLength edition1) [] v
 
--- An out coin, picked among all elements: inside its domain it is drawn again, at most so many times, then taken as 0.
-unfoldable pub drawOut : Sheet → Kind → ℕ → ℕ → Drawn ℕ
-drawOut h k zero v = cond (outInDomain h k (step v % h .prime)) (record { value = 0; next = step v }) (drawBelow (h .prime) v)
-drawOut h k (suc again) v = cond (outInDomain h k (step v % h .prime)) (drawOut h k again (step v)) (drawBelow (h .prime) v)
+-- is a word of a kind, after an out coin of its round or none, not allowed there: an out coin in its domain, or equal to the one before it?
+unfoldable pub notAllowed : Sheet → Option ℕ → Kind → ℕ → Bool
+notAllowed h before k x = outInDomain h k x || outRepeated before k x
 
--- a word of a kind: an element, an out coin, or an index below its limit
-unfoldable pub drawKind : Sheet → Kind → ℕ → Drawn ℕ
-drawKind h message v = drawBelow (h .prime) v
-drawKind h coin v = drawBelow (h .prime) v
-drawKind h (out l) v = drawOut h (out l) 64 v
-drawKind h (index n) v = drawBelow n v
+-- the smallest element allowed there
+unfoldable pub smallestAllowed : Sheet → Option ℕ → Kind → ℕ
+smallestAllowed h before k = getD (keep (λ x. not (notAllowed h before k x)) (range 0 (h .prime))) 0 0
+
+-- an out coin that has no draw left: the first of a round becomes 0 (02, CR 2), the second the smallest element allowed (02, CR 6)
+unfoldable pub undrawn : Sheet → Option ℕ → Kind → ℕ
+undrawn h none k = 0
+undrawn h (some y) k = smallestAllowed h (some y) k
+
+-- An out coin, picked among all elements: not allowed, it is drawn again, at most so many times, for both causes together.
+unfoldable pub drawOut : Sheet → Option ℕ → Kind → ℕ → ℕ → Drawn ℕ
+drawOut h before k zero v =
+    cond (notAllowed h before k (step v % h .prime)) (record { value = undrawn h before k; next = step v }) (drawBelow (h .prime) v)
+drawOut h before k (suc again) v = cond (notAllowed h before k (step v % h .prime)) (drawOut h before k again (step v)) (drawBelow (h .prime) v)
+
+-- a word of a kind, after an out coin of its round or none: an element, an out coin, or an index below its limit
+unfoldable pub drawKind : Sheet → Option ℕ → Kind → ℕ → Drawn ℕ
+drawKind h before message v = drawBelow (h .prime) v
+drawKind h before coin v = drawBelow (h .prime) v
+drawKind h before (out l) v = drawOut h before (out l) 64 v
+drawKind h before (index n) v = drawBelow n v
 
 -- words of given kinds, one after the other
-unfoldable pub drawKinds : Sheet → List Kind → ℕ → Drawn (List ℕ)
-drawKinds h [] v = record { value = []; next = v }
-drawKinds h (k ∷ ks) v =
-    let x = drawKind h k v in
-    let xs = drawKinds h ks (x .next) in
+unfoldable pub drawKinds : Sheet → Option ℕ → List Kind → ℕ → Drawn (List ℕ)
+drawKinds h before [] v = record { value = []; next = v }
+drawKinds h before (k ∷ ks) v =
+    let x = drawKind h before k v in
+    let xs = drawKinds h (outBefore before k (x .value)) ks (x .next) in
     record { value = x .value ∷ xs .value; next = xs .next }
 
 -- A run: a sheet, coefficients and coins.
@@ -98,8 +113,8 @@ unfoldable pub drawOrder : ℕ → Drawn Order
 drawOrder v =
     let w = drawSheet v in
     let h = sheetOf edition1 (w .value) in
-    let f = drawKinds h (replicate (h .degree) message) (w .next) in
-    let c = drawKinds h (coinKinds (layout h)) (f .next) in
+    let f = drawKinds h none (replicate (h .degree) message) (w .next) in
+    let c = drawKinds h none (coinKinds (layout h)) (f .next) in
     record { value = record { sheet = w .value; coefficients = f .value; coins = c .value }; next = c .next }
 
 -- the first runs on one generator

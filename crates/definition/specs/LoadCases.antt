@@ -1,14 +1,15 @@
--- The load (02, CR 2), by computation.
+-- The load (02, CR 2 and 6), by computation.
 use mathlib.Core.Path.{_≡_, refl}
 use mathlib.Core.List.{[], _∷_, map}
+use mathlib.Core.Option.{none, some}
 use Rattle.definition.specs.Line.{decimalWithin, decimal, outcomeText, lineOf, refusalLine}
-use Rattle.definition.specs.Load.{step, drawBelow, keep, permits, candidates, permitted, workedSheet, drawWords, drawSheet, drawOut, drawKind, drawKinds, drawOrder, orders, verdictOn, loadLines, seedOf, loadOutput}
+use Rattle.definition.specs.Load.{step, drawBelow, keep, permits, candidates, permitted, workedSheet, drawWords, drawSheet, notAllowed, smallestAllowed, undrawn, drawOut, drawKind, drawKinds, drawOrder, orders, verdictOn, loadLines, seedOf, loadOutput}
 use Rattle.definition.specs.Layout.{out}
 use Rattle.definition.specs.Sheet.{edition1, Level, sheetOf}
 use Rattle.definition.specs.WorkedTranscript.{definitions, accept, refuse, sheetWords}
 
 unfoldable pub loadDefinitions : Unit {0}
-unfolding definitions step drawBelow keep permits candidates permitted drawWords drawSheet drawOut drawKind drawKinds drawOrder orders verdictOn decimalWithin decimal outcomeText lineOf refusalLine loadLines seedOf loadOutput
+unfolding definitions step drawBelow keep permits candidates permitted drawWords drawSheet notAllowed smallestAllowed undrawn drawOut drawKind drawKinds drawOrder orders verdictOn decimalWithin decimal outcomeText lineOf refusalLine loadLines seedOf loadOutput
 loadDefinitions = tt
 
 -- round 1 of the worked sheet
@@ -43,13 +44,24 @@ pub record LoadCases : Type 0 where
   pub permitted·past : permitted (0 ∷ 4 ∷ 2 ∷ 2 ∷ 0 ∷ 1 ∷ 1 ∷ []) ≡ 0 ∷ []
   -- the worked sheet, that of the transcript by hand
   pub sheet·worked : workedSheet ≡ sheetWords
-  -- an out coin of the worked sheet's round 1: the first draw, 3, lies in domain 1, and the second, 8, does not; with no draw left it is 0
-  pub again : drawKind (sheetOf edition1 sheetWords) (out round) 3 ≡ record { value = 8; next = 201886211 }
-  pub again·none·left : drawOut (sheetOf edition1 sheetWords) (out round) 0 3 ≡ record { value = 0; next = 811107 }
-  -- modulo 1 every draw is a point of the domain: one draw and 64 more, which is 65 steps
-  pub again·64 : drawKind (record { prime = 1; generator = 1; size = 2; degree = 2; folds = []; outCoins = 1; repetitions = [] }) (out round) 1
+  -- an out coin of the worked sheet's round 1: the first draw, 3, lies in domain 1, and the second, 8, does not; after an out coin 8 it is
+  -- drawn again twice more, since 5 lies in domain 1 too
+  pub again : drawKind (sheetOf edition1 sheetWords) none (out round) 3 ≡ record { value = 8; next = 201886211 }
+  pub again·second : drawKind (sheetOf edition1 sheetWords) (some 8) (out round) 3 ≡ record { value = 15; next = 1909268553 }
+  -- with no draw left a first one is 0, and a second one the smallest element allowed, 1 after 0
+  pub none·left : drawOut (sheetOf edition1 sheetWords) none (out round) 0 3 ≡ record { value = 0; next = 811107 }
+  pub none·left·second : drawOut (sheetOf edition1 sheetWords) (some 8) (out round) 0 811107 ≡ record { value = 0; next = 201886211 }
+  pub none·left·after·0 : drawOut (sheetOf edition1 sheetWords) (some 0) (out round) 0 3 ≡ record { value = 1; next = 811107 }
+  -- where 1 is in the domain, as on no sheet, the smallest after 0 is 2
+  pub smallest·2 : smallestAllowed (record { prime = 17; generator = 1; size = 16; degree = 8; folds = []; outCoins = 2; repetitions = [] }) (some 0) (out round) ≡ 2
+  -- modulo 1 every draw is a point of the domain: one draw and 64 more, which is 65 steps; modulo 2 a draw after 0 lies in the domain or is
+  -- 0 again, and both count
+  pub again·64 : drawKind (record { prime = 1; generator = 1; size = 2; degree = 2; folds = []; outCoins = 1; repetitions = [] }) none (out round) 1
       ≡ record { value = 0; next = 244103520 }
-  -- a run drawn from 849, and one from 6, which falls back to the worked sheet; two runs on one generator
+  pub again·64·both : drawKind (record { prime = 2; generator = 1; size = 2; degree = 2; folds = []; outCoins = 2; repetitions = [] }) (some 0) (out round) 1
+      ≡ record { value = 0; next = 244103520 }
+  -- a run drawn from 849, and one from 6, which falls back to the worked sheet; one from 56080, whose second out coin was equal to the first
+  -- when first drawn, then in the domain; two runs on one generator
   pub sheet·849 : drawSheet 849 .value ≡ 0 ∷ 16 ∷ 8 ∷ 2 ∷ 1 ∷ 1 ∷ 1 ∷ 10 ∷ 0 ∷ 0 ∷ 0 ∷ 0 ∷ []
   pub order·849 : drawOrder 849 ≡ record {
     value = record {
@@ -66,6 +78,14 @@ pub record LoadCases : Type 0 where
       coins = 11 ∷ 9 ∷ 8 ∷ 12 ∷ 0 ∷ 3 ∷ [];
     };
     next = 509620375;
+  }
+  pub order·56080 : drawOrder 56080 ≡ record {
+    value = record {
+      sheet = 0 ∷ 16 ∷ 8 ∷ 2 ∷ 1 ∷ 2 ∷ 1 ∷ 2 ∷ 0 ∷ 0 ∷ 0 ∷ 0 ∷ [];
+      coefficients = 8 ∷ 10 ∷ 2 ∷ 11 ∷ 10 ∷ 6 ∷ 1 ∷ 9 ∷ [];
+      coins = 9 ∷ 16 ∷ 8 ∷ 15 ∷ 10 ∷ 6 ∷ 1 ∷ 0 ∷ [];
+    };
+    next = 1591568000;
   }
   pub sheets·6 : map (λ o. o .sheet) (orders 2 6)
       ≡ (0 ∷ 16 ∷ 8 ∷ 2 ∷ 1 ∷ 1 ∷ 1 ∷ 1 ∷ 0 ∷ 0 ∷ 0 ∷ 0 ∷ []) ∷ (0 ∷ 8 ∷ 4 ∷ 4 ∷ 0 ∷ 2 ∷ 3 ∷ 0 ∷ 0 ∷ 0 ∷ 0 ∷ 0 ∷ []) ∷ []
@@ -95,10 +115,16 @@ loadCases = record {
   permitted·past = refl;
   sheet·worked = refl;
   again = refl;
-  again·none·left = refl;
+  again·second = refl;
+  none·left = refl;
+  none·left·second = refl;
+  none·left·after·0 = refl;
+  smallest·2 = refl;
   again·64 = refl;
+  again·64·both = refl;
   sheet·849 = refl;
   order·849 = refl;
   order·6 = refl;
+  order·56080 = refl;
   sheets·6 = refl;
 }

@@ -12,10 +12,10 @@ use Rattle.definition.specs.Layout.{roundLayout, restLayout, layout, wor
 use Rattle.definition.specs.Block.{lowBytes, bytesOf, wordOf, weightedSum, checkWord, blockCount, blocksOf, sealFrom, fileOf, fileBlocks, streamOf, wrongChecks}
 use Rattle.definition.specs.Verdict.{Verdict, accepted, refused, refuseAt, refuseIf, _then_, thenVerdict}
 use Rattle.definition.specs.Reading.{lengthTest, checkTest, sheetTest, blocksTest, outOfRange, rangeTest, fillTest, bodyTests, streamTests, reading}
-use Rattle.definition.specs.Deciding.{outInDomain, outTest, ownPlace, placesOf, readsOf, treated, answers, tableFunction, nextFunction, differences, decideFinal, decideRest, decide, deciding}
+use Rattle.definition.specs.Deciding.{outInDomain, outTest, sameAs, outBefore, outRepeated, repeatedOuts, equalTest, outTests, ownPlace, placesOf, readsOf, treated, answers, tableFunction, nextFunction, differences, decideFinal, decideRest, decide, deciding}
 use Rattle.definition.specs.Verify.{verifyIn}
 use Rattle.definition.specs.Prover.{tableOf, samplesOf, honestRound, honestAnswers, nextPoly, honestRest, honest, honestStream}
-use Rattle.definition.specs.Prove.{Result, refusal, finish, sheetLengthTest, coefficientsTest, coinsTest, inputRangeTest, coinDomainTest, outputTest, proveTests, proveIn, encodeTests, encode}
+use Rattle.definition.specs.Prove.{Result, refusal, finish, sheetLengthTest, coefficientsTest, coinsTest, inputRangeTest, coinDomainTest, coinEqualTest, outputTest, proveTests, proveIn, encodeTests, encode}
 use Rattle.definition.specs.Convert.{spread, bodyOf, forward, backward, foldsTest, convert, toEdition1, toEdition2}
 
 -- the sheet, the coefficients and the coins: fold 2, out 0, combination 3, fold 4, shift 0, final 1
@@ -111,9 +111,12 @@ folded4 = 0 ∷ 16 ∷ 8 ∷ 4 ∷ 0 ∷ 1 ∷ 2 ∷ 0 ∷ 0 ∷ 0 ∷ 0 ∷ 0 �
 abbrev pub fourFinals : List ℕ
 fourFinals = 0 ∷ 16 ∷ 8 ∷ 2 ∷ 0 ∷ 1 ∷ 4 ∷ 0 ∷ 0 ∷ 0 ∷ 0 ∷ 0 ∷ (take 16 tables ++ (5 ∷ 11 ∷ 6 ∷ 1 ∷ 13 ∷ 0 ∷ 1 ∷ 2 ∷ 3 ∷ []))
 
--- M = 2 in field 1, with t_0 = 2 and s = 2: 87 words, after the sheet all 0 but the second shift index of round 1.
+-- M = 2 in field 1, with t_0 = 2 and s = 2: 87 words, after the sheet all 0 but the second shift index of round 1 and the out coins 64 0 of
+-- round 1 and 0 64 of round 2; 64 is the shift point of index 0 in both.
 abbrev pub twoRounds : List ℕ
-twoRounds = 1 ∷ 32 ∷ 16 ∷ 2 ∷ 2 ∷ 2 ∷ 2 ∷ 1 ∷ 1 ∷ 0 ∷ 0 ∷ 0 ∷ (replicate 56 0 ++ (1 ∷ replicate 18 0))
+twoRounds =
+    1 ∷ 32 ∷ 16 ∷ 2 ∷ 2 ∷ 2 ∷ 2 ∷ 1 ∷ 1 ∷ 0 ∷ 0 ∷ 0
+    ∷ (replicate 49 0 ++ (64 ∷ replicate 6 0 ++ (1 ∷ replicate 9 0 ++ (64 ∷ replicate 8 0))))
 
 -- the field of 17 elements, and the two levels of the sheet; ω is 3
 abbrev pub F₁₇ : Field ℕ
@@ -146,8 +149,8 @@ unfolding
     inList inDomain shiftPoint foldAt roundWords restWords transcriptWords roundLayout restLayout layout wordsDue coinKinds limit
     roundCoins laterCount readRest readTranscript readRounds readFinals readCoins lowBytes bytesOf wordOf weightedSum checkWord blockCount
     blocksOf sealFrom fileOf fileBlocks streamOf wrongChecks refuseAt refuseIf _then_ thenVerdict lengthTest checkTest sheetTest blocksTest
-    outOfRange rangeTest fillTest bodyTests streamTests reading outInDomain outTest ownPlace placesOf readsOf treated answers tableFunction
+    outOfRange rangeTest fillTest bodyTests streamTests reading outInDomain outTest sameAs outBefore outRepeated repeatedOuts equalTest outTests ownPlace placesOf readsOf treated answers tableFunction
     nextFunction differences decideFinal decideRest decide deciding verifyIn tableOf samplesOf honestRound honestAnswers nextPoly honestRest
-    honest honestStream finish sheetLengthTest coefficientsTest coinsTest inputRangeTest coinDomainTest outputTest proveTests proveIn
+    honest honestStream finish sheetLengthTest coefficientsTest coinsTest inputRangeTest coinDomainTest coinEqualTest outputTest proveTests proveIn
     encodeTests encode spread bodyOf forward backward foldsTest convert toEdition1 toEdition2 zipWith flatMap
 definitions = tt

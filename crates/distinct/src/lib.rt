@@ -4,7 +4,7 @@ ghost use mathlib.Core.List.{_++_, map};
 ghost use Prim.Native.Nat.{_+_, _≤_, _<_};
 ghost use lib.ListN.{length, drop};
 ghost use Rattle.definition.specs.Lists.{member};
-ghost use Rattle.rounds.specs.PointsIn.{shiftIn};
+ghost use Rattle.folds.specs.PointsIn.{shiftIn};
 ghost use Rattle.distinct.specs.Points.{InTable, differentPoints, keepPoint, keepPoints};
 
 // Is x among the points from number `from` on?
@@ -36,13 +36,6 @@ fn keep(xs: &mut [u32], from: usize, x: u32) -> usize
     at
 }
 
-// A word as an index.
-fn wide(x: u32) -> usize
-    ensures { λ r. ⌜ r ≡ x ⌝ }
-{
-    x as usize
-}
-
 // The different shift points of a level in the last places of xs. The level's point j stands at scale·j in the table of points.
 fn keep_shifts(pw: &[u32], scale: usize, k: usize, shifts: &[u32], xs: &mut [u32]) -> usize
     requires { ⌜ (0 < k) × ((k ≤ 16) × (length (now pw) ≤ 4096)) ⌝ }
@@ -54,7 +47,11 @@ fn keep_shifts(pw: &[u32], scale: usize, k: usize, shifts: &[u32], xs: &mut [u32
     let mut i = shifts.len();
     while 0 < i {
         i -= 1;
-        at = keep(xs, at, rounds::shift_point(pw, scale, wide(shifts[i]), k));
+        at = keep(
+            xs,
+            at,
+            folds::shift_point(pw, scale, folds::wide(shifts[i]), k),
+        );
     }
     at
 }

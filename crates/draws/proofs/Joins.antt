@@ -3,19 +3,21 @@
 use Prim.Native.Nat.{ℕ, _+_, _-_, _≤_, _<_}
 use native.Mathlib.Omega.{arith}
 use mathlib.Core.List.{List, [], _∷_, _++_, append-assoc}
-use mathlib.Core.Path.{_≡_, sym, ap, _∙_}
-use lib.ListN.{length, getD, replicate, length-replicate}
+use mathlib.Core.Option.{Option, none}
+use mathlib.Core.Path.{_≡_, refl, sym, ap, _∙_}
+use lib.ListN.{length, getD, take, drop, replicate, length-append, length-drop, length-replicate, take-append-drop}
+use lib.Seq.{length-take-le}
 use Rattle.definition.specs.Field.{primeOf}
 use Rattle.definition.specs.Layout.{Kind, coin, coinKinds, index, layout, message, out}
 use Rattle.definition.specs.Load.{Drawn, drawKinds}
 use Rattle.definition.specs.Sheet.{Sheet, edition1, sheetOf, shiftCount}
-use Rattle.completeness.specs.CoinsAfter.{kinds-all, kinds-count, kinds-last, kinds-next, kindsAfter, laterKinds, outKinds}
+use Rattle.completeness.specs.CoinsAfter.{kinds-all, kinds-count, kinds-last, kinds-next, kindsAfter, later-count, laterKinds, outKinds}
 use Rattle.completeness.specs.Lawful.{lawful}
 use Rattle.completeness.specs.LevelsByNumber.{Paired}
-use Rattle.completeness.specs.Numbered.{levelOf}
+use Rattle.completeness.specs.Numbered.{levelOf, outsOf}
 use Rattle.generator.specs.Draws.{drawMany, indices-drawn, messages-drawn}
 use Rattle.draws.specs.AtLevel.{AtLevel, rounds-are, times-are}
-use Rattle.draws.specs.Kinds.{drawn-both, one-coin, two-coins}
+use Rattle.draws.specs.Kinds.{after-append, after-coin, after-later, drawn-both, drawn-length, one-coin, outAfter, two-coins}
 
 -- what is drawn and the generator as it then is, against what the definition draws
 abbrev pub Is : List ℕ → ℕ → Drawn (List ℕ) → Type 0
@@ -26,21 +28,21 @@ module _ (field v : ℕ) {p : ℕ} (ep : p ≡ primeOf field) (h : Sheet) (eh : 
   below-prime : (n : ℕ) → drawMany p n v ≡ drawMany (h .prime) n v
   below-prime n = ap (λ (q : ℕ). drawMany q n v) (ep ∙ sym eh)
 
-  pub elements : (n : ℕ) {words : List ℕ} {next : ℕ} → Is words next (drawMany p n v) → Is words next (drawKinds h (replicate n message) v)
-  elements n d = d ∙ below-prime n ∙ sym (messages-drawn h n v)
+  pub elements : (n : ℕ) {words : List ℕ} {next : ℕ} → Is words next (drawMany p n v) → Is words next (drawKinds h none (replicate n message) v)
+  elements n d = d ∙ below-prime n ∙ sym (messages-drawn h none n v)
 
-  pub one-element : {n : ℕ} {words : List ℕ} {next : ℕ} → n ≡ 1 → Is words next (drawMany p n v) → Is words next (drawKinds h (coin ∷ []) v)
-  one-element {n} e d = d ∙ below-prime n ∙ ap (λ (m : ℕ). drawMany (h .prime) m v) e ∙ one-coin h v
+  pub one-element : {n : ℕ} {words : List ℕ} {next : ℕ} → n ≡ 1 → Is words next (drawMany p n v) → Is words next (drawKinds h none (coin ∷ []) v)
+  one-element {n} e d = d ∙ below-prime n ∙ ap (λ (m : ℕ). drawMany (h .prime) m v) e ∙ one-coin h none v
 
-  two-elements : {n : ℕ} {words : List ℕ} {next : ℕ} → n ≡ 2 → Is words next (drawMany p n v) → Is words next (drawKinds h (coin ∷ coin ∷ []) v)
-  two-elements {n} e d = d ∙ below-prime n ∙ ap (λ (m : ℕ). drawMany (h .prime) m v) e ∙ two-coins h v
+  two-elements : (before : Option ℕ) {n : ℕ} {words : List ℕ} {next : ℕ} → n ≡ 2 → Is words next (drawMany p n v) → Is words next (drawKinds h before (coin ∷ coin ∷ []) v)
+  two-elements before {n} e d = d ∙ below-prime n ∙ ap (λ (m : ℕ). drawMany (h .prime) m v) e ∙ two-coins h before v
 
   -- the coins of a round but its out coins
-  pub later-coins : (limit : ℕ) {n m count : ℕ} {words front back : List ℕ} {next last : ℕ} → words ≡ front ++ back → n ≡ 2 → m ≡ count →
-      Is front next (drawMany p n v) → Is back last (drawMany limit m next) → Is words last (drawKinds h (coin ∷ coin ∷ replicate count (index limit)) v)
-  later-coins limit {m = m} {count} {next = next} e en em first second =
-      drawn-both h (coin ∷ coin ∷ []) (replicate count (index limit)) v e (two-elements en first)
-      (second ∙ ap (λ (j : ℕ). drawMany limit j next) em ∙ sym (indices-drawn h limit count next))
+  pub later-coins : (before : Option ℕ) (limit : ℕ) {n m count : ℕ} {words front back : List ℕ} {next last : ℕ} → words ≡ front ++ back → n ≡ 2 → m ≡ count →
+      Is front next (drawMany p n v) → Is back last (drawMany limit m next) → Is words last (drawKinds h before (coin ∷ coin ∷ replicate count (index limit)) v)
+  later-coins before limit {m = m} {count} {next = next} e en em first second =
+      drawn-both h before (coin ∷ coin ∷ []) (replicate count (index limit)) v e (two-elements before en first) refl
+      (second ∙ ap (λ (j : ℕ). drawMany limit j next) em ∙ sym (indices-drawn h _ limit count next))
 
 module _ {w pw : List ℕ} {i scale : ℕ} (a : AtLevel w pw i scale) (v : ℕ) where
   abbrev h : Sheet
@@ -49,33 +51,49 @@ module _ {w pw : List ℕ} {i scale : ℕ} (a : AtLevel w pw i scale) (v : ℕ) 
   -- the coins of round i + 1
   pub round-coins : {n m all limit : ℕ} {words front back : List ℕ} {next last : ℕ} → words ≡ front ++ back → all ≡ getD w 5 0 + 2 + getD w (6 + i) 0 →
       n ≡ getD w 5 0 → m ≡ all - getD w 5 0 → limit ≡ shiftCount (levelOf (sheetOf edition1 w) i) →
-      Is front next (drawKinds (sheetOf edition1 w) (replicate n (out (levelOf (sheetOf edition1 w) (i + 1)))) v) →
-      Is back last (drawKinds (sheetOf edition1 w) (coin ∷ coin ∷ replicate (m - 2) (index limit)) next) →
-      Is words last (drawKinds (sheetOf edition1 w) (outKinds (sheetOf edition1 w) i ++ laterKinds (sheetOf edition1 w) i) v)
+      Is front next (drawKinds (sheetOf edition1 w) none (replicate n (out (levelOf (sheetOf edition1 w) (i + 1)))) v) →
+      ((before : Option ℕ) → Is back last (drawKinds (sheetOf edition1 w) before (coin ∷ coin ∷ replicate (m - 2) (index limit)) next)) →
+      Is words last (drawKinds (sheetOf edition1 w) none (outKinds (sheetOf edition1 w) i ++ laterKinds (sheetOf edition1 w) i) v)
   unfolding sheetOf
-  round-coins {m = m} {next = next} e ea en em el first second =
+  round-coins {m = m} {front = front} {next = next} e ea en em el first second =
       let et : m - 2 ≡ levelOf h i .repetitions = omega (arith, times-are a) in
-      drawn-both h (outKinds h i) (laterKinds h i) v e
-      (first ∙ ap (λ (j : ℕ). drawKinds h (replicate j (out (levelOf h (i + 1)))) v) en)
-      (second ∙ (λ x. drawKinds h (coin ∷ coin ∷ replicate (et x) (index (el x))) next))
+      drawn-both h none (outKinds h i) (laterKinds h i) v e
+      (first ∙ ap (λ (j : ℕ). drawKinds h none (replicate j (out (levelOf h (i + 1)))) v) en) refl
+      (second (outAfter none (outKinds h i) front) ∙ (λ x. drawKinds h (outAfter none (outKinds h i) front) (coin ∷ coin ∷ replicate (et x) (index (el x))) next))
+
+  -- after them none stands before the next coin
+  round-closed : i < getD w 4 0 → {words : List ℕ} {next : ℕ} →
+      Is words next (drawKinds (sheetOf edition1 w) none (outKinds (sheetOf edition1 w) i ++ laterKinds (sheetOf edition1 w) i) v) →
+      outAfter none (outKinds (sheetOf edition1 w) i ++ laterKinds (sheetOf edition1 w) i) words ≡ none
+  round-closed more {words} first =
+      let outs = outKinds h i in
+      let n = outsOf h in
+      let t = levelOf h i .repetitions in
+      let law = lawful edition1 w (omega (arith, a .long)) (a .passed) in
+      let long : length words ≡ length (outs ++ laterKinds h i) = ap (λ (d : Drawn (List ℕ)). length (d .value)) first ∙ drawn-length h none (outs ++ laterKinds h i) v in
+      let count = length-append outs (laterKinds h i) in
+      let ns = length-replicate n (out (levelOf h (i + 1))) in
+      ap (outAfter none (outs ++ laterKinds h i)) (sym (take-append-drop n words))
+      ∙ after-append none outs (laterKinds h i) (take n words) (drop n words) (length-take-le n words (omega (arith, long, count, ns)) ∙ sym ns)
+      ∙ after-later _ t (shiftCount (levelOf h i)) (drop n words) (law .once i (omega (arith, rounds-are a))) (length-drop n words ∙ omega (arith, long, count, ns, later-count h i))
 
   -- those after fold coin i: a round's and those after it,
   pub coins-more : {words front back : List ℕ} {next last : ℕ} → i < getD w 4 0 → words ≡ front ++ back →
-      Is front next (drawKinds (sheetOf edition1 w) (outKinds (sheetOf edition1 w) i ++ laterKinds (sheetOf edition1 w) i) v) →
-      Is back last (drawKinds (sheetOf edition1 w) (kindsAfter (sheetOf edition1 w) (i + 1)) next) → Is words last (drawKinds (sheetOf edition1 w) (kindsAfter (sheetOf edition1 w) i) v)
+      Is front next (drawKinds (sheetOf edition1 w) none (outKinds (sheetOf edition1 w) i ++ laterKinds (sheetOf edition1 w) i) v) →
+      Is back last (drawKinds (sheetOf edition1 w) none (kindsAfter (sheetOf edition1 w) (i + 1)) next) → Is words last (drawKinds (sheetOf edition1 w) none (kindsAfter (sheetOf edition1 w) i) v)
   coins-more more e first second =
-      drawn-both h (outKinds h i ++ laterKinds h i) (kindsAfter h (i + 1)) v e first second
-      ∙ ap (λ (ks : List Kind). drawKinds h ks v) (append-assoc (outKinds h i) (laterKinds h i) (kindsAfter h (i + 1)) ∙ sym (kinds-next h i (omega (arith, rounds-are a))))
+      drawn-both h none (outKinds h i ++ laterKinds h i) (kindsAfter h (i + 1)) v e first (round-closed more first) second
+      ∙ ap (λ (ks : List Kind). drawKinds h none ks v) (append-assoc (outKinds h i) (laterKinds h i) (kindsAfter h (i + 1)) ∙ sym (kinds-next h i (omega (arith, rounds-are a))))
 
   -- or the final indices
   pub coins-last : {n limit : ℕ} {words : List ℕ} {last : ℕ} → i ≡ getD w 4 0 → n ≡ length (kindsAfter (sheetOf edition1 w) i) → limit ≡ shiftCount (levelOf (sheetOf edition1 w) i) →
-      Is words last (drawMany limit n v) → Is words last (drawKinds (sheetOf edition1 w) (kindsAfter (sheetOf edition1 w) i) v)
+      Is words last (drawMany limit n v) → Is words last (drawKinds (sheetOf edition1 w) none (kindsAfter (sheetOf edition1 w) i) v)
   coins-last {n} {limit} e en el d =
       let t = levelOf h i .repetitions in
       let c = shiftCount (levelOf h i) in
       let k = kinds-last h i (omega (arith, rounds-are a)) in
       let et : n ≡ t = en ∙ ap length k ∙ length-replicate t (index c) in
-      d ∙ (λ x. drawMany (el x) (et x) v) ∙ sym (indices-drawn h c t v) ∙ ap (λ (ks : List Kind). drawKinds h ks v) (sym k)
+      d ∙ (λ x. drawMany (el x) (et x) v) ∙ sym (indices-drawn h none c t v) ∙ ap (λ (ks : List Kind). drawKinds h none ks v) (sym k)
 
 -- before round i + 1, which has `count` of the n coins still to be drawn
 pub record Onward (w : List ℕ) (i n count : ℕ) : Type 0 where
@@ -101,9 +119,9 @@ pub all-counted : {w pw : List ℕ} {n : ℕ} → AtLevel w pw 0 1 → n ≡ len
 all-counted {w} a e = omega (arith, ap length (kinds-all (sheetOf edition1 w) (paired a)))
 
 pub coins-all : (w pw : List ℕ) (v : ℕ) {words front back : List ℕ} {next last : ℕ} → AtLevel w pw 0 1 → words ≡ front ++ back →
-    Is front next (drawKinds (sheetOf edition1 w) (coin ∷ []) v) → Is back last (drawKinds (sheetOf edition1 w) (kindsAfter (sheetOf edition1 w) 0) next) →
-    Is words last (drawKinds (sheetOf edition1 w) (coinKinds (layout (sheetOf edition1 w))) v)
-coins-all w pw v a e first second =
+    Is front next (drawKinds (sheetOf edition1 w) none (coin ∷ []) v) → Is back last (drawKinds (sheetOf edition1 w) none (kindsAfter (sheetOf edition1 w) 0) next) →
+    Is words last (drawKinds (sheetOf edition1 w) none (coinKinds (layout (sheetOf edition1 w))) v)
+coins-all w pw v {front = front} a e first second =
     let h = sheetOf edition1 w in
-    drawn-both h (coin ∷ []) (kindsAfter h 0) v e first second
-    ∙ ap (λ (ks : List Kind). drawKinds h ks v) (sym (kinds-all h (paired a)))
+    drawn-both h none (coin ∷ []) (kindsAfter h 0) v e first (after-coin front) second
+    ∙ ap (λ (ks : List Kind). drawKinds h none ks v) (sym (kinds-all h (paired a)))

@@ -1,14 +1,18 @@
 -- Where the draws of the coins stand: at level i of a sheet w of edition 1 that passes, with the table of the points of its domain 0.
-use Prim.Native.Nat.{ℕ, _+_, _*_, _/_, _^_, _≤_, _<_}
+use Prim.Native.Nat.{ℕ, suc, _+_, _-_, _*_, _/_, _^_, _≤_, _<_}
 use native.Mathlib.Nat.{mul-comm, pow-suc}
 use native.Mathlib.Numerals.{add-one}
 use native.Mathlib.Omega.{arith}
+use mathlib.Core.Bool.{cond}
 use mathlib.Core.List.{List}
-use mathlib.Core.Path.{_≡_, refl, sym, ap, _∙_}
+use mathlib.Core.Option
+use mathlib.Core.Option.{Option}
+use mathlib.Core.Path.{_≡_, refl, sym, ap, _∙_, subst}
+use lib.Dec.{eqb}
 use lib.ListN.{length, getD}
 use lib.Pow.{pow-mono, pow-pos}
 use Rattle.definition.specs.Layout.{out}
-use Rattle.definition.specs.Load.{Drawn, drawOut}
+use Rattle.definition.specs.Load.{smallestAllowed}
 use Rattle.definition.specs.Reading.{sheetTest}
 use Rattle.definition.specs.Sheet.{Level, edition1, rootOfUnity, sheetOf, shiftCount}
 use Rattle.definition.specs.Verdict.{accepted}
@@ -17,10 +21,11 @@ use Rattle.completeness.specs.Lawful.{lawful, rounds-word, times-word}
 use Rattle.completeness.specs.LevelSizes.{positive-sizes}
 use Rattle.completeness.specs.Numbered.{levelOf, roundsOf}
 use Rattle.completeness.specs.PlainSheet.{fold-one}
+use Rattle.completeness.specs.Premises.{smallest-second}
 use Rattle.completeness.specs.SheetLevels.{sized}
 use Rattle.completeness.specs.SheetRules.{first-fold, folding-large, front-words, rounds-most, small-repetitions}
 use Rattle.domain.specs.Powers.{Powers}
-use Rattle.draws.specs.OutCoin.{OutDrawn}
+use Rattle.draws.specs.OutCoin.{Stands, Suits}
 
 -- pw is the table of points, and scale is 2^i
 pub record AtLevel (w pw : List ℕ) (i scale : ℕ) : Type 0 where
@@ -93,7 +98,20 @@ module _ {w pw : List ℕ} {i scale : ℕ} (a : AtLevel w pw i scale) where
     scaled = ap (λ (s : ℕ). 2 * s) (a .scaled) ∙ sym (ap (λ (j : ℕ). 2 ^ j) (add-one i) ∙ pow-suc 2 i ∙ mul-comm (2 ^ i) 2);
   }
 
-  -- an out coin of the level is the definition's
-  pub out-drawn : (v : ℕ) {d : Drawn ℕ} → OutDrawn (getD w 0 0) pw scale v d → d ≡ drawOut (sheetOf edition1 w) (out (levelOf (sheetOf edition1 w) i)) 64 v
+  -- an out coin of the level, past level 0, is the definition's
+  pub suits : 0 < i → {before : ℕ} (o : Option ℕ) → Stands (sheetOf edition1 w) o before → Suits (getD w 0 0) pw scale before (sheetOf edition1 w) o (levelOf (sheetOf edition1 w) i)
   unfolding sheetOf
-  out-drawn v drawn = drawn (sheetOf edition1 w) (levelOf (sheetOf edition1 w) i) refl (a .powers) (sym (a .scaled)) (λ x. sym (a .points) x / sym (a .scaled) x)
+  suits some o stands = record {
+    prime = refl;
+    powers = a .powers;
+    number = sym (a .scaled);
+    size = λ x. sym (a .points) x / sym (a .scaled) x;
+    stands = stands;
+    smallest = λ y. smallest-after y;
+  }
+    where
+      smallest-after : (y : ℕ) → smallestAllowed (sheetOf edition1 w) (Option.some y) (out (levelOf (sheetOf edition1 w) i)) ≡ cond (eqb 0 y) 1 0
+      smallest-after y =
+          let e : suc (i - 1) ≡ i = omega arith in
+          subst (λ (j : ℕ). smallestAllowed (sheetOf edition1 w) (Option.some y) (out (levelOf (sheetOf edition1 w) j)) ≡ cond (eqb 0 y) 1 0) e
+          (smallest-second edition1 w long-enough (a .passed) (i - 1) y (omega (arith, a .level, rounds-are)))

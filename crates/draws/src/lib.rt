@@ -4,7 +4,8 @@ use generator::Draw;
 use generator::Generator;
 ghost use mathlib.Core.Path.{_≡_};
 ghost use mathlib.Core.List.{_∷_, _++_};
-ghost use Prim.Native.Nat.{_+_, _-_, _/_, _≤_, _<_};
+ghost use mathlib.Core.Option.{Option, none};
+ghost use Prim.Native.Nat.{ℕ, _+_, _-_, _/_, _≤_, _<_};
 ghost use lib.ListN.{length, getD, replicate};
 ghost use Rattle.definition.specs.Field.{primeOf};
 ghost use Rattle.definition.specs.Layout.{coin, coinKinds, index, layout, message, out as outOf};
@@ -15,44 +16,57 @@ ghost use Rattle.definition.specs.Verdict.{accepted};
 ghost use Rattle.completeness.specs.CoinsAfter.{kindsAfter, laterKinds, outKinds};
 ghost use Rattle.completeness.specs.Numbered.{levelOf};
 ghost use Rattle.draws.specs.AtLevel.{AtLevel};
-ghost use Rattle.draws.specs.OutCoin.{OutDrawn};
+ghost use Rattle.draws.specs.OutCoin.{MayBe, OutDrawn};
 
 // An element for each coefficient.
 pub fn coefficients(field: u32, generator: Generator, out: &mut [u32]) -> Generator
     ensures { λ r.
-        ⌜ ((h : Sheet) → h .prime ≡ primeOf field → record { value = now (out .exit); next = r .v } ≡ drawKinds h (replicate (length (now (out .entry))) message) (generator .v)) ⌝ }
+        ⌜ ((h : Sheet) → h .prime ≡ primeOf field → record { value = now (out .exit); next = r .v } ≡ drawKinds h none (replicate (length (now (out .entry))) message) (generator .v)) ⌝ }
 {
     generator.fill(field::modulus(field), out)
 }
 
-// An out coin of the round whose domain has every scale-th point of pw: drawn again while it lies in the domain, at most 64 times, then taken as 0.
-fn out_coin(field: u32, pw: &[u32], scale: usize, generator: Generator) -> Draw
+// May x be drawn as an out coin of the round whose domain has every scale-th point of pw? It lies outside, and is not the word before it.
+fn allowed(pw: &[u32], scale: usize, before: u32, x: u32) -> bool
     requires { ⌜ 0 < scale ⌝ }
-    ensures { λ r. ⌜ OutDrawn field (now (pw .entry)) scale (generator .v) (record { value = r .value; next = r .next .v }) ⌝ }
+    ensures { λ r. ⌜ MayBe (now (pw .entry)) scale before x r ⌝ }
+{
+    if x == before {
+        return false;
+    }
+    !domain::inside(pw, scale, x)
+}
+
+// An out coin of that round, drawn again while it is not allowed, at most 64 times. Then it is the smallest element allowed: 1 after 0, else 0. The word before
+// it is the out coin before it in its round, or p, which is no element.
+fn out_coin(field: u32, pw: &[u32], scale: usize, before: u32, generator: Generator) -> Draw
+    requires { ⌜ 0 < scale ⌝ }
+    ensures { λ r. ⌜ OutDrawn field (now (pw .entry)) scale before (generator .v) (record { value = r .value; next = r .next .v }) ⌝ }
 {
     let p = field::modulus(field);
     let mut current = generator;
     let mut again: u32 = 64;
     while 0 < again {
         let d = current.below(p);
-        if !domain::inside(pw, scale, d.value) {
+        if allowed(pw, scale, before, d.value) {
             return d;
         }
         current = d.next;
         again -= 1;
     }
     let last = current.below(p);
-    if domain::inside(pw, scale, last.value) {
-        let next = last.next;
-        return Draw {
-            value: 0,
-            next: next,
-        };
+    if allowed(pw, scale, before, last.value) {
+        return last;
     }
-    last
+    let next = last.next;
+    let smallest: u32 = if before == 0 { 1 } else { 0 };
+    Draw {
+        value: smallest,
+        next: next,
+    }
 }
 
-// Out coins of a round, one for each place.
+// Out coins of a round, one for each place, each after the one before it.
 fn out_coins(
     w: &[u32],
     pw: &[u32],
@@ -61,16 +75,18 @@ fn out_coins(
     generator: Generator,
     out: &mut [u32],
 ) -> Generator
-    requires { ⌜ AtLevel (now w) (now pw) level scale ⌝ }
+    requires { ⌜ (AtLevel (now w) (now pw) level scale) × (0 < level) ⌝ }
     ensures { λ r.
-        ⌜ record { value = now (out .exit); next = r .v } ≡ drawKinds (sheetOf edition1 (now (w .entry))) (replicate (length (now (out .entry))) (outOf (levelOf (sheetOf edition1 (now (w .entry))) level))) (generator .v) ⌝ }
+        ⌜ record { value = now (out .exit); next = r .v } ≡ drawKinds (sheetOf edition1 (now (w .entry))) none (replicate (length (now (out .entry))) (outOf (levelOf (sheetOf edition1 (now (w .entry))) level))) (generator .v) ⌝ }
 {
     let field = w[0];
+    let mut before = field::modulus(field);
     let mut current = generator;
     let mut i = 0;
     while i < out.len() {
-        let d = out_coin(field, pw, scale, current);
-        out[i] = d.value;
+        let d = out_coin(field, pw, scale, before, current);
+        before = d.value;
+        out[i] = before;
         current = d.next;
         i += 1;
     }
@@ -81,7 +97,7 @@ fn out_coins(
 fn later_coins(field: u32, limit: u32, generator: Generator, out: &mut [u32]) -> Generator
     requires { ⌜ (0 < limit) × (2 ≤ length (now out)) ⌝ }
     ensures { λ r.
-        ⌜ ((h : Sheet) → h .prime ≡ primeOf field → record { value = now (out .exit); next = r .v } ≡ drawKinds h (coin ∷ coin ∷ replicate (length (now (out .entry)) - 2) (index limit)) (generator .v)) ⌝ }
+        ⌜ ((h : Sheet) (before : Option ℕ) → h .prime ≡ primeOf field → record { value = now (out .exit); next = r .v } ≡ drawKinds h before (coin ∷ coin ∷ replicate (length (now (out .entry)) - 2) (index limit)) (generator .v)) ⌝ }
 {
     let next = generator.fill(field::modulus(field), &mut out[..2]);
     next.fill(limit, &mut out[2..])
@@ -107,7 +123,7 @@ fn round(
     requires { ⌜ (AtLevel (now w) (now pw) level scale) × (level < getD (now w) 4 0) ⌝ }
     requires { ⌜ length (now out) ≡ getD (now w) 5 0 + 2 + getD (now w) (6 + level) 0 ⌝ }
     ensures { λ r.
-        ⌜ record { value = now (out .exit); next = r .v } ≡ drawKinds (sheetOf edition1 (now (w .entry))) (outKinds (sheetOf edition1 (now (w .entry))) level ++ laterKinds (sheetOf edition1 (now (w .entry))) level) (generator .v) ⌝ }
+        ⌜ record { value = now (out .exit); next = r .v } ≡ drawKinds (sheetOf edition1 (now (w .entry))) none (outKinds (sheetOf edition1 (now (w .entry))) level ++ laterKinds (sheetOf edition1 (now (w .entry))) level) (generator .v) ⌝ }
 {
     let field = w[0];
     let s = w[5] as usize;
@@ -137,7 +153,7 @@ fn rest(
     requires { ⌜ AtLevel (now w) (now pw) level scale ⌝ }
     requires { ⌜ length (now out) ≡ length (kindsAfter (sheetOf edition1 (now w)) level) ⌝ }
     ensures { λ r.
-        ⌜ record { value = now (out .exit); next = r .v } ≡ drawKinds (sheetOf edition1 (now (w .entry))) (kindsAfter (sheetOf edition1 (now (w .entry))) level) (generator .v) ⌝ }
+        ⌜ record { value = now (out .exit); next = r .v } ≡ drawKinds (sheetOf edition1 (now (w .entry))) none (kindsAfter (sheetOf edition1 (now (w .entry))) level) (generator .v) ⌝ }
 {
     if level == w[4] as usize {
         return generator.fill(shift_points(pw.len(), scale, w[3]), out);
@@ -152,7 +168,7 @@ fn from_first(w: &[u32], pw: &[u32], generator: Generator, out: &mut [u32]) -> G
     requires { ⌜ AtLevel (now w) (now pw) 0 1 ⌝ }
     requires { ⌜ length (now out) ≡ length (coinKinds (layout (sheetOf edition1 (now w)))) ⌝ }
     ensures { λ r.
-        ⌜ record { value = now (out .exit); next = r .v } ≡ drawKinds (sheetOf edition1 (now (w .entry))) (coinKinds (layout (sheetOf edition1 (now (w .entry))))) (generator .v) ⌝ }
+        ⌜ record { value = now (out .exit); next = r .v } ≡ drawKinds (sheetOf edition1 (now (w .entry))) none (coinKinds (layout (sheetOf edition1 (now (w .entry))))) (generator .v) ⌝ }
 {
     let next = generator.fill(field::modulus(w[0]), &mut out[..1]);
     rest(w, pw, 0, 1, next, &mut out[1..])
@@ -163,7 +179,7 @@ pub fn coins(w: &[u32], generator: Generator, out: &mut [u32]) -> Generator
     requires { ⌜ (length (now w) ≡ 12) × (sheetTest edition1 (now w) ≡ accepted) ⌝ }
     requires { ⌜ length (now out) ≡ length (coinKinds (layout (sheetOf edition1 (now w)))) ⌝ }
     ensures { λ r.
-        ⌜ record { value = now (out .exit); next = r .v } ≡ drawKinds (sheetOf edition1 (now (w .entry))) (coinKinds (layout (sheetOf edition1 (now (w .entry))))) (generator .v) ⌝ }
+        ⌜ record { value = now (out .exit); next = r .v } ≡ drawKinds (sheetOf edition1 (now (w .entry))) none (coinKinds (layout (sheetOf edition1 (now (w .entry))))) (generator .v) ⌝ }
 {
     let mut pw = domain::points_room();
     let size = domain::of_sheet(w, &mut pw);

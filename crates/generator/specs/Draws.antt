@@ -2,9 +2,11 @@
 use Prim.Native.Nat.{ℕ, zero, suc, _+_, _<_}
 use mathlib.Core.Path.{_≡_, refl, sym, ap, _∙_}
 use mathlib.Core.List.{List, [], _∷_, _++_}
+use mathlib.Core.Option.{Option, none}
 use native.Mathlib.Numerals.{add-one}
 use lib.ListN.{length, take, replicate, set}
 use lib.Seq.{take-suc-set}
+use Rattle.definition.specs.Deciding.{outBefore}
 use Rattle.definition.specs.Layout.{index, message}
 use Rattle.definition.specs.Load.{Drawn, drawBelow, drawKind, drawKinds}
 use Rattle.definition.specs.Sheet.{Sheet}
@@ -16,15 +18,17 @@ drawMany limit (suc count) v =
     record { value = drawBelow limit v .value ∷ xs .value; next = xs .next }
 
 -- the definition's draws of words of one kind
-pub messages-drawn : (h : Sheet) (count v : ℕ) → drawKinds h (replicate count message) v ≡ drawMany (h .prime) count v
-unfolding drawMany drawKinds drawKind
-messages-drawn h zero v = refl
-messages-drawn h (suc count) v = ap (λ (d : Drawn (List ℕ)). record { value = drawBelow (h .prime) v .value ∷ d .value; next = d .next }) (messages-drawn h count (drawBelow (h .prime) v .next))
+pub messages-drawn : (h : Sheet) (before : Option ℕ) (count v : ℕ) → drawKinds h before (replicate count message) v ≡ drawMany (h .prime) count v
+unfolding drawMany drawKinds drawKind outBefore
+messages-drawn h before zero v = refl
+messages-drawn h before (suc count) v =
+    ap (λ (d : Drawn (List ℕ)). record { value = drawBelow (h .prime) v .value ∷ d .value; next = d .next }) (messages-drawn h none count (drawBelow (h .prime) v .next))
 
-pub indices-drawn : (h : Sheet) (n count v : ℕ) → drawKinds h (replicate count (index n)) v ≡ drawMany n count v
-unfolding drawMany drawKinds drawKind
-indices-drawn h n zero v = refl
-indices-drawn h n (suc count) v = ap (λ (d : Drawn (List ℕ)). record { value = drawBelow n v .value ∷ d .value; next = d .next }) (indices-drawn h n count (drawBelow n v .next))
+pub indices-drawn : (h : Sheet) (before : Option ℕ) (n count v : ℕ) → drawKinds h before (replicate count (index n)) v ≡ drawMany n count v
+unfolding drawMany drawKinds drawKind outBefore
+indices-drawn h before n zero v = refl
+indices-drawn h before n (suc count) v =
+    ap (λ (d : Drawn (List ℕ)). record { value = drawBelow n v .value ∷ d .value; next = d .next }) (indices-drawn h none n count (drawBelow n v .next))
 
 -- one draw more at the end
 pub many-last : (limit count v : ℕ) →

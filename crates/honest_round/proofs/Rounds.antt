@@ -16,7 +16,7 @@ use Rattle.definition.specs.Polynomial.{correctedPoly, distinct, points}
 use Rattle.definition.specs.Prover.{honestAnswers, nextPoly}
 use Rattle.completeness.specs.Numbered.{degreeOf, levelOf, outsOf, roundsOf, sheetField, sheetRoot}
 use Rattle.correction.specs.Corrected.{Corrected}
-use Rattle.rounds.specs.PointsIn.{shiftIn, shift-in}
+use Rattle.folds.specs.PointsIn.{shiftIn, shift-in}
 use Rattle.honest_words.specs.Levels.{shifts-are}
 use Rattle.distinct.specs.Points.{InTable, differentPoints, distinct-points}
 use Rattle.honest_words.specs.Sizes.{Sizes, falls, field-word, next-place, numbers, sizes}

@@ -2,6 +2,7 @@
 use Prim.Native.Nat.{ℕ, _*_, _≤_}
 use native.Mathlib.Omega.{arith}
 use mathlib.Core.List.{List}
+use mathlib.Core.Option.{none}
 use mathlib.Core.Path.{_≡_, sym, ap, subst, _∙_}
 use lib.ListN.{length, getD, replicate}
 use borrow.Author.Tests.{le-ltb}
@@ -37,18 +38,18 @@ coinsAfter : List ℕ → List ℕ → Drawn (List ℕ) → Drawn Order
 coinsAfter w f c = record { value = record { sheet = w; coefficients = f; coins = c .value }; next = c .next }
 
 restAfter : List ℕ → Drawn (List ℕ) → Drawn Order
-restAfter w f = coinsAfter w (f .value) (drawKinds (sheetOf edition1 w) (coinKinds (layout (sheetOf edition1 w))) (f .next))
+restAfter w f = coinsAfter w (f .value) (drawKinds (sheetOf edition1 w) none (coinKinds (layout (sheetOf edition1 w))) (f .next))
 
 orderAfter : Drawn (List ℕ) → Drawn Order
-orderAfter w = restAfter (w .value) (drawKinds (sheetOf edition1 (w .value)) (replicate (sheetOf edition1 (w .value) .degree) message) (w .next))
+orderAfter w = restAfter (w .value) (drawKinds (sheetOf edition1 (w .value)) none (replicate (sheetOf edition1 (w .value) .degree) message) (w .next))
 
 module _
     (v : ℕ)
     {generator mid next : ℕ}
     {w f c : List ℕ}
     (sheet : _≡_ {A = Drawn (List ℕ)} (record { value = w; next = generator }) (drawSheet v))
-    (coefficients : _≡_ {A = Drawn (List ℕ)} (record { value = f; next = mid }) (drawKinds (sheetOf edition1 w) (replicate (sheetOf edition1 w .degree) message) generator))
-    (coins : _≡_ {A = Drawn (List ℕ)} (record { value = c; next = next }) (drawKinds (sheetOf edition1 w) (coinKinds (layout (sheetOf edition1 w))) mid))
+    (coefficients : _≡_ {A = Drawn (List ℕ)} (record { value = f; next = mid }) (drawKinds (sheetOf edition1 w) none (replicate (sheetOf edition1 w .degree) message) generator))
+    (coins : _≡_ {A = Drawn (List ℕ)} (record { value = c; next = next }) (drawKinds (sheetOf edition1 w) none (coinKinds (layout (sheetOf edition1 w))) mid))
   where
     drawn-order : _≡_ {A = Drawn Order} (record { value = record { sheet = w; coefficients = f; coins = c }; next = next }) (drawOrder v)
     unfolding drawOrder coinsAfter restAfter orderAfter

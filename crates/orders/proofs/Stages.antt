@@ -1,7 +1,7 @@
 -- The tests of an order one after the other: what each answer says of the definition's outcome.
 use Prim.Native.Nat.{ℕ, _*_, _≤_, _<_}
 use native.Mathlib.Omega.{arith}
-use mathlib.Core.Path.{_≡_, sym, ap, _∙_}
+use mathlib.Core.Path.{_≡_, refl, sym, ap, _∙_}
 use mathlib.Core.Bool.{not}
 use mathlib.Core.List.{List, [], _++_}
 use lib.Dec.{eqb}
@@ -9,8 +9,9 @@ use lib.ListN.{length, getD}
 use borrow.Author.Tests.{eq-eqb, ne-eqb, lt-ltb, le-ltb}
 use Rattle.completeness.specs.Tests.{equal-passes, then-passes}
 use Rattle.definition.specs.Block.{blockCount}
+use Rattle.definition.specs.Deciding.{equalTest, outTest, outTests}
 use Rattle.definition.specs.Layout.{coinKinds, layout, wordsDue}
-use Rattle.definition.specs.Prove.{coefficientsTest, coinDomainTest, coinsTest, encodeTests, inputRangeTest, outputTest, proveTests, sheetLengthTest}
+use Rattle.definition.specs.Prove.{coefficientsTest, coinDomainTest, coinEqualTest, coinsTest, encodeTests, inputRangeTest, outputTest, proveTests, sheetLengthTest}
 use Rattle.definition.specs.Reading.{sheetTest}
 use Rattle.definition.specs.Sheet.{Edition, sheetLength, sheetOf}
 use Rattle.definition.specs.Verdict.{Outcome, accepted, refused, refuseAt, refuseIf, _then_}
@@ -60,32 +61,47 @@ module _ (ed : Edition) (w : List ℕ) where
   unfolding sheetLengthTest
   all-words q h e = agree 10 0 (length w) (sheetLength ed) (h ∙ q) e
 
-module _ (ed : Edition) (w : List ℕ) {r : Answered} (first : outcomeOf r ≡ (sheetLengthTest ed w then sheetTest ed w)) where
-  pub sheet-refused : {number place : ℕ} (next : Outcome) → r ≡ Refused number place → refused number place ≡ (sheetLengthTest ed w then sheetTest ed w then next)
+-- two tests made by one function, and the tests after them
+module _ (a b : Outcome) {r : Answered} (first : outcomeOf r ≡ (a then b)) where
+  both-refused : {number place : ℕ} (next : Outcome) → r ≡ Refused number place → refused number place ≡ (a then b then next)
   unfolding outcomeOf _then_
-  sheet-refused {number} {place} next h = go (sheetLengthTest ed w) (sheetTest ed w) (sym (ap outcomeOf h) ∙ first)
+  both-refused {number} {place} next h = go a b (sym (ap outcomeOf h) ∙ first)
     where
       go : (a b : Outcome) → refused number place ≡ (a then b) → refused number place ≡ (a then b then next)
       go accepted b e = ap (λ (o : Outcome). o then next) e
       go (refused n p) b e = e
 
   module _ (passed : r ≡ Accepted) where
-    both : (sheetLengthTest ed w ≡ accepted) × (sheetTest ed w ≡ accepted)
+    both-passed : (a ≡ accepted) × (b ≡ accepted)
     unfolding outcomeOf
-    both = then-passes (sheetLengthTest ed w) (sheetTest ed w) (sym first ∙ ap outcomeOf passed)
+    both-passed = then-passes a b (sym first ∙ ap outcomeOf passed)
 
+    after-both : {o next : Outcome} → o ≡ next → o ≡ (a then b then next)
+    unfolding _then_
+    after-both {next = next} e = e ∙ sym (λ i. both-passed .0 i then both-passed .1 i then next)
+
+module _ (ed : Edition) (w : List ℕ) {r : Answered} (first : outcomeOf r ≡ (sheetLengthTest ed w then sheetTest ed w)) where
+  pub sheet-refused : {number place : ℕ} (next : Outcome) → r ≡ Refused number place → refused number place ≡ (sheetLengthTest ed w then sheetTest ed w then next)
+  sheet-refused next h = both-refused (sheetLengthTest ed w) (sheetTest ed w) first next h
+
+  module _ (passed : r ≡ Accepted) where
     pub sheet-long : sheetLength ed ≤ length w
     unfolding sheetLengthTest
-    sheet-long = omega (arith, equal-passes 10 0 (length w) (sheetLength ed) (both .0))
+    sheet-long = omega (arith, equal-passes 10 0 (length w) (sheetLength ed) (both-passed (sheetLengthTest ed w) (sheetTest ed w) first passed .0))
 
     pub sheet-passed : sheetTest ed w ≡ accepted
-    sheet-passed = both .1
+    sheet-passed = both-passed (sheetLengthTest ed w) (sheetTest ed w) first passed .1
 
     pub after-sheet : {o next : Outcome} → o ≡ next → o ≡ (sheetLengthTest ed w then sheetTest ed w then next)
-    unfolding _then_
-    after-sheet {next = next} e = e ∙ sym (λ i. both .0 i then both .1 i then next)
+    after-sheet e = after-both (sheetLengthTest ed w) (sheetTest ed w) first passed e
 
 -- ---- prove's tests after the sheet's
+
+-- the tests of out coins on a coin list are prove's 7 and 14
+pub coin-tests : (ed : Edition) (w coins : List ℕ) →
+    outTests (sheetOf ed w) 0 (coinKinds (layout (sheetOf ed w))) coins ≡ (coinDomainTest (sheetOf ed w) coins then coinEqualTest (sheetOf ed w) coins)
+unfolding outTests outTest equalTest coinDomainTest coinEqualTest
+coin-tests ed w coins = refl
 
 module _ (ed : Edition) (w f coins output : List ℕ) where
   pub other-coefficients : (length f ≡ getD w 2 0 → ⊥) → refused 10 1 ≡ proveTests ed (sheetOf ed w) f coins output
@@ -99,7 +115,7 @@ module _ (ed : Edition) (w f coins output : List ℕ) where
 
     module _ (full : length coins ≡ length (coinKinds (layout (sheetOf ed w)))) where
       from-range : {o : Outcome} →
-          o ≡ (inputRangeTest (sheetOf ed w) (coinKinds (layout (sheetOf ed w))) (f ++ coins) then coinDomainTest (sheetOf ed w) coins
+          o ≡ (inputRangeTest (sheetOf ed w) (coinKinds (layout (sheetOf ed w))) (f ++ coins) then coinDomainTest (sheetOf ed w) coins then coinEqualTest (sheetOf ed w) coins
           then outputTest (blockCount (wordsDue ed (sheetOf ed w))) (512 * blockCount (wordsDue ed (sheetOf ed w))) (length output)) →
           o ≡ proveTests ed (sheetOf ed w) f coins output
       unfolding proveTests coefficientsTest coinsTest sheetOf
@@ -109,13 +125,13 @@ module _ (ed : Edition) (w f coins output : List ℕ) where
         pub out-of-range : {place : ℕ} → range ≡ At place → refused 5 place ≡ proveTests ed (sheetOf ed w) f coins output
         out-of-range h = from-range (found 5 _ ranged h)
 
-        module _ (in-range : range ≡ Nothing) {inside : Found} (tested : refuseAt 7 (placeOf inside) ≡ coinDomainTest (sheetOf ed w) coins) where
-          pub in-domain : {place : ℕ} → inside ≡ At place → refused 7 place ≡ proveTests ed (sheetOf ed w) f coins output
-          in-domain h = from-range (clear 5 ranged in-range (found 7 _ tested h))
+        module _ (in-range : range ≡ Nothing) {outs : Answered} (tested : outcomeOf outs ≡ (coinDomainTest (sheetOf ed w) coins then coinEqualTest (sheetOf ed w) coins)) where
+          pub out-coins-refused : {number place : ℕ} → outs ≡ Refused number place → refused number place ≡ proveTests ed (sheetOf ed w) f coins output
+          out-coins-refused h = from-range (clear 5 ranged in-range (both-refused (coinDomainTest (sheetOf ed w) coins) (coinEqualTest (sheetOf ed w) coins) tested _ h))
 
-          module _ (outside : inside ≡ Nothing) {blocks : ℕ} (is : blocks ≡ blockCount (wordsDue ed (sheetOf ed w))) {room : ℕ} (has : length output ≡ room) where
+          module _ (passed : outs ≡ Accepted) {blocks : ℕ} (is : blocks ≡ blockCount (wordsDue ed (sheetOf ed w))) {room : ℕ} (has : length output ≡ room) where
             with-output : {o : Outcome} → o ≡ outputTest blocks (512 * blocks) room → o ≡ proveTests ed (sheetOf ed w) f coins output
-            with-output e = from-range (clear 5 ranged in-range (clear 7 tested outside (e ∙ (λ i. outputTest (is i) (512 * is i) (sym has i)))))
+            with-output e = from-range (clear 5 ranged in-range (after-both (coinDomainTest (sheetOf ed w) coins) (coinEqualTest (sheetOf ed w) coins) tested passed (e ∙ (λ i. outputTest (is i) (512 * is i) (sym has i)))))
 
             pub few-bytes : room < 512 * blocks → refused 11 blocks ≡ proveTests ed (sheetOf ed w) f coins output
             few-bytes h = with-output (short blocks (512 * blocks) room h)

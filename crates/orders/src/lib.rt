@@ -1,4 +1,4 @@
-// The tests that prove and encode make of an order before they write anything: refusals 3, 5, 7, 10 and 11, up to the first that fails. An order is a sheet w,
+// The tests that prove and encode make of an order before they write anything: refusals 3, 5, 7, 10, 11 and 14, up to the first that fails. An order is a sheet w,
 // coefficients f, for prove coins, and an output, of which only its size counts here. Prove has either edition, encode edition 1.
 use edition::Edition;
 use outcome::Found;
@@ -8,11 +8,10 @@ ghost use mathlib.Core.List.{List, _++_};
 ghost use Prim.Native.Nat.{ℕ, _≤_};
 ghost use lib.ListN.{length, getD};
 ghost use Rattle.definition.specs.Layout.{coinKinds, layout};
-ghost use Rattle.definition.specs.Prove.{coinDomainTest, encodeTests, inputRangeTest, proveTests, sheetLengthTest};
+ghost use Rattle.definition.specs.Prove.{coinDomainTest, coinEqualTest, encodeTests, inputRangeTest, proveTests, sheetLengthTest};
 ghost use Rattle.definition.specs.Reading.{sheetTest};
-ghost use Rattle.definition.specs.Sheet.{edition1, rootOfUnity, sheetLength, sheetOf};
+ghost use Rattle.definition.specs.Sheet.{edition1, sheetLength, sheetOf};
 ghost use Rattle.definition.specs.Verdict.{accepted, refuseAt, _then_};
-ghost use Rattle.domain.specs.Powers.{Powers};
 ghost use Rattle.edition.specs.Meaning.{editionOf};
 ghost use Rattle.outcome.specs.Meaning.{outcomeOf, placeOf};
 
@@ -35,46 +34,20 @@ fn input_out_of_range(e: Edition, w: &[u32], f: &[u32], coins: &[u32]) -> Found
     Found::Nothing
 }
 
-// The first out coin of a round that lies in the round's domain, by its position in the coins and by the table of points.
-fn coin_inside(e: Edition, w: &[u32], pw: &[u32], coins: &[u32]) -> Found
+// Refusals 7 and 14 of prove, with the table of points made for them. A small sheet is spared the clearing of many places.
+fn coin_tests(e: Edition, w: &[u32], coins: &[u32]) -> Outcome
     requires { ⌜ (sheetLength (editionOf e) ≤ length (now w)) × (sheetTest (editionOf e) (now w) ≡ accepted) ⌝ }
     requires { ⌜ length (now coins) ≡ length (coinKinds (layout (sheetOf (editionOf e) (now w)))) ⌝ }
-    requires { ⌜ (Powers (getD (now w) 0 0) (rootOfUnity (sheetOf (editionOf e) (now w))) (now pw)) × (length (now pw) ≡ getD (now w) 1 0) ⌝ }
-    ensures { λ r. ⌜ refuseAt 7 (placeOf r) ≡ coinDomainTest (sheetOf (editionOf e) (now (w .entry))) (now (coins .entry)) ⌝ }
-{
-    let rounds = w[4] as usize;
-    let s = w[5] as usize;
-    // fold coin 0 is behind
-    let mut at = 1;
-    let mut scale = 1;
-    let mut i = 0;
-    while i < rounds {
-        scale *= 2;
-        let first = domain::first_inside(coins, pw, scale, at, s);
-        if let Found::At(place) = first {
-            return Found::At(place);
-        }
-        // out coins, combination coin, fold coin, shift indices
-        at += s + 2 + w[6 + i] as usize;
-        i += 1;
-    }
-    Found::Nothing
-}
-
-// Refusal 7 of prove: the same, with the table of points made for it. A small sheet is spared the clearing of many places.
-fn coin_in_domain(e: Edition, w: &[u32], coins: &[u32]) -> Found
-    requires { ⌜ (sheetLength (editionOf e) ≤ length (now w)) × (sheetTest (editionOf e) (now w) ≡ accepted) ⌝ }
-    requires { ⌜ length (now coins) ≡ length (coinKinds (layout (sheetOf (editionOf e) (now w)))) ⌝ }
-    ensures { λ r. ⌜ refuseAt 7 (placeOf r) ≡ coinDomainTest (sheetOf (editionOf e) (now (w .entry))) (now (coins .entry)) ⌝ }
+    ensures { λ r. ⌜ outcomeOf r ≡ (coinDomainTest (sheetOf (editionOf e) (now (w .entry))) (now (coins .entry)) then coinEqualTest (sheetOf (editionOf e) (now (w .entry))) (now (coins .entry))) ⌝ }
 {
     if w[1] <= 256 {
         let mut few = domain::few_points_room();
         let count = domain::of_sheet_within(w, &mut few);
-        return coin_inside(e, w, &few[..count], coins);
+        return out_coins::coin_tests(e, w, &few[..count], coins);
     }
     let mut pw = domain::points_room();
     let size = domain::of_sheet(w, &mut pw);
-    coin_inside(e, w, &pw[..size], coins)
+    out_coins::coin_tests(e, w, &pw[..size], coins)
 }
 
 // What both begin with: the sheet is as long as its edition says (else 10), and none of its words breaks its rule (else 3).
@@ -107,9 +80,9 @@ fn prove_after_sheet(e: Edition, w: &[u32], f: &[u32], coins: &[u32], room: usiz
     if let Found::At(place) = range {
         return Outcome::Refused(5, place);
     }
-    let inside = coin_in_domain(e, w, coins);
-    if let Found::At(place) = inside {
-        return Outcome::Refused(7, place);
+    let outs = coin_tests(e, w, coins);
+    if let Outcome::Refused(number, place) = outs {
+        return Outcome::Refused(number, place);
     }
     let blocks = sheet::blocks_due(e, w);
     if room < 512 * blocks {

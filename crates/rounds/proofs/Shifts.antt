@@ -1,81 +1,56 @@
 -- The sample at a shift index, and one turn of the walks over indices: the one that puts samples, and the one that compares. Assumes nothing.
-use Prim.Native.Nat.{ℕ, zero, suc, _+_, _-_, _*_, _%_, _≤_, _<_}
-use mathlib.Core.Path.{_≡_, _∙_, sym, ap, refl}
-use mathlib.Core.Bool.{Bool, true, false}
-use mathlib.Core.List.{List, [], _∷_, map, zipWith}
+use Prim.Native.Nat.{ℕ, zero, suc, _+_, _-_, _*_, _≤_, _<_}
+use mathlib.Core.Path.{_≡_, _∙_, sym, ap, refl, subst}
+use mathlib.Core.List.{List, [], _∷_, _++_, map, zipWith}
 use mathlib.Core.Option.{Option, none, some}
 use native.Mathlib.Nat
-use native.Mathlib.Nat.{le-refl, mul-le-mul, mul-le-mul-right, suc-mul}
+use native.Mathlib.Nat.{le-refl}
 use native.Mathlib.Numerals.{add-one}
 use native.Mathlib.Omega.{arith}
-use lib.ListN.{length, drop, getD, drop-of-length-le, List·getD-eq-default}
+use lib.ListN.{length, drop, getD, drop-of-length-le}
 use lib.Seq.{drop-cons}
-use borrow.Author.Tests.{eq-eqb, ne-eqb}
-use Rattle.definition.specs.Lists.{firstTrue}
-use Rattle.definition.specs.Field.{Field, fieldOf, power}
-use Rattle.definition.specs.Polynomial.{Sample, pair, evaluate, geometric}
-use Rattle.algebra.specs.PrimeField.{laws}
-use Rattle.domain.specs.Powers.{Powers}
-use Rattle.sums.specs.Sums.{products, products-powers}
+use Rattle.definition.specs.Field.{Field, fieldOf}
+use Rattle.definition.specs.Polynomial.{Sample, pair}
 use Rattle.polynomial.specs.Backwards.{drop-back}
 use Rattle.samples.specs.Samples.{put, sifted, Room}
 use Rattle.samples.specs.declared.Gathered.{Gathered}
 use Rattle.samples.specs.declared.Gathered.the-variants.{Clash, From}
 use Rattle.samples.specs.SampleLaws.{put-ok, clash-drop, sifted-nil}
-use Rattle.rounds.specs.declared.Function.{Function}
-use Rattle.rounds.specs.Halving.{halving, exponentOf}
-use Rattle.rounds.specs.HalvingLaw.{halving-same}
-use Rattle.rounds.specs.PointsIn.{backIn, shiftIn, shift-power}
-use Rattle.rounds.specs.Prepared.{Prepared, foldBy, numbered, rootBy, sampleBy}
-use Rattle.rounds.specs.Round.{Fits, Below, foldIn, halfOf, power-of, rootIn, sampleIn}
-use Rattle.rounds.specs.RoundLaws.{differsIn}
-use Rattle.rounds.proofs.RootValues.{exponent-is}
+use Rattle.fractions.specs.declared.Function.{Function}
+use Rattle.folds.specs.Halving.{halving, exponentOf}
+use Rattle.folds.specs.HalvingLaw.{halving-same}
+use Rattle.folds.specs.PointsIn.{backIn, shiftIn}
+use Rattle.root_values.specs.Places.{Prepared}
+use Rattle.rounds.specs.SamplesIn.{foldBy, numbered, sampleBy, foldIn, sampleIn}
+use Rattle.fractions.specs.Values.{Fits, Below, power-of, rootIn}
+use Rattle.folds.specs.OneHalf.{halfOf}
+use Rattle.rounds.specs.RoundLaws.{Answered, answered}
 
--- ---- the sample at an index
+-- ---- the fold and the sample at an index
 
-pub fits-for : {points n : ℕ} {how : Function} {k k′ : ℕ} → k′ ≡ k → Fits points n how k → Fits points n how k′
-fits-for e h = rw e h
+-- as many values as there are roots
+pub fits-as : {points n : ℕ} {how : Function} {k k′ : ℕ} → k′ ≡ k → Fits points n how k → Fits points (k′ * how .step) how k′
+fits-as {points} {n} {how} {k} e h = rw e (subst (λ (n : ℕ). Fits points n how k) (sym (h .roots)) h)
 
-pub below-at : {count : ℕ} (js : List ℕ) → Below count js → (i : ℕ) {j : ℕ} → i < length js → j ≡ getD js i 0 → j < count
-below-at js h i l e = rw e (h i l)
+module _ (field : ℕ) (pw roots : List ℕ) (how : Function) where
+  pub folded : (k r i j : ℕ) (values : List ℕ) {points n v : ℕ} → Fits points n how k → length values ≡ k → ((m : ℕ) → m < k → getD values m 0 ≡ getD roots (i * k + 1 * m) 0) →
+      v ≡ halving (fieldOf field) (halfOf field) (backIn pw) (exponentOf (length values)) (1 + how .scale * j) (how .scale * how .step) r (λ m. getD values m 0) →
+      v ≡ foldBy field pw roots how k r i j
+  unfolding foldBy
+  folded k r i j values fits long there e =
+      let d = how .scale * how .step in
+      let w : ℕ → ℕ = λ m. getD values m 0 in
+      e ∙ ap (λ (l : ℕ). halving (fieldOf field) (halfOf field) (backIn pw) (exponentOf l) (1 + how .scale * j) d r w) long
+      ∙ halving-same (fieldOf field) (halfOf field) (backIn pw) (exponentOf k) (1 + how .scale * j) d r w (λ m. getD roots (i * k + m) 0)
+      (λ m l. there m (omega (arith, power-of fits)) ∙ ap (λ (n : ℕ). getD roots (i * k + n) 0) (Nat.one-mul m))
 
--- k places for index number i
-pub places-for : (i n k words : ℕ) {k′ : ℕ} → i < n → k′ ≡ k → n * k ≤ words → i * k′ + k′ ≤ words
-places-for i n k words l e h = rw e (omega (arith, suc-mul i k, mul-le-mul-right k l))
-
-module _ (field : ℕ) (pw table tops inverses : List ℕ) (how : Function) where
-  pub sampled : (k r i j : ℕ) {x y : ℕ} → x ≡ shiftIn pw (how .scale) k j → y ≡ foldBy field pw table tops inverses how k r i j →
-      record { point = x; value = y } ≡ sampleBy field pw table tops inverses how k r i j
+  pub sampled : (k r i j : ℕ) {x y : ℕ} → x ≡ shiftIn pw (how .scale) k j → y ≡ foldBy field pw roots how k r i j →
+      record { point = x; value = y } ≡ sampleBy field pw roots how k r i j
   unfolding sampleBy
   sampled k r i j ex ey = λ z. record { point = ex z; value = ey z }
 
-  pub sample-for : (r k i : ℕ) {k′ j j′ : ℕ} {s : Sample ℕ} → s ≡ sampleBy field pw table tops inverses how k r i j → k ≡ k′ → j ≡ j′ → s ≡ sampleBy field pw table tops inverses how k′ r i j′
-  sample-for r k i e ek ej = e ∙ (λ z. sampleBy field pw table tops inverses how (ek z) r i (ej z))
-
-  -- the final polynomial's value at a shift point is that at the sample's point
-  pub value-for : (r k i : ℕ) (coefficients : List ℕ) {v x y k′ j j′ : ℕ} → v ≡ evaluate (fieldOf field) coefficients (shiftIn pw (how .scale) k j) → k ≡ k′ → j ≡ j′ →
-      record { point = x; value = y } ≡ sampleBy field pw table tops inverses how k′ r i j′ → v ≡ evaluate (fieldOf field) coefficients x
-  unfolding sampleBy
-  value-for r k i coefficients ev ek ej e =
-      ev ∙ (λ z. evaluate (fieldOf field) coefficients (shiftIn pw (how .scale) (ek z) (ej z))) ∙ sym (ap (λ (s : Sample ℕ). evaluate (fieldOf field) coefficients (s .point)) e)
-
--- the exponent of a shift point fits
-pub exponent-fits : (e k : ℕ) {n : ℕ} → e < n → n ≤ 4096 → k ≤ 16 → (k * e ≤ 65536) × (k + k * e ≤ 131072)
-exponent-fits e k l few small =
-    let less : e ≤ 4096 = omega arith in
-    let most : k * e ≤ 16 * 4096 = mul-le-mul small less in
-    (omega arith, omega arith)
-
--- the final polynomial by the powers of a shift point, which has no more coefficients than there are powers
-pub final-is : (field ω : ℕ) (pw : List ℕ) (scale k j : ℕ) (coefficients powers : List ℕ) {v : ℕ} → Powers field ω pw → 0 < k → 0 < length pw →
-    powers ≡ geometric (fieldOf field) (power (fieldOf field) ω ((k + k * (scale * j)) % length pw)) (length powers - 1) → length coefficients < length powers →
-    v ≡ products (fieldOf field) coefficients powers → v ≡ evaluate (fieldOf field) coefficients (shiftIn pw scale k j)
-final-is field ω pw scale k j coefficients powers w pos long list more ev =
-    let F = fieldOf field in
-    let y = power F ω ((k + k * (scale * j)) % length pw) in
-    ev ∙ ap (products F coefficients) list
-    ∙ products-powers F (laws field) coefficients y (length powers - 1) (λ m l. List·getD-eq-default coefficients (F .𝟘) (omega arith))
-    ∙ ap (evaluate F coefficients) (exponent-is field ω (length pw) k (scale * j) (w .round) ∙ sym (shift-power pw scale k j pos long field ω w))
+  pub sample-for : (r k i : ℕ) {k′ j j′ : ℕ} {s : Sample ℕ} → s ≡ sampleBy field pw roots how k r i j → k ≡ k′ → j ≡ j′ → s ≡ sampleBy field pw roots how k′ r i j′
+  sample-for r k i e ek ej = e ∙ (λ z. sampleBy field pw roots how (ek z) r i (ej z))
 
 -- ---- numbered elements
 
@@ -110,27 +85,24 @@ module _ {A : Type 0} (f : ℕ → ℕ → A) where
   pub numbered-map : (g : ℕ → A) (js : List ℕ) → ((i : ℕ) → i < length js → f i (getD js i 0) ≡ g (getD js i 0)) → numbered f 0 js ≡ map g js
   numbered-map g js h = numbered-same g 0 js (λ i l. ap (λ (m : ℕ). f m (getD js i 0)) (Nat.zero-add i) ∙ h i l)
 
--- the samples of the words prepared
-module _ (field : ℕ) (pw table ac vg : List ℕ) (how : Function) (k r : ℕ) (js tops inverses : List ℕ) (fits : Fits (length pw) (length table) how k)
-    (ready : Prepared field table how k (rootIn field pw table ac vg how) js tops inverses) where
-  pub sample-same : (i : ℕ) → i < length js → sampleBy field pw table tops inverses how k r i (getD js i 0) ≡ sampleIn field pw table ac vg how k r (getD js i 0)
+-- the samples by the values at the roots
+module _ (field : ℕ) (pw table ac vg : List ℕ) (how : Function) (k r : ℕ) (js roots : List ℕ) (fits : Fits (length pw) (length table) how k)
+    (ready : Prepared k (rootIn field pw table ac vg how) js roots) where
+  pub sample-same : (i : ℕ) → i < length js → sampleBy field pw roots how k r i (getD js i 0) ≡ sampleIn field pw table ac vg how k r (getD js i 0)
   unfolding sampleBy sampleIn foldBy foldIn
   sample-same i l =
       let j = getD js i 0 in
       λ z. record {
         point = shiftIn pw (how .scale) k j;
         value = halving-same (fieldOf field) (halfOf field) (backIn pw) (exponentOf k) (1 + how .scale * j) (how .scale * how .step) r
-            (rootBy field table tops inverses how k i j) (rootIn field pw table ac vg how j) (λ m h. ready i m l (omega (arith, power-of fits))) z;
+            (λ m. getD roots (i * k + m) 0) (rootIn field pw table ac vg how j) (λ m h. ready i m l (omega (arith, power-of fits))) z;
       }
 
-  pub samples-same : numbered (sampleBy field pw table tops inverses how k r) 0 js ≡ map (sampleIn field pw table ac vg how k r) js
-  samples-same = numbered-map (sampleBy field pw table tops inverses how k r) (sampleIn field pw table ac vg how k r) js sample-same
-
-  pub tests-same : (coefficients : List ℕ) → numbered (λ i j. differsIn field coefficients (sampleBy field pw table tops inverses how k r i j)) 0 js
-      ≡ map (λ j. differsIn field coefficients (sampleIn field pw table ac vg how k r j)) js
-  tests-same coefficients =
-      numbered-map (λ i j. differsIn field coefficients (sampleBy field pw table tops inverses how k r i j)) (λ j. differsIn field coefficients (sampleIn field pw table ac vg how k r j)) js
-      (λ i l. ap (differsIn field coefficients) (sample-same i l))
+  pub answer-is : (outs replies : List ℕ) {v : Option (List (Sample ℕ))} → Below (how .step) js →
+      v ≡ sifted field (pair outs replies ++ numbered (sampleBy field pw roots how k r) 0 js) → Answered field pw table ac vg how k r js outs replies v
+  answer-is outs replies below e =
+      answered field pw table ac vg how k r fits js outs replies below
+      (e ∙ ap (λ (t : List (Sample ℕ)). sifted field (pair outs replies ++ t)) (numbered-map (sampleBy field pw roots how k r) (sampleIn field pw table ac vg how k r) js sample-same))
 
 -- ---- putting the samples, from the last index to the first
 
@@ -155,28 +127,3 @@ module _ (field : ℕ) (S : ℕ → ℕ → Sample ℕ) (shifts : List ℕ) wher
 pub room-add : {n k : ℕ} (t u : ℕ) (r : Gathered) → (n ≤ k + t) × (k ≤ n) → Room k u r → Room n (u + t) r
 room-add t u Clash h l = tt
 room-add t u (From m) h l = (omega arith, omega arith)
-
--- ---- comparing, from the first index to the last
-
-module _ (field : ℕ) (coefficients : List ℕ) {s : Sample ℕ} {v x y : ℕ} (value : v ≡ evaluate (fieldOf field) coefficients x)
-    (sample : record { point = x; value = y } ≡ s) where
-  pub differs : (v ≡ y → ⊥) → differsIn field coefficients s ≡ true
-  unfolding differsIn
-  differs h = rw (← sample, ← value) (simp (ne-eqb _ _ h))
-
-  pub agrees : v ≡ y → differsIn field coefficients s ≡ false
-  unfolding differsIn
-  agrees h = rw (← sample, ← value) (simp (eq-eqb _ _ h))
-
-module _ (test : ℕ → ℕ → Bool) (js : List ℕ) (i : ℕ) where
-  pub first-here : i < length js → test i (getD js i 0) ≡ true → some i ≡ firstTrue i (numbered test i (drop i js))
-  unfolding firstTrue
-  first-here h e = rw (numbered-front test js i h, e)
-
-  pub first-later : i < length js → test i (getD js i 0) ≡ false → firstTrue (i + 1) (numbered test (i + 1) (drop (i + 1) js)) ≡ firstTrue i (numbered test i (drop i js))
-  unfolding firstTrue
-  first-later h e = rw (numbered-front test js i h, e) (ap (λ (n : ℕ). firstTrue n (numbered test (i + 1) (drop (i + 1) js))) (add-one i))
-
-  pub first-nowhere : length js ≤ i → none ≡ firstTrue i (numbered test i (drop i js))
-  unfolding firstTrue numbered
-  first-nowhere h = rw (drop-of-length-le js h)

@@ -1,9 +1,4 @@
-pub mod PointsIn
-pub mod Halving
-pub mod HalvingLaw
-pub mod FoldLaw
-pub mod Round
+pub mod SamplesIn
 pub mod RoundLaws
-pub mod Prepared
 pub mod NextRound
 pub mod Reads

@@ -10,10 +10,10 @@ use Rattle.definition.specs.Polynomial.{Sample, correctedValue}
 use Rattle.definition.specs.Transcript.{Round}
 use Rattle.definition.specs.Deciding.{tableFunction, nextFunction}
 use Rattle.lists.specs.Correcting.{Correcting}
-use Rattle.rounds.specs.declared.Function.{Function}
-use Rattle.rounds.specs.PointsIn.{pointIn, point-in}
+use Rattle.fractions.specs.declared.Function.{Function}
+use Rattle.folds.specs.PointsIn.{pointIn, point-in}
 use Rattle.domain.specs.Powers.{Powers}
-use Rattle.rounds.specs.Round.{correctedIn, valueOf, valueIn, Fits, point-room}
+use Rattle.fractions.specs.Values.{correctedIn, valueOf, valueIn, Fits, point-room}
 use Rattle.rounds.specs.RoundLaws.{Serves}
 
 -- ---- before round 1 there are no samples, and the table itself is the function

@@ -1,6 +1,5 @@
 -- What is worked out over the words in hand is the definition's, where the words are those of a level's function.
-use Prim.Native.Nat.{ℕ, zero, suc, _+_, _*_, _%_, _^_, _<_, zero-le, suc-le-suc}
-use native.Mathlib.Nat.{mod-eq-of-lt}
+use Prim.Native.Nat.{ℕ, suc, _+_, _*_, _^_, _<_, zero-le, suc-le-suc}
 use mathlib.Core.Path.{_≡_, _∙_, sym, ap, refl}
 use mathlib.Core.Bool.{Bool, not}
 use mathlib.Core.List.{List, [], _∷_, _++_, map}
@@ -9,7 +8,7 @@ use native.Mathlib.Omega.{arith}
 use lib.Dec.{eqb}
 use lib.ListN.{length}
 use Rattle.definition.specs.Lists.{firstTrue}
-use Rattle.definition.specs.Field.{Field, primeField, primeOf, fieldOf, power, reciprocal}
+use Rattle.definition.specs.Field.{Field, primeField, primeOf, fieldOf, power}
 use Rattle.definition.specs.Sheet.{Level, shiftCount}
 use Rattle.definition.specs.Polynomial.{Sample, pair, evaluate}
 use Rattle.definition.specs.Domain.{shiftPoint, foldAt}
@@ -17,15 +16,16 @@ use Rattle.definition.specs.Transcript.{Round}
 use Rattle.definition.specs.Deciding.{answers, differences}
 use Rattle.algebra.specs.PrimeField.{laws, signs-differ, suited}
 use Rattle.algebra.specs.RootsOfUnity.{minusOne}
-use Rattle.polynomial.specs.Inverses.{Nonzero, found-is}
 use Rattle.samples.specs.Samples.{sifted}
-use Rattle.rounds.specs.declared.Function.{Function}
-use Rattle.rounds.specs.PointsIn.{backIn, back-power, shift-in}
+use Rattle.fractions.specs.declared.Function.{Function}
+use Rattle.folds.specs.PointsIn.{backIn, back-power, shift-in}
 use Rattle.domain.specs.Powers.{Powers}
-use Rattle.rounds.specs.Halving.{halving}
-use Rattle.rounds.specs.HalvingLaw.{halving-same}
-use Rattle.rounds.specs.FoldLaw.{fold-by-halves}
-use Rattle.rounds.specs.Round.{valueIn, rootIn, halfOf, foldIn, sampleIn, Fits, Below, exponent, first-point, folded, half-way, root-number}
+use Rattle.folds.specs.Halving.{halving}
+use Rattle.folds.specs.HalvingLaw.{halving-same}
+use Rattle.folds.specs.FoldLaw.{fold-by-halves}
+use Rattle.fractions.specs.Values.{valueIn, rootIn, Fits, Below, exponent, first-point, folded, half-way, root-number}
+use Rattle.folds.specs.OneHalf.{halfOf, two-halves}
+use Rattle.rounds.specs.SamplesIn.{foldIn, sampleIn}
 
 -- The words in hand are those of the function f at level b, whose folding number is k.
 pub record Serves (field ω : ℕ) (b : Level) (f : ℕ → ℕ) (pw table ac vg : List ℕ) (how : Function) (k : ℕ) : Type 0 where
@@ -51,19 +51,6 @@ unfoldable pub differsIn : ℕ → List ℕ → Sample ℕ → Bool
 differsIn field coefficients s = not (eqb (evaluate (fieldOf field) coefficients (s .point)) (s .value))
 
 -- ---- folds and samples
-
--- 2 differs from 0, and twice 1/2 is 1
-pub two-nonzero : (field : ℕ) → Nonzero field 2
-unfolding fieldOf primeField
-two-nonzero field z = let e : _≡_ {A = ℕ} 2 0 = sym (mod-eq-of-lt (suited field .large)) ∙ laws field .mul-one 2 ∙ z in omega arith
-
-pub half-is : (field : ℕ) {u : ℕ} → some u ≡ fieldOf field .inverse 2 → u ≡ halfOf field
-unfolding halfOf
-half-is field e = found-is field 2 (two-nonzero field) e
-
-two-halves : (field : ℕ) → fieldOf field ._⊗_ (fieldOf field ._⊕_ (fieldOf field .𝟙) (fieldOf field .𝟙)) (halfOf field) ≡ fieldOf field .𝟙
-unfolding fieldOf primeField halfOf
-two-halves field = ap (λ (x : ℕ). x * reciprocal (fieldOf field) 2 % primeOf field) (mod-eq-of-lt (suited field .large)) ∙ laws field .mul-inverse 2 (two-nonzero field)
 
 pub opposite-signs : (field : ℕ) → minusOne (fieldOf field) ≡ fieldOf field .𝟙 → ⊥
 unfolding fieldOf

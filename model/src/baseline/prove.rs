@@ -112,7 +112,7 @@ pub fn encode<const TUNED: bool>(sheet: &[u32], f: &[u32], out: &mut [u32]) -> O
     Some(sheet.n0)
 }
 
-/// Are the coins in range, and the out coins outside their domains?
+/// Are the coins in range, the out coins outside their domains, and no two of a round equal?
 fn coins_pass(sheet: &Sheet, powers: &[u32], coins: &[u32]) -> bool {
     let element = |&c: &u32| u64::from(c) < sheet.field.p;
     let index = |i: usize| move |&j: &u32| (j as usize) < sheet.indices(i);
@@ -123,10 +123,12 @@ fn coins_pass(sheet: &Sheet, powers: &[u32], coins: &[u32]) -> bool {
     for i in 1..=sheet.rounds {
         let (elements, after) = rest.split_at(sheet.outs + 2);
         let (shifts, next) = after.split_at(sheet.t[i - 1]);
+        let outs = &elements[..sheet.outs];
         let inside = |x: &u32| powers.iter().step_by(1 << i).any(|p| p == x);
         if !elements.iter().all(element)
             || !shifts.iter().all(index(i - 1))
-            || elements[..sheet.outs].iter().any(inside)
+            || outs.iter().any(inside)
+            || sheet.outs == 2 && outs[0] == outs[1]
         {
             return false;
         }

@@ -1,4 +1,4 @@
-//! Refusals 1 to 7. The rules of the sheet are the model's.
+//! Refusals 1 to 7, and 14. The rules of the sheet are the model's.
 
 use super::CHECK_MODULUS;
 use crate::sheet::{Edition, Sheet};
@@ -94,16 +94,27 @@ pub(super) fn read(edition: Edition, file: &[u8]) -> Result<(Sheet, Vec<u32>), V
     }
 }
 
+/// Each round with the place of its first out coin.
+fn outs(sheet: &Sheet) -> impl Iterator<Item = (usize, usize)> + '_ {
+    let mut at = sheet.edition.sheet_words() + sheet.n0 + 1;
+    (1..=sheet.rounds).map(move |i| {
+        let outs = at + sheet.n(i);
+        at = outs + 2 * sheet.outs + 2 + sheet.t[i - 1];
+        (i, outs)
+    })
+}
+
 /// Refusal 7: the first out coin that lies in its round's domain.
 pub(super) fn out_in_domain(powers: &[u32], sheet: &Sheet, words: &[u32]) -> Option<usize> {
-    let mut at = sheet.edition.sheet_words() + sheet.n0 + 1;
-    for i in 1..=sheet.rounds {
-        let outs = at + sheet.n(i);
+    outs(sheet).find_map(|(i, first)| {
         let inside = |&place: &usize| powers.iter().step_by(1 << i).any(|&x| x == words[place]);
-        if let Some(place) = (outs..outs + sheet.outs).find(inside) {
-            return Some(place);
-        }
-        at = outs + 2 * sheet.outs + 2 + sheet.t[i - 1];
-    }
-    None
+        (first..first + sheet.outs).find(inside)
+    })
+}
+
+/// Refusal 14: the first out coin that equals the one before it in its round.
+pub(super) fn equal_out(sheet: &Sheet, words: &[u32]) -> Option<usize> {
+    let equal = |&(_, first): &(usize, usize)| words[first] == words[first + 1];
+    let round = outs(sheet).find(|round| sheet.outs == 2 && equal(round));
+    round.map(|(_, first)| first + 1)
 }

@@ -1,6 +1,6 @@
 //! Verify, by one of two ways to a level's values.
 
-use super::reading::{out_in_domain, read, refused};
+use super::reading::{equal_out, out_in_domain, read, refused};
 use super::{points, Prime};
 use crate::sheet::{Edition, Sheet};
 use crate::{Outcome, Verdict};
@@ -125,6 +125,9 @@ fn decide<C: Correction<P, TUNED>, const P: u64, const TUNED: bool>(
     let powers = points(prime, sheet.field.g as u32, sheet.n0);
     if let Some(place) = out_in_domain(&powers, sheet, words) {
         return refused(7, place, 0);
+    }
+    if let Some(place) = equal_out(sheet, words) {
+        return refused(14, place, 0);
     }
 
     let level_at = |i: usize, at: usize| Level {

@@ -13,6 +13,7 @@ use std::env;
 use std::io::{self, BufWriter, Write};
 use std::process::ExitCode;
 use tevrolig_model::convert::convert_to;
+use tevrolig_model::generate::equal_outs::equal_coin_drawn;
 use tevrolig_model::generate::{
     aim, coefficients, coins, convert, damage, honest_file, sheet_over, Rng,
 };
@@ -89,16 +90,22 @@ fn converted(rng: &mut Rng, case: u64) -> String {
 }
 
 /// A run of the load that is short to compute: half of them have rounds, and so out
-/// coins, and one in eight falls back to the worked sheet.
+/// coins, one in eight falls back to the worked sheet, and in one of eight an out coin
+/// is drawn that equals the one before it.
 fn drawn_order(rng: &mut Rng, case: u64) -> String {
     loop {
         let before = Generator { v: rng.word() };
+        // Elsewhere equal coins are too rare to wait for.
+        if case % 8 == 5 && before.clone().sheet()[..6] != [0, 16, 8, 2, 1, 2] {
+            continue;
+        }
         let mut after = before.clone();
         let order = after.order();
         let words = order.coefficients.len() + order.coins.len();
         let wanted = match case % 8 {
             0 => order.sheet == WORKED_SHEET,
             1..=4 => order.sheet[4] > 0 && order.sheet != WORKED_SHEET,
+            5 => equal_coin_drawn(&before, &order),
             _ => true,
         };
         let small = order.sheet[1] <= 128 || order.sheet[4] == 0;
@@ -130,7 +137,7 @@ fn small(edition: Edition, rng: &mut Rng) -> Vec<u8> {
     loop {
         let mut damaged = file.clone();
         // The faults that leave more to compute are wanted more often.
-        let number = rng.pick(&[1, 2, 3, 4, 5, 6, 7, 8, 8, 9, 9, 9, 0]);
+        let number = rng.pick(&[1, 2, 3, 4, 5, 6, 7, 7, 14, 14, 8, 8, 9, 9, 9, 0]);
         let hit = match number {
             0 => damage(edition, rng, &mut damaged).is_none(),
             _ => aim(edition, rng, &mut damaged, number),

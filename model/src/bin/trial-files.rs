@@ -2,7 +2,7 @@
 //! the lines that the model says.
 
 use std::path::Path;
-use tevrolig_model::generate::{aim, coefficients, coins, honest_file, Rng};
+use tevrolig_model::generate::{aim, coefficients, coins, honest_file, Rng, REFUSALS};
 use tevrolig_model::sheet::Edition;
 use tevrolig_model::stream::{to_blocks, write_word};
 use tevrolig_model::{generate, line, verify};
@@ -46,16 +46,19 @@ fn files() -> Vec<(String, Vec<u8>)> {
         [2, 128, 64, 2, 3, 2, 7, 6, 5, 9, 0, 0],
     ];
     for (field, sheet) in sheets.iter().enumerate() {
-        let mut rng = Rng::new(field as u64);
+        // From these seeds 14, 8 and 9 come in several rounds and at several places, and equal out coins with equal replies and with others.
+        let mut rng = Rng::new(14 + field as u64);
         let given = coefficients(&mut rng, sheet);
         let hostile = coins(&mut rng, sheet, true);
         let file = honest_file(sheet, &given, &hostile);
         files.push((format!("honest-{field}"), file.clone()));
-        for number in 1..=9 {
+        for number in REFUSALS {
             let mut damaged = file.clone();
-            if aim(Edition::One, &mut rng, &mut damaged, number) {
-                files.push((format!("refused-{number}-field-{field}"), damaged));
-            }
+            let name = format!("refused-{number}-field-{field}");
+            let hit = aim(Edition::One, &mut rng, &mut damaged, number);
+            let refused = line(verify(&damaged)).starts_with(&format!("refused {number} "));
+            assert!(hit && refused, "{name}");
+            files.push((name, damaged));
         }
     }
 

@@ -7,16 +7,19 @@ use crate::layout::{Layout, Part};
 use crate::sheet::{Edition, Sheet};
 use crate::stream::{read_word, write_word, BLOCK_BYTES, BLOCK_WORDS};
 
+/// The refusals of verify, in the order in which their tests are made.
+pub const REFUSALS: [u32; 10] = [1, 2, 3, 4, 5, 6, 7, 14, 8, 9];
+
 /// Damages a file of an edition; answers the refusal it aimed at, or nothing if it
-/// did not aim (the file may then even be as good as before). Damage of the kinds 1
-/// to 7 always hits an honest file; a small field may let 8 and 9 miss.
+/// did not aim (the file may then even be as good as before). Damage of all kinds but
+/// 8 and 9 always hits an honest file; a small field may let these two miss.
 pub fn damage(edition: Edition, rng: &mut Rng, file: &mut Vec<u8>) -> Option<u32> {
-    let number = 1 + rng.below(10) as u32;
-    if aim(edition, rng, file, number) {
-        return Some(number);
+    let number = REFUSALS.get(rng.place(REFUSALS.len() + 1)).copied();
+    let aimed = number.filter(|&number| aim(edition, rng, file, number));
+    if aimed.is_none() {
+        noise(rng, file);
     }
-    noise(rng, file);
-    None
+    aimed
 }
 
 /// Damages a file so that it is refused with this number. False, with the file
@@ -38,6 +41,7 @@ pub fn aim(edition: Edition, rng: &mut Rng, file: &mut Vec<u8>, number: u32) -> 
         7 => target.move_out_coin_into_domain(),
         8 => target.make_clash(),
         9 => target.break_comparison(),
+        14 => target.make_out_coins_equal(),
         _ => false,
     };
     if hit {
@@ -220,29 +224,48 @@ impl<'a> Target<'a> {
         true
     }
 
-    /// Two equal points: two out coins, or an out coin and a shift point. The
-    /// reply is changed to another element, which rarely is the right one.
-    fn make_clash(&mut self) -> bool {
+    /// One of two out coins of a round becomes the other, half of the time with its
+    /// reply, else with another.
+    fn make_out_coins_equal(&mut self) -> bool {
         let Some(i) = self.some_round() else {
             return false;
         };
         let outs = self.layout.range(Part::OutCoins(i));
         let replies = self.layout.range(Part::Replies(i));
-        if outs.len() == 2 && self.rng.one_in(2) {
-            let kept = self.rng.place(2);
-            let point = u64::from(read_word(self.file, outs.start + kept));
-            self.write(outs.start + 1 - kept, point);
-            let reply = self.other_element(replies.start + kept);
-            self.write(replies.start + 1 - kept, reply);
-        } else {
-            let index = self.some_index(Part::ShiftIndices(i), i - 1);
-            let out = self.rng.place(outs.len());
-            let k = self.sheet.k[i - 1];
-            let point = Subgroup::of(&self.sheet).shift_point(i - 1, k, index);
-            self.write(outs.start + out, point);
-            let reply = self.other_element(replies.start + out);
-            self.write(replies.start + out, reply);
+        if outs.len() < 2 {
+            return false;
         }
+        let kept = self.rng.place(2);
+        let coin = u64::from(read_word(self.file, outs.start + kept));
+        self.write(outs.start + 1 - kept, coin);
+        let reply = match self.rng.below(2) {
+            0 => u64::from(read_word(self.file, replies.start + kept)),
+            _ => self.other_element(replies.start + kept),
+        };
+        self.write(replies.start + 1 - kept, reply);
+        true
+    }
+
+    /// Two equal points, an out coin and a shift point. The reply is changed to another
+    /// element, which rarely is the right one. Where an out coin is at the shift point
+    /// already, it is taken, as two equal out coins would be another fault.
+    fn make_clash(&mut self) -> bool {
+        let Some(i) = self.some_round() else {
+            return false;
+        };
+        let outs = self.layout.range(Part::OutCoins(i));
+        let index = self.some_index(Part::ShiftIndices(i), i - 1);
+        let k = self.sheet.k[i - 1];
+        let point = Subgroup::of(&self.sheet).shift_point(i - 1, k, index);
+        let there = |&word: &usize| u64::from(read_word(self.file, word)) == point;
+        let word = match outs.clone().find(there) {
+            Some(word) => word,
+            None => self.some_word(Part::OutCoins(i)),
+        };
+        self.write(word, point);
+        // The replies follow the out coins.
+        let reply = self.other_element(word + outs.len());
+        self.write(word + outs.len(), reply);
         true
     }
 

@@ -3,11 +3,12 @@
 
 pub mod convert;
 mod damage;
+pub mod equal_outs;
 mod random;
 mod sheets;
 
 pub use crate::stream::write_checks as rewrite_checks;
-pub use damage::{aim, damage};
+pub use damage::{aim, damage, REFUSALS};
 pub use random::Rng;
 pub use sheets::{differing_at, fault, sheet, sheet_over, sheet_up_to, test_order, two_faults};
 
@@ -34,8 +35,8 @@ pub fn coefficients(rng: &mut Rng, sheet: &[u32]) -> Vec<u32> {
 }
 
 /// A full list of allowed coins. Hostile coins sit where slips happen: zeros,
-/// fold coins at a root, out coins at a shift point or equal, repeated indices,
-/// combination coins that are 0 or inverse to a point.
+/// fold coins at a root, out coins at a shift point or as in the round before,
+/// repeated indices, combination coins that are 0 or inverse to a point.
 pub fn coins(rng: &mut Rng, sheet: &[u32], hostile: bool) -> Vec<u32> {
     let Some(sheet) = known(sheet) else {
         return Vec::new();
@@ -45,6 +46,7 @@ pub fn coins(rng: &mut Rng, sheet: &[u32], hostile: bool) -> Vec<u32> {
         subgroup: Subgroup::of(&sheet),
         sheet,
         favourite: 0,
+        earlier: Vec::new(),
         hostile,
     };
     let mut coins = Vec::new();
@@ -54,6 +56,9 @@ pub fn coins(rng: &mut Rng, sheet: &[u32], hostile: bool) -> Vec<u32> {
         for _ in section.words.clone() {
             let before = coins[first..].last().copied();
             coins.push(draw.coin(rng, section.part, section.limit, before));
+        }
+        if matches!(section.part, Part::OutCoins(_)) {
+            draw.earlier = coins[first..].to_vec();
         }
     }
     coins.into_iter().map(|coin| coin as u32).collect()
@@ -65,6 +70,9 @@ struct Draw {
     subgroup: Subgroup,
     /// The index at whose shift point a round's coins like to meet.
     favourite: usize,
+    /// The out coins of the round before. They lie outside its domain, and so outside
+    /// the next, which is a part of it.
+    earlier: Vec<u64>,
     hostile: bool,
 }
 
@@ -78,7 +86,7 @@ impl Draw {
 
     fn coin(&self, rng: &mut Rng, part: Part, limit: u64, before: Option<u64>) -> u64 {
         if !self.hostile || rng.one_in(4) {
-            return self.plain(rng, part, limit);
+            return self.plain(rng, part, limit, before);
         }
         match part {
             Part::FoldCoin(i) => {
@@ -88,7 +96,14 @@ impl Draw {
             Part::OutCoins(i) => {
                 let k = self.sheet.k[i - 1];
                 let meeting = self.subgroup.shift_point(i - 1, k, self.favourite);
-                rng.pick(&[0, meeting, meeting, before.unwrap_or(meeting)])
+                let earlier = match self.earlier[..] {
+                    [] => meeting,
+                    ref coins => rng.pick(coins),
+                };
+                match rng.pick(&[0, meeting, meeting, earlier]) {
+                    coin if before == Some(coin) => self.plain(rng, part, limit, before),
+                    coin => coin,
+                }
             }
             Part::Combination(i) => {
                 let inverse = self.sheet.field.div(1, self.some_point(rng, i));
@@ -102,15 +117,16 @@ impl Draw {
         }
     }
 
-    /// Any value in range; an out coin of round i also keeps out of domain i.
-    fn plain(&self, rng: &mut Rng, part: Part, limit: u64) -> u64 {
+    /// Any value in range; an out coin of round i also keeps out of domain i, and is
+    /// not the one before it.
+    fn plain(&self, rng: &mut Rng, part: Part, limit: u64, before: Option<u64>) -> u64 {
         let Part::OutCoins(i) = part else {
             return rng.below(limit);
         };
         let domain = self.subgroup.domain(i);
         loop {
             let coin = rng.below(limit);
-            if !domain.contains(&coin) {
+            if !domain.contains(&coin) && before != Some(coin) {
                 return coin;
             }
         }

@@ -6,7 +6,7 @@ use tevrolig_model::domain::Subgroup;
 use tevrolig_model::generate::{self, rewrite_checks, Rng};
 use tevrolig_model::layout::Layout;
 use tevrolig_model::sheet::Sheet;
-use tevrolig_model::stream::write_word;
+use tevrolig_model::stream::{read_word, write_word};
 use tevrolig_model::verify::verify_in;
 use tevrolig_model::{line, Outcome};
 
@@ -32,6 +32,9 @@ pub const FINAL: usize = 42;
 
 /// Its sheet in edition 2.
 pub const SHEET_2: [u32; 18] = [0, 16, 8, 2, 1, 1, 1, 1, 0, 0, 0, 0, 2, 0, 0, 0, 0, 2];
+
+/// The numbers that a verdict may have, 0 for accepted.
+pub const OUTCOMES: [u32; 11] = [0, 1, 2, 3, 4, 5, 6, 7, 8, 9, 14];
 
 /// Two rounds over field 1 with s = 2: k = 2 and t = 4 3 5, with d = 64 32 16 and 8
 /// final coefficients.
@@ -161,6 +164,15 @@ impl Sample {
     /// The refusal's number likewise.
     pub fn number(&self, changes: &[(usize, u32)]) -> u32 {
         number(self.edition, &changed(&self.file, changes))
+    }
+
+    /// The shift point of the index at a word of round i: the k_(i-1)-th power of a
+    /// point of domain i-1.
+    pub fn shift_point(&self, i: usize, word: usize) -> u32 {
+        let index = read_word(&self.file, word) as usize;
+        let k = u64::from(fold(self.words, i - 1));
+        let point = self.subgroup.point(i - 1, index);
+        self.sheet.field.pow(point, k) as u32
     }
 }
 

@@ -1,15 +1,14 @@
 -- `convert::backward_tests` meets its contract. Assumes nothing.
+use native.Mathlib.Omega.{arith}
 use mathlib.Core.Path.{sym, ap, _∙_}
 use lib.Seq.{length-take-le}
-use native.Mathlib.Omega.{arith}
 use borrow.Author.Needs.{needs}
-use Rattle.definition.specs.Block.{streamOf}
-use Rattle.definition.specs.Convert.{backward, foldsTest}
+use Rattle.definition.specs.Convert.{foldsTest}
 use Rattle.definition.specs.Layout.{wordsDue}
 use Rattle.definition.specs.Sheet.{edition2}
 use Rattle.completeness.specs.SheetRules.{rounds-most}
 use Rattle.edition.specs.Meaning.{editionOf}
-use Rattle.convert.specs.Stages.{backward-count, due-is, folds-pass, folds-refuse, head-is, head-passes, output-for, read-refused, read-then, told}
+use Rattle.convert.specs.Stages.{backward-count, due-is, first-refuses, found-refuses, head-is, head-passes, next-is, nothing-passes, refuses, tests-end, tests-refuse, told}
 use Rattle.convert.proofs.backward_tests.Statement.{statement}
 use Rattle.convert.proofs.backward_tests.Tie as tie
 
@@ -26,7 +25,7 @@ returns : tie.Need-returns
 unfolding editionOf
 returns c =
     let r = c .before .before .before .before .before in
-    read-refused edition2 (r .before .before .before .before .args .file .now) (r .read .ensures) _ (c .before .read2 .given .1)
+    tests-refuse (first-refuses _ (first-refuses _ (refuses (r .read .ensures .outcome) (c .before .read2 .given .1))))
 
 enum-told : tie.Need-enum-told
 enum-told c = search needs
@@ -39,16 +38,16 @@ slice-aggregate-head c =
     let r = c .before .before .before .before .before in
     sym (length-take-le 18 (r .read .last .1 .1 .0) (omega (arith, r .before .before .before .before .pre .1, r .read .kept .1 .1 .0)))
 
-folds-test-requires : tie.Need-folds-test-requires
+other-fold-requires : tie.Need-other-fold-requires
 unfolding editionOf
-folds-test-requires c κs =
+other-fold-requires c κs =
     let r = c .before .before .before .before .before in
     let p = told (r .read .ensures .outcome) (c .before .enum-told .given .1) in
     let h = head-passes edition2 (r .before .before .before .before .args .file .now) (r .read .last .1 .1 .0) p (r .read .ensures .stream p) in
     (h .0, rounds-most edition2 _ (h .1))
 
-enum-known-folds : tie.Need-enum-known-folds
-enum-known-folds c = search needs
+enum-known-other : tie.Need-enum-known-other
+enum-known-other c = search needs
 
 same-length-2 : tie.Need-same-length-2
 same-length-2 c = search needs
@@ -59,10 +58,9 @@ returns-2 c =
     let t = c .before .before .before in
     let r = t .before .before .before .before .before .before in
     let f = r .before .before .before .before .args .file .now in
-    let e = t .before .before .enum-told .given .1 in
-    let p = told (r .read .ensures .outcome) e in
-    let h = t .folds-test .ensures ∙ ap foldsTest (head-is edition2 f (r .read .last .1 .1 .0) p (r .read .ensures .stream p)) in
-    read-then edition2 f (r .read .ensures) e (folds-refuse _ h (c .before .folds .given .1))
+    let p = told (r .read .ensures .outcome) (t .before .before .enum-told .given .1) in
+    let h = t .other-fold .ensures ∙ ap foldsTest (head-is edition2 f (r .read .last .1 .1 .0) p (r .read .ensures .stream p)) in
+    tests-refuse (first-refuses _ (found-refuses h (c .before .other .given .1) ∙ sym (next-is _ p)))
 
 enum-told-2 : tie.Need-enum-told-2
 enum-told-2 c = search needs
@@ -90,16 +88,12 @@ unfolding editionOf
 returns-3 c =
     let t = c .before .before .before .before in
     let r = t .before .before .before .before .before .before in
-    let a = r .before .before .before .before .args in
-    let f = a .file .now in
+    let f = r .before .before .before .before .args .file .now in
     let w = r .read .last .1 .1 .0 in
-    let e = t .before .before .enum-told .given .1 in
-    let p = told (r .read .ensures .outcome) e in
+    let p = told (r .read .ensures .outcome) (t .before .before .enum-told .given .1) in
     let st = r .read .ensures .stream p in
-    let h = t .folds-test .ensures ∙ ap foldsTest (head-is edition2 f w p st) in
-    let e₂ = c .before .before .enum-told2 .given .1 in
-    let n = backward-count f p (told h e₂) (due-is edition2 f w p st (c .before .words-due .ensures .0)) in
-    read-then edition2 f (r .read .ensures) e (folds-pass h e₂ (output-for (backward (streamOf f)) (a .size) n (c .output-test .ensures)))
+    let equal = nothing-passes 13 (t .other-fold .ensures ∙ ap foldsTest (head-is edition2 f w p st)) (c .before .before .enum-told2 .given .1) in
+    tests-end (next-is _ p ∙ equal) (backward-count f p equal (due-is edition2 f w p st (c .before .words-due .ensures .0))) st (c .output-test .ensures)
 
 pub backward-tests-spec : {M : Type 1} → statement M
 backward-tests-spec =
@@ -112,8 +106,8 @@ backward-tests-spec =
     enum-told
     slice-reshare-prefix-head
     slice-aggregate-head
-    folds-test-requires
-    enum-known-folds
+    other-fold-requires
+    enum-known-other
     same-length-2
     returns-2
     enum-told-2

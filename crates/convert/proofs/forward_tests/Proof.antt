@@ -3,11 +3,9 @@ use mathlib.Core.Path.{sym}
 use lib.Seq.{length-take-le}
 use native.Mathlib.Omega.{arith}
 use borrow.Author.Needs.{needs}
-use Rattle.definition.specs.Block.{streamOf}
-use Rattle.definition.specs.Convert.{forward}
 use Rattle.definition.specs.Sheet.{edition1}
 use Rattle.edition.specs.Meaning.{editionOf}
-use Rattle.convert.specs.Stages.{due-is, forward-count, head-passes, output-for, read-refused, read-then, told}
+use Rattle.convert.specs.Stages.{due-is, first-refuses, forward-count, head-passes, refuses, tests-end, tests-refuse, told}
 use Rattle.convert.proofs.forward_tests.Statement.{statement}
 use Rattle.convert.proofs.forward_tests.Tie as tie
 
@@ -24,7 +22,7 @@ returns : tie.Need-returns
 unfolding editionOf
 returns c =
     let r = c .before .before .before .before .before in
-    read-refused edition1 (r .before .before .before .before .args .file .now) (r .read .ensures) _ (c .before .read2 .given .1)
+    tests-refuse (first-refuses _ (refuses (r .read .ensures .outcome) (c .before .read2 .given .1)))
 
 enum-told : tie.Need-enum-told
 enum-told c = search needs
@@ -57,12 +55,10 @@ returns-2 : tie.Need-returns-2
 unfolding editionOf
 returns-2 c =
     let r = c .before .before .before .before .before .before .before in
-    let a = r .before .before .before .before .args in
-    let f = a .file .now in
-    let e = c .before .before .before .enum-told .given .1 in
-    let p = told (r .read .ensures .outcome) e in
-    let is = due-is edition1 f (r .read .last .1 .1 .0) p (r .read .ensures .stream p) (c .before .words-due .ensures .0) in
-    read-then edition1 f (r .read .ensures) e (output-for (forward (streamOf f)) (a .size) (forward-count f p is) (c .output-test .ensures))
+    let f = r .before .before .before .before .args .file .now in
+    let p = told (r .read .ensures .outcome) (c .before .before .before .enum-told .given .1) in
+    let st = r .read .ensures .stream p in
+    tests-end p (forward-count f p (due-is edition1 f (r .read .last .1 .1 .0) p st (c .before .words-due .ensures .0))) st (c .output-test .ensures)
 
 pub forward-tests-spec : {M : Type 1} → statement M
 forward-tests-spec =

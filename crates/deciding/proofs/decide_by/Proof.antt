@@ -6,18 +6,18 @@ use Rattle.deciding.proofs.Ready.{out-passed, out-refused, outside-pass
 use Rattle.deciding.proofs.decide_by.Statement.{statement}
 use Rattle.deciding.proofs.decide_by.Tie as tie
 
-out-in-domain-requires : tie.Need-out-in-domain-requires
-out-in-domain-requires c κs = search needs
+tests-requires : tie.Need-tests-requires
+tests-requires c κs = search needs
 
-enum-known-f : tie.Need-enum-known-f
-enum-known-f c = search needs
+enum-known-outs : tie.Need-enum-known-outs
+enum-known-outs c = search needs
 
 returns : tie.Need-returns
 unfolding verdictOf outcomeOf
 returns c =
     let a = c .before .before .before .before .before .before .args in
-    let q = c .before .before .before .out-in-domain in
-    out-refused (editionOf (a .e)) (a .w .now) (q .result) (q .ensures) (c .before .f .given .1)
+    let q = c .before .before .before .tests in
+    out-refused (editionOf (a .e)) (a .w .now) (q .result) (q .ensures) (c .before .outs .given .1)
 
 enum-told : tie.Need-enum-told
 enum-told c = search needs
@@ -26,7 +26,7 @@ decide-requires : tie.Need-decide-requires
 decide-requires c κs =
     let s = c .before .before .before .before .before in
     let a = s .args in
-    let q = c .before .before .out-in-domain in (
+    let q = c .before .before .tests in (
       (s .pre .0 .0, range-rest (editionOf (a .e)) (a .w .now) (s .pre .0 .0) (s .pre .1 .0) (s .pre .0 .1)),
       (s .pre .1 .0, (s .pre .1 .1, outside-passed (editionOf (a .e)) (a .w .now) (q .result) (q .ensures) (c .enum-told .given .1))),
     )
@@ -34,10 +34,10 @@ decide-requires c κs =
 returns-2 : tie.Need-returns-2
 returns-2 c =
     let a = c .before .before .before .before .before .before .args in
-    let q = c .before .before .before .out-in-domain in
+    let q = c .before .before .before .tests in
     out-passed (editionOf (a .e)) (a .w .now) (q .result) (q .ensures) (c .before .enum-told .given .1) (c .decide .ensures)
 
 pub decide-by-spec : {M : Type 1} → statement M
 decide-by-spec =
     tie.close
-    (tie.spec out-in-domain-requires enum-known-f returns enum-told decide-requires returns-2)
+    (tie.spec tests-requires enum-known-outs returns enum-told decide-requires returns-2)

@@ -5,7 +5,7 @@ use native.Mathlib.Omega.{arith}
 use mathlib.Core.Path.{_≡_, _∙_, refl, ap}
 use mathlib.Core.List.{[], map}
 use lib.ListN.{length, drop, drop-of-length-le}
-use Rattle.rounds.specs.PointsIn.{shiftIn}
+use Rattle.folds.specs.PointsIn.{shiftIn}
 use Rattle.distinct.specs.Points.{differentPoints}
 use Rattle.distinct.proofs.Turns.{keep-start, keep-turn, keep-end, shift-inside}
 use Rattle.distinct.proofs.keep_shifts.Statement.{statement}

@@ -2,7 +2,7 @@
 use native.Mathlib.Omega.{arith}
 use mathlib.Core.List.{[], map}
 use mathlib.Core.Path.{_∙_, sym, ap}
-use Rattle.rounds.specs.PointsIn.{shiftIn}
+use Rattle.folds.specs.PointsIn.{shiftIn}
 use Rattle.distinct.specs.Points.{keepPoints, keep-append}
 use borrow.Author.Needs.{needs}
 use Rattle.distinct.proofs.points.Statement.{statement}

@@ -42,8 +42,8 @@ returns c =
     let a = s .args in
     let f = c .before .before .before .before .before .before .fill in
     let g = c .before .before .fill2 in
-    λ h e.
-    later-coins (a .field) (a .generator .v) (c .before .before .before .before .before .before .before .before .modulus .ensures) h e (a .limit)
+    λ h o e.
+    later-coins (a .field) (a .generator .v) (c .before .before .before .before .before .before .before .before .modulus .ensures) h e o (a .limit)
     (joined (a .out .now) (f .last .1 .1 .0) 2 (s .pre .1) (f .kept .1 .1 .0) (g .last .1 .1 .0) refl refl)
     (length-take-le 2 (a .out .now) (s .pre .1)) (others-long (a .out .now) (f .last .1 .1 .0) 2 (s .pre .1) (f .kept .1 .1 .0)) (f .ensures) (g .ensures)
 

@@ -1,36 +1,45 @@
--- `draws::out_coins` meets its contract: after i turns the first i places hold the first i out coins. Assumes nothing.
+-- `draws::out_coins` meets its contract: after i turns the first i places hold the first i out coins, and the last of them, or p, stands before the next. Assumes
+-- nothing.
 use Prim.Native.Nat.{ℕ, _-_, _≤_}
 use native.Mathlib.Omega.{arith}
 use mathlib.Core.List.{List}
-use mathlib.Core.Path.{_≡_, refl, sym, ap, _∙_}
+use mathlib.Core.Option.{Option, none}
+use mathlib.Core.Path.{_≡_, refl, sym, ap, subst, _∙_}
 use lib.ListN.{length, take, replicate, length-set}
-use lib.Seq.{take-all}
+use lib.Seq.{length-take-le, take-all}
+use borrow.Author.Needs.{needs}
 use Rattle.definition.specs.Layout.{out as outOf}
 use Rattle.definition.specs.Load.{Drawn, drawKind, drawKinds}
 use Rattle.definition.specs.Sheet.{edition1, sheetOf}
 use Rattle.completeness.specs.Numbered.{levelOf}
-use Rattle.draws.specs.AtLevel.{bounded, out-drawn}
-use Rattle.draws.specs.Kinds.{drawn-more}
+use Rattle.draws.specs.AtLevel.{bounded, suits}
+use Rattle.draws.specs.Kinds.{after-more, drawn-more, outAfter}
+use Rattle.draws.specs.OutCoin.{Stands}
 use Rattle.draws.proofs.Joins.{Is}
 use Rattle.draws.proofs.out_coins.Statement.{statement}
 use Rattle.draws.proofs.out_coins.Tie as tie
 
 abbrev Inv-loop : tie.InvT-loop
-Inv-loop w pw level scale out₀ field current₀ i₀ out current i =
-    (i ≤ length out₀) × ((length out ≡ length out₀) × Is (take i out) (current .v) (drawKinds (sheetOf edition1 w) (replicate i (outOf (levelOf (sheetOf edition1 w) level))) (current₀ .v)))
+Inv-loop w pw level scale out₀ field before₀ current₀ i₀ out before current i =
+    let h = sheetOf edition1 w in
+    let ks = replicate i (outOf (levelOf h level)) in
+    (i ≤ length out₀) × ((length out ≡ length out₀) × (Is (take i out) (current .v) (drawKinds h none ks (current₀ .v)) × Stands h (outAfter none ks (take i out)) before))
 
 abbrev μ-loop : tie.MeasureT-loop
-μ-loop w pw level scale out₀ field current₀ i₀ out current i = length out₀ - i
+μ-loop w pw level scale out₀ field before₀ current₀ i₀ out before current i = length out₀ - i
 
 shared-slice-read-field : tie.Need-shared-slice-read-field Inv-loop μ-loop
-shared-slice-read-field c = omega arith
+shared-slice-read-field c = omega (arith, c .before .before .before .before .pre .0 .long)
+
+modulus-requires : tie.Need-modulus-requires Inv-loop μ-loop
+modulus-requires c κs = search needs
 
 loop-holds : tie.Need-loop-holds Inv-loop μ-loop
-unfolding drawKinds
-loop-holds c = (omega arith, (refl, refl))
+unfolding drawKinds outAfter sheetOf
+loop-holds c = (omega arith, (refl, (refl, c .modulus .ensures)))
 
 out-coin-requires : tie.Need-out-coin-requires Inv-loop μ-loop
-out-coin-requires c κs = bounded (c .before .before .before .before .before .before .pre) .some
+out-coin-requires c κs = bounded (c .before .before .before .before .before .before .before .pre .0) .some
 
 mul-out : tie.Need-mul-out Inv-loop μ-loop
 mul-out c = omega arith
@@ -47,14 +56,20 @@ loop-less c = omega arith
 loop-again : tie.Need-loop-again Inv-loop μ-loop
 unfolding drawKind
 loop-again c =
-    let s = c .before .before .before .before .before .before .before .before in
+    let s = c .before .before .before .before .before .before .before .before .before in
     let a = s .args in
+    let h = sheetOf edition1 (a .w .now) in
+    let b = levelOf (sheetOf edition1 (a .w .now)) (a .level) in
     let l = c .before .before .before .loop in
-    let d = c .before .out-coin in (
+    let d = c .before .out-coin in
+    let before = outAfter none (replicate (l .i) (outOf b)) (take (l .i) (l .out)) in (
       omega arith,
       (
         length-set (l .out) (l .i) (d .result .value) ∙ l .inv .1 .0,
-        drawn-more (sheetOf edition1 (a .w .now)) (outOf (levelOf (sheetOf edition1 (a .w .now)) (a .level))) (l .i) (a .generator .v) (l .out) (omega arith) (l .inv .1 .1) (out-drawn (s .pre) (l .current .v) (d .ensures)),
+        (
+          drawn-more h (outOf b) (l .i) (a .generator .v) (l .out) (omega arith) (l .inv .1 .1 .0) refl (d .ensures h before b (suits (s .pre .0) (s .pre .1) before (l .inv .1 .1 .1))),
+          subst (λ (o : Option ℕ). Stands h o (d .result .value)) (sym (after-more h b (l .i) (d .result .value) (l .out) (omega arith) (length-take-le (l .i) (l .out) (omega arith)))) refl,
+        ),
       ),
     )
 
@@ -64,12 +79,12 @@ same-length c = omega arith
 returns : tie.Need-returns Inv-loop μ-loop
 returns c =
     let l = c .before .loop in
-    let a = c .before .before .before .before .before .before .args in
+    let a = c .before .before .before .before .before .before .before .args in
     let h = sheetOf edition1 (a .w .now) in
     let k = outOf (levelOf (sheetOf edition1 (a .w .now)) (a .level)) in
     let e : l .i ≡ length (a .out .now) = omega arith in
     ap {B = Drawn (List ℕ)} (λ (t : List ℕ). record { value = t; next = l .current .v }) (sym (take-all (l .i) (l .out) (omega arith)))
-    ∙ l .inv .1 .1 ∙ ap (λ (n : ℕ). drawKinds h (replicate n k) (a .generator .v)) e
+    ∙ l .inv .1 .1 .0 ∙ ap (λ (n : ℕ). drawKinds h none (replicate n k) (a .generator .v)) e
 
 pub out-coins-spec : {M : Type 1} → statement M
 out-coins-spec =
@@ -78,6 +93,7 @@ out-coins-spec =
     Inv-loop
     μ-loop
     shared-slice-read-field
+    modulus-requires
     loop-holds
     out-coin-requires
     mul-out

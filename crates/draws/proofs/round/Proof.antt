@@ -42,7 +42,7 @@ slice-aggregate-out-coins c =
     sym (length-take-le (getD (s .args .w .now) 5 0) (s .args .out .now) (omega (arith, s .pre .1)))
 
 out-coins-requires : tie.Need-out-coins-requires
-out-coins-requires c κs = let s = c .before .before .before .before .before .before .before .before in next-level (s .pre .0 .0) (s .pre .0 .1)
+out-coins-requires c κs = let s = c .before .before .before .before .before .before .before .before in (next-level (s .pre .0 .0) (s .pre .0 .1), omega arith)
 
 mul-later-coins : tie.Need-mul-later-coins
 mul-later-coins c = search needs
@@ -81,7 +81,7 @@ returns c =
     (joined (a .out .now) (o .last .1 .1 .1 .1 .1 .0) (getD (a .w .now) 5 0) n (o .kept .1 .1 .1 .1 .1 .0) (g .last .1 .1 .1 .0) refl refl)
     (s .pre .1) (length-take-le (getD (a .w .now) 5 0) (a .out .now) n)
     (others-long (a .out .now) (o .last .1 .1 .1 .1 .1 .0) (getD (a .w .now) 5 0) n (o .kept .1 .1 .1 .1 .1 .0)) (c .before .before .before .before .before .before .before .before .shift-points .ensures ∙ shifts-are (s .pre .0 .0))
-    (o .ensures) (g .ensures (sheetOf edition1 (a .w .now)) refl)
+    (o .ensures) (λ q. g .ensures (sheetOf edition1 (a .w .now)) q refl)
 
 pub round-spec : {M : Type 1} → statement M
 round-spec =

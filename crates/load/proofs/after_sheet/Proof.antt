@@ -1,5 +1,6 @@
 -- `load::after_sheet` meets its contract. Assumes nothing.
 use Prim.Native.Nat.{ℕ}
+use mathlib.Core.Option.{none}
 use mathlib.Core.Path.{refl, ap, _∙_}
 use lib.ListN.{replicate}
 use borrow.Author.Needs.{needs}
@@ -40,7 +41,7 @@ returns c =
     let f = c .before .before .before .before .before .before .before .before .before .before .before .before .before .coefficients in
     let coins = c .before .before .before .before .before .before .before .before .before .coins in
     let p = c .before .before .before .prove-then-verify in
-    let drawn = f .ensures h refl ∙ ap (λ (n : ℕ). drawKinds h (replicate n message) (a .generator .v)) (s .pre .1 .0) in
+    let drawn = f .ensures h refl ∙ ap (λ (n : ℕ). drawKinds h none (replicate n message) (a .generator .v)) (s .pre .1 .0) in
     λ v e. record {
       verdict = drawn-verdict v e drawn (coins .ensures) (a .output .now) (s .pre .1 .1 .1) (p .ensures .0) (p .ensures .1 .1 .1);
       next = drawn-next v e drawn (coins .ensures);

@@ -5,7 +5,7 @@ use borrow.Author.Needs.{needs}
 use Rattle.completeness.specs.SheetRules.{long-enough}
 use Rattle.edition.specs.Meaning.{editionOf}
 use Rattle.outcome.specs.Meaning.{outcomeOf}
-use Rattle.orders.proofs.Stages.{other-coefficients, other-coins, out-of-range, in-domain, few-bytes, proves}
+use Rattle.orders.proofs.Stages.{other-coefficients, other-coins, out-of-range, out-coins-refused, few-bytes, proves}
 use Rattle.orders.proofs.prove_after_sheet.Statement.{statement}
 use Rattle.orders.proofs.prove_after_sheet.Tie as tie
 
@@ -49,11 +49,11 @@ returns-3 c = λ output l.
 enum-told : tie.Need-enum-told
 enum-told c = search needs
 
-coin-in-domain-requires : tie.Need-coin-in-domain-requires
-coin-in-domain-requires c κs = search needs
+coin-tests-requires : tie.Need-coin-tests-requires
+coin-tests-requires c κs = search needs
 
-enum-known-inside : tie.Need-enum-known-inside
-enum-known-inside c = search needs
+enum-known-outs : tie.Need-enum-known-outs
+enum-known-outs c = search needs
 
 returns-4 : tie.Need-returns-4
 unfolding outcomeOf
@@ -62,8 +62,8 @@ returns-4 c = λ output l.
     let i = d .before .before .before in
     let n = i .before .before in
     let a = n .before .before .before .before .before .before .args in
-    in-domain (editionOf (a .e)) (a .w .now) (a .f .now) (a .coins .now) output (n .before .if1 .left) (i .before .if2 .left ∙ n .coins-due .ensures)
-    (i .input-out-of-range .ensures) (d .before .enum-told .given .1) (d .coin-in-domain .ensures) (c .before .inside .given .1)
+    out-coins-refused (editionOf (a .e)) (a .w .now) (a .f .now) (a .coins .now) output (n .before .if1 .left) (i .before .if2 .left ∙ n .coins-due .ensures)
+    (i .input-out-of-range .ensures) (d .before .enum-told .given .1) (d .coin-tests .ensures) (c .before .outs .given .1)
 
 enum-told-2 : tie.Need-enum-told-2
 enum-told-2 c = search needs
@@ -83,7 +83,7 @@ returns-5 c = λ output l.
     let n = i .before .before in
     let a = n .before .before .before .before .before .before .args in
     few-bytes (editionOf (a .e)) (a .w .now) (a .f .now) (a .coins .now) output (n .before .if1 .left) (i .before .if2 .left ∙ n .coins-due .ensures)
-    (i .input-out-of-range .ensures) (d .before .enum-told .given .1) (d .coin-in-domain .ensures) (b .before .enum-told2 .given .1)
+    (i .input-out-of-range .ensures) (d .before .enum-told .given .1) (d .coin-tests .ensures) (b .before .enum-told2 .given .1)
     (b .blocks-due .ensures .0) l (c .if3 .taken)
 
 returns-6 : tie.Need-returns-6
@@ -95,7 +95,7 @@ returns-6 c = λ output l.
     let n = i .before .before in
     let a = n .before .before .before .before .before .before .args in
     proves (editionOf (a .e)) (a .w .now) (a .f .now) (a .coins .now) output (n .before .if1 .left) (i .before .if2 .left ∙ n .coins-due .ensures)
-    (i .input-out-of-range .ensures) (d .before .enum-told .given .1) (d .coin-in-domain .ensures) (b .before .enum-told2 .given .1)
+    (i .input-out-of-range .ensures) (d .before .enum-told .given .1) (d .coin-tests .ensures) (b .before .enum-told2 .given .1)
     (b .blocks-due .ensures .0) l (c .if3 .left)
 
 pub prove-after-sheet-spec : {M : Type 1} → statement M
@@ -111,8 +111,8 @@ prove-after-sheet-spec =
     enum-known-range
     returns-3
     enum-told
-    coin-in-domain-requires
-    enum-known-inside
+    coin-tests-requires
+    enum-known-outs
     returns-4
     enum-told-2
     blocks-due-requires

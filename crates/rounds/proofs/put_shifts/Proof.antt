@@ -7,28 +7,30 @@ use lib.ListN.{length, drop}
 use Rattle.definition.specs.Polynomial.{pair}
 use Rattle.samples.specs.Samples.{sifted}
 use Rattle.samples.specs.Answers.{kept-from, kept-clash, kept-none, kept-some, room}
-use Rattle.rounds.specs.Prepared.{numbered, sampleBy}
-use Rattle.rounds.proofs.Shifts.{fits-for, below-at, places-for, sample-for, shifts-end, shifts-turn, shifts-clash}
+use Rattle.fractions.specs.Values.{below-at}
+use Rattle.root_values.specs.Places.{places-for}
+use Rattle.rounds.specs.SamplesIn.{numbered, sampleBy}
+use Rattle.rounds.proofs.Shifts.{fits-as, sample-for, shifts-end, shifts-turn, shifts-clash}
 use Rattle.rounds.proofs.put_shifts.Statement.{statement}
 use Rattle.rounds.proofs.put_shifts.Tie as tie
 
 abbrev Inv-loop : tie.InvT-loop
-Inv-loop field pw table tops inverses how r two shifts values₀ px₀ py₀ k₀ i₀ values px py k i =
+Inv-loop field pw roots how r shifts values₀ px₀ py₀ k₀ i₀ values px py k i =
     (i ≤ length shifts)
     × ((k ≤ length px₀)
     × ((length px₀ ≤ k + (length shifts - i))
     × ((length values ≡ length values₀)
     × ((length px ≡ length px₀)
     × ((length py ≡ length py₀)
-    × (some (pair (drop k px) (drop k py)) ≡ sifted field (numbered (sampleBy field pw table tops inverses how (length values₀) r) i (drop i shifts))))))))
+    × (some (pair (drop k px) (drop k py)) ≡ sifted field (numbered (sampleBy field pw roots how (length values₀) r) i (drop i shifts))))))))
 
 abbrev μ-loop : tie.MeasureT-loop
-μ-loop field pw table tops inverses how r two shifts values₀ px₀ py₀ k₀ i₀ values px py k i = i
+μ-loop field pw roots how r shifts values₀ px₀ py₀ k₀ i₀ values px py k i = i
 
 loop-holds : tie.Need-loop-holds Inv-loop μ-loop
 loop-holds c =
-    let a = c .before .before .before .before .before .before .before .before .args in
-    (omega arith, (omega arith, (omega arith, (refl, (refl, (refl, shifts-end (a .field) (sampleBy (a .field) (a .pw .now) (a .table .now) (a .tops .now) (a .inverses .now) (a .how) (length (a .values .now)) (a .r)) (a .shifts .now) (a .px .now) (a .py .now) (length (a .px .now)) refl))))))
+    let a = c .before .before .before .before .before .before .args in
+    (omega arith, (omega arith, (omega arith, (refl, (refl, (refl, shifts-end (a .field) (sampleBy (a .field) (a .pw .now) (a .roots .now) (a .how) (length (a .values .now)) (a .r)) (a .shifts .now) (a .px .now) (a .py .now) (length (a .px .now)) refl))))))
 
 sub-i : tie.Need-sub-i Inv-loop μ-loop
 sub-i c = omega arith
@@ -45,17 +47,17 @@ wide-requires c κs = omega arith
 sample-at-requires : tie.Need-sample-at-requires Inv-loop μ-loop
 sample-at-requires c κs =
     let l = c .before .before .before .before .loop in
-    let p = c .before .before .before .before .before .before .before .before .before .before .before .before .before .pre in
-    let a = c .before .before .before .before .before .before .before .before .before .before .before .before .before .args in
+    let p = c .before .before .before .before .before .before .before .before .before .before .before .pre in
+    let a = c .before .before .before .before .before .before .before .before .before .before .before .args in
     let below : l .i - 1 < length (a .shifts .now) = omega (arith, l .inv .0, c .before .before .before .loop-test .taken) in (
-      (places-for (l .i - 1) (length (a .shifts .now)) (length (a .values .now)) _ below (l .inv .1 .1 .1 .0) (p .0 .0), places-for (l .i - 1) (length (a .shifts .now)) (length (a .values .now)) _ below (l .inv .1 .1 .1 .0) (p .0 .1)),
-      (fits-for (l .inv .1 .1 .1 .0) (p .1 .0), (below-at (a .shifts .now) (p .1 .1 .0) (l .i - 1) below (c .before .wide .ensures), p .1 .1 .1 .1)),
+      places-for (l .i - 1) (length (a .shifts .now)) (length (a .values .now)) _ below (l .inv .1 .1 .1 .0) (p .0),
+      (fits-as (l .inv .1 .1 .1 .0) (p .1 .0), below-at (a .shifts .now) (p .1 .1 .0) (l .i - 1) below (c .before .wide .ensures)),
     )
 
 push-requires : tie.Need-push-requires Inv-loop μ-loop
 push-requires c κs =
     let n = c .before .before .before .before .before .before .before .before .before .loop .inv in
-    let m = c .before .before .before .before .before .before .before .before .before .before .before .before .before .before .before .before .before .before .pre .1 .1 .1 .0 in
+    let m = c .before .before .before .before .before .before .before .before .before .before .before .before .before .before .before .before .pre .1 .1 .1 in
     (omega (arith, c .before .before .before .before .before .before .before .before .loop-test .taken, n .0, n .1 .1 .0, m .1), (omega (arith, n .1 .0, n .1 .1 .1 .1 .0), omega (arith, m .0, n .1 .1 .1 .1 .0, n .1 .1 .1 .1 .1 .0)))
 
 enum-known-f : tie.Need-enum-known-f Inv-loop μ-loop
@@ -76,12 +78,12 @@ same-length-3 c = omega arith
 returns : tie.Need-returns Inv-loop μ-loop
 returns c =
     let l = c .before .before .before .before .before .before .before .before .before .before .before .before .before .before .before .before .loop in
-    let a = c .before .before .before .before .before .before .before .before .before .before .before .before .before .before .before .before .before .before .before .before .before .before .before .before .before .args in
+    let a = c .before .before .before .before .before .before .before .before .before .before .before .before .before .before .before .before .before .before .before .before .before .before .before .args in
     let n = l .inv .1 .1 .1 in
     let p = c .before .before .before .before .before .before .before .before .before .before .before .sample-at in
-    let e = sample-for (a .field) (a .pw .now) (a .table .now) (a .tops .now) (a .inverses .now) (a .how) (a .r) (length (l .values)) (l .i - 1) (p .ensures) (n .0) (c .before .before .before .before .before .before .before .before .before .before .before .before .before .wide .ensures) in
-    let t = shifts-turn (a .field) (sampleBy (a .field) (a .pw .now) (a .table .now) (a .tops .now) (a .inverses .now) (a .how) (length (a .values .now)) (a .r)) (a .shifts .now) (l .i) (c .before .before .before .before .before .before .before .before .before .before .before .before .before .before .before .loop-test .taken) (l .inv .0) (n .1 .1 .1) e (c .before .before .before .before .before .before .push .ensures .0) in
-    (kept-none _ _ (shifts-clash (a .field) (sampleBy (a .field) (a .pw .now) (a .table .now) (a .tops .now) (a .inverses .now) (a .how) (length (a .values .now)) (a .r)) (a .shifts .now) (l .i - 1) (kept-clash _ _ (c .enum-told .given .1) t)), tt)
+    let e = sample-for (a .field) (a .pw .now) (a .roots .now) (a .how) (a .r) (length (l .values)) (l .i - 1) (p .ensures) (n .0) (c .before .before .before .before .before .before .before .before .before .before .before .before .before .wide .ensures) in
+    let t = shifts-turn (a .field) (sampleBy (a .field) (a .pw .now) (a .roots .now) (a .how) (length (a .values .now)) (a .r)) (a .shifts .now) (l .i) (c .before .before .before .before .before .before .before .before .before .before .before .before .before .before .before .loop-test .taken) (l .inv .0) (n .1 .1 .1) e (c .before .before .before .before .before .before .push .ensures .0) in
+    (kept-none _ _ (shifts-clash (a .field) (sampleBy (a .field) (a .pw .now) (a .roots .now) (a .how) (length (a .values .now)) (a .r)) (a .shifts .now) (l .i - 1) (kept-clash _ _ (c .enum-told .given .1) t)), tt)
 
 loop-less : tie.Need-loop-less Inv-loop μ-loop
 loop-less c = omega arith
@@ -89,12 +91,12 @@ loop-less c = omega arith
 loop-again : tie.Need-loop-again Inv-loop μ-loop
 loop-again c =
     let l = c .before .before .before .before .before .before .before .before .before .before .before .before .before .before .before .before .before .loop in
-    let a = c .before .before .before .before .before .before .before .before .before .before .before .before .before .before .before .before .before .before .before .before .before .before .before .before .before .before .args in
+    let a = c .before .before .before .before .before .before .before .before .before .before .before .before .before .before .before .before .before .before .before .before .before .before .before .before .args in
     let n = l .inv .1 .1 .1 in
     let p = c .before .before .before .before .before .before .before .before .before .before .before .before .sample-at in
     let u = c .before .before .before .before .before .before .before .push in
     let h = c .before .before .before .before .before .before .before .before .before .before .before .before .before .before .before .before .loop-test .taken in
-    let e = sample-for (a .field) (a .pw .now) (a .table .now) (a .tops .now) (a .inverses .now) (a .how) (a .r) (length (l .values)) (l .i - 1) (p .ensures) (n .0) (c .before .before .before .before .before .before .before .before .before .before .before .before .before .before .wide .ensures) in
+    let e = sample-for (a .field) (a .pw .now) (a .roots .now) (a .how) (a .r) (length (l .values)) (l .i - 1) (p .ensures) (n .0) (c .before .before .before .before .before .before .before .before .before .before .before .before .before .before .wide .ensures) in
     let f = c .before .f .given in
     let w = room (l .k) 1 (f .1) (u .ensures .1) in (
       omega (arith, l .inv .0),
@@ -103,12 +105,12 @@ loop-again c =
         (
           omega (arith, w .0, h, l .inv .0, l .inv .1 .1 .0),
           (
-            p .kept .1 .1 .1 .1 .1 .1 .1 .1 .1 .1 .0 ∙ n .0,
+            p .kept .1 .1 .1 .1 .1 .1 .1 .0 ∙ n .0,
             (
               u .kept .0 ∙ n .1 .0,
               (
                 u .kept .1 .0 ∙ n .1 .1 .0,
-                kept-from (u .last .0) (u .last .1 .0) (f .1) (shifts-turn (a .field) (sampleBy (a .field) (a .pw .now) (a .table .now) (a .tops .now) (a .inverses .now) (a .how) (length (a .values .now)) (a .r)) (a .shifts .now) (l .i) h (l .inv .0) (n .1 .1 .1) e (u .ensures .0)),
+                kept-from (u .last .0) (u .last .1 .0) (f .1) (shifts-turn (a .field) (sampleBy (a .field) (a .pw .now) (a .roots .now) (a .how) (length (a .values .now)) (a .r)) (a .shifts .now) (l .i) h (l .inv .0) (n .1 .1 .1) e (u .ensures .0)),
               ),
             ),
           ),

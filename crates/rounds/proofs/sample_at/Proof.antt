@@ -1,17 +1,17 @@
 -- `rounds::sample_at` meets its contract. Assumes nothing.
-use Prim.Native.Nat.{ℕ, suc, _+_, _-_, _*_, _/_, _^_, _≤_, _<_}
 use native.Mathlib.Omega.{arith}
-use mathlib.Core.Path.{_≡_, refl, sym, ap, _∙_, subst}
-use mathlib.Core.List.{List, _++_}
-use lib.ListN.{length, getD, take, drop, length-drop}
-use borrow.Author.Needs.{needs}
-use Rattle.rounds.specs.Round.{first-point, folded}
+use lib.ListN.{length}
+use Rattle.fractions.specs.Values.{first-point, folded}
 use Rattle.rounds.proofs.Shifts.{sampled}
+use borrow.Author.Needs.{needs}
 use Rattle.rounds.proofs.sample_at.Statement.{statement}
 use Rattle.rounds.proofs.sample_at.Tie as tie
 
 shift-point-requires : tie.Need-shift-point-requires
-shift-point-requires c κs = let fits = c .before .before .before .before .before .pre .1 .0 in (first-point fits (c .before .before .before .before .before .pre .1 .1 .0), (fits .small, (omega (arith, folded fits), fits .few)))
+shift-point-requires c κs =
+    let p = c .before .before .before .pre in
+    let fits = p .1 .0 in
+    (first-point fits (p .1 .1), (fits .small, (omega (arith, folded fits), fits .few)))
 
 fold-at-requires : tie.Need-fold-at-requires
 fold-at-requires c κs = search needs
@@ -21,8 +21,8 @@ same-length c = search needs
 
 returns : tie.Need-returns
 returns c =
-    let a = c .before .before .before .before .before .before .before .before .before .before .args in
-    sampled (a .field) (a .pw .now) (a .table .now) (a .tops .now) (a .inverses .now) (a .how) (length (a .values .now)) (a .r) (a .i) (a .j) (c .before .before .before .before .shift-point .ensures .0) (c .before .before .fold-at .ensures)
+    let a = c .before .before .before .before .before .before .before .before .args in
+    sampled (a .field) (a .pw .now) (a .roots .now) (a .how) (length (a .values .now)) (a .r) (a .i) (a .j) (c .before .before .before .before .shift-point .ensures .0) (c .before .before .fold-at .ensures)
 
 pub sample-at-spec : {M : Type 1} → statement M
 sample-at-spec = tie.close (tie.spec shift-point-requires fold-at-requires same-length returns)

@@ -1,0 +1,109 @@
+-- `answers::answer` meets its contract. Assumes nothing.
+use Prim.Native.Nat.{_≤_}
+use native.Mathlib.Omega.{arith}
+use lib.ListN.{length}
+use borrow.Author.Needs.{needs}
+use Rattle.answers.proofs.Sizes.{most-places}
+use Rattle.answers.proofs.answer.Statement.{statement}
+use Rattle.answers.proofs.answer.Tie as tie
+
+mul-if1 : tie.Need-mul-if1
+mul-if1 c =
+    let s = c .before .before .before .before .before .before .before .before .before in
+    let a = s .args in
+    let l : length (a .shifts .now) ≤ 50 = omega (arith, s .pre .1 .1 .1 .0 .1 .1, s .pre .1 .1 .1 .1) in
+    omega (arith, most-places (length (a .shifts .now)) (a .k) l (s .pre .1 .0 .few))
+
+few-requires : tie.Need-few-requires
+few-requires c κs = search needs
+
+few-requires-2 : tie.Need-few-requires-2
+few-requires-2 c κs = search needs
+
+few-requires-3 : tie.Need-few-requires-3
+few-requires-3 c κs = search needs
+
+slice-aggregate-answer-in : tie.Need-slice-aggregate-answer-in
+slice-aggregate-answer-in c = search needs
+
+slice-aggregate-answer-in-2 : tie.Need-slice-aggregate-answer-in-2
+slice-aggregate-answer-in-2 c = search needs
+
+slice-aggregate-answer-in-3 : tie.Need-slice-aggregate-answer-in-3
+slice-aggregate-answer-in-3 c = search needs
+
+answer-in-requires : tie.Need-answer-in-requires
+answer-in-requires c κs =
+    let s = c .before .before .before .before .before .before .before .before .before .before .before .before .before .before .before .before .before .before in
+    let a = s .args in
+    let l : length (a .shifts .now) ≤ 50 = omega (arith, s .pre .1 .1 .1 .0 .1 .1, s .pre .1 .1 .1 .1) in
+    (s .pre .0, (s .pre .1 .0, (s .pre .1 .1 .0, (s .pre .1 .1 .1 .0, (omega (arith, c .before .before .before .before .before .before .before .before .if1 .taken, c .before .before .before .before .before .before .before .few .ensures), (omega (arith, c .before .before .before .before .before .before .before .before .if1 .taken, c .before .before .before .before .before .before .few2 .ensures), (omega (arith, c .before .before .before .before .before .before .before .before .if1 .taken, c .before .before .before .before .before .few3 .ensures), omega (arith, l))))))))
+
+same-length : tie.Need-same-length
+same-length c = search needs
+
+same-length-2 : tie.Need-same-length-2
+same-length-2 c = search needs
+
+returns : tie.Need-returns
+returns c = search needs
+
+many-requires : tie.Need-many-requires
+many-requires c κs = search needs
+
+many-requires-2 : tie.Need-many-requires-2
+many-requires-2 c κs = search needs
+
+many-requires-3 : tie.Need-many-requires-3
+many-requires-3 c κs = search needs
+
+slice-aggregate-answer-in-4 : tie.Need-slice-aggregate-answer-in-4
+slice-aggregate-answer-in-4 c = search needs
+
+slice-aggregate-answer-in-5 : tie.Need-slice-aggregate-answer-in-5
+slice-aggregate-answer-in-5 c = search needs
+
+slice-aggregate-answer-in-6 : tie.Need-slice-aggregate-answer-in-6
+slice-aggregate-answer-in-6 c = search needs
+
+answer-in-requires-2 : tie.Need-answer-in-requires-2
+answer-in-requires-2 c κs =
+    let s = c .before .before .before .before .before .before .before .before .before .before .before .before .before .before .before .before .before .before in
+    let a = s .args in
+    let l : length (a .shifts .now) ≤ 50 = omega (arith, s .pre .1 .1 .1 .0 .1 .1, s .pre .1 .1 .1 .1) in
+    (s .pre .0, (s .pre .1 .0, (s .pre .1 .1 .0, (s .pre .1 .1 .1 .0, (omega (arith, most-places (length (a .shifts .now)) (a .k) l (s .pre .1 .0 .few), c .before .before .before .before .before .before .before .many .ensures), (omega (arith, most-places (length (a .shifts .now)) (a .k) l (s .pre .1 .0 .few), c .before .before .before .before .before .before .many2 .ensures), (omega (arith, most-places (length (a .shifts .now)) (a .k) l (s .pre .1 .0 .few), c .before .before .before .before .before .many3 .ensures), omega (arith, l))))))))
+
+same-length-3 : tie.Need-same-length-3
+same-length-3 c = search needs
+
+same-length-4 : tie.Need-same-length-4
+same-length-4 c = search needs
+
+returns-2 : tie.Need-returns-2
+returns-2 c = search needs
+
+pub answer-spec : {M : Type 1} → statement M
+answer-spec =
+    tie.close
+    (tie.spec
+    mul-if1
+    few-requires
+    few-requires-2
+    few-requires-3
+    slice-aggregate-answer-in
+    slice-aggregate-answer-in-2
+    slice-aggregate-answer-in-3
+    answer-in-requires
+    same-length
+    same-length-2
+    returns
+    many-requires
+    many-requires-2
+    many-requires-3
+    slice-aggregate-answer-in-4
+    slice-aggregate-answer-in-5
+    slice-aggregate-answer-in-6
+    answer-in-requires-2
+    same-length-3
+    same-length-4
+    returns-2)

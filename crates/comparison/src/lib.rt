@@ -1,0 +1,111 @@
+// The final comparison: of the final polynomial with the folds at the shift points of the final indices.
+//
+// The caller lends the words, as for the samples of a round.
+use fractions::Function;
+use outcome::Found;
+ghost use mathlib.Core.Path.{_≡_};
+ghost use Prim.Native.Nat.{ℕ, _+_, _*_, _≤_, _<_};
+ghost use lib.ListN.{length};
+ghost use Rattle.definition.specs.Field.{fieldOf};
+ghost use Rattle.definition.specs.Lists.{firstTrue};
+ghost use Rattle.definition.specs.Polynomial.{evaluate};
+ghost use Rattle.folds.specs.PointsIn.{PowerTable, shiftIn};
+ghost use Rattle.fractions.specs.Values.{Fits, Below, Clear};
+ghost use Rattle.outcome.specs.Meaning.{placeOf};
+ghost use Rattle.rounds.specs.RoundLaws.{Compared, differsIn};
+ghost use Rattle.rounds.specs.SamplesIn.{sampleBy, numbered};
+
+// The final polynomial at the shift point of index j: by the powers of the point, which stand in the table, where there is room for them and more than a few are
+// needed; else by Horner's rule.
+fn final_value(
+    field: u32,
+    pw: &[u32],
+    scale: usize,
+    j: usize,
+    k: usize,
+    coefficients: &[u32],
+) -> u32
+    requires { ⌜ (scale * j < length (now pw)) × ((length (now pw) ≤ 4096) × ((0 < k) × (k ≤ 16))) ⌝ }
+    requires { ⌜ PowerTable field (now pw) ⌝ }
+    ensures { λ v. ⌜ v ≡ evaluate (fieldOf field) (now (coefficients .entry)) (shiftIn (now (pw .entry)) scale k j) ⌝ }
+{
+    let n = coefficients.len();
+    if 8 < n {
+        if n < 66 {
+            let mut powers = lists::places();
+            fractions::shift_powers(pw, scale, k, j, &mut powers[..n + 1]);
+            return sums::sum(field, coefficients, &powers[..n + 1]);
+        }
+    }
+    let x = folds::shift_point(pw, scale, j, k);
+    polynomial::value_at(field, coefficients, x)
+}
+
+// The first final index at whose shift point the final polynomial differs from the fold, by the values at the roots.
+fn compare(
+    field: u32,
+    pw: &[u32],
+    roots: &[u32],
+    how: Function,
+    r: u32,
+    coefficients: &[u32],
+    finals: &[u32],
+    values: &mut [u32],
+) -> Found
+    requires { ⌜ length (now finals) * length (now values) ≤ length (now roots) ⌝ }
+    requires { ⌜ Fits (length (now pw)) (length (now values) * how .step) how (length (now values)) ⌝ }
+    requires { ⌜ Below (how .step) (now finals) ⌝ }
+    requires { ⌜ PowerTable field (now pw) ⌝ }
+    ensures { λ v. ⌜ placeOf v ≡ firstTrue 0 (numbered (λ i j. differsIn field (now (coefficients .entry)) (sampleBy field (now (pw .entry)) (now (roots .entry)) how (length (now (values .entry))) r i j)) 0 (now (finals .entry))) ⌝ }
+{
+    let mut i = 0;
+    while i < finals.len() {
+        let j = folds::wide(finals[i]);
+        let y = rounds::fold_at(field, pw, roots, how, i, j, r, values);
+        let value = final_value(field, pw, how.scale, j, values.len(), coefficients);
+        if value != y {
+            return Found::At(i);
+        }
+        i += 1;
+    }
+    Found::Nothing
+}
+
+// The first final index at whose shift point the final polynomial differs from the fold.
+pub fn first_difference(
+    field: u32,
+    pw: &[u32],
+    table: &[u32],
+    ac: &[u32],
+    vg: &[u32],
+    how: Function,
+    r: u32,
+    coefficients: &[u32],
+    finals: &[u32],
+    values: &mut [u32],
+    tops: &mut [u32],
+    bottoms: &mut [u32],
+    behind: &mut [u32],
+) -> Found
+    requires { ⌜ (length (now ac) ≡ 66) × ((length (now vg) ≡ 132) × (Clear field (now pw) (length (now table)) (now vg) how)) ⌝ }
+    requires { ⌜ Fits (length (now pw)) (length (now table)) how (length (now values)) ⌝ }
+    requires { ⌜ Below (how .step) (now finals) ⌝ }
+    requires { ⌜ (length (now finals) * length (now values) ≤ length (now tops)) × ((length (now finals) * length (now values) ≤ length (now bottoms)) × ((length (now finals) * length (now values) ≤ length (now behind)) × (length (now finals) ≤ 4096))) ⌝ }
+    ensures { λ v. ⌜ Compared field (now (pw .entry)) (now (table .entry)) (now (ac .entry)) (now (vg .entry)) how (length (now (values .entry))) r (now (coefficients .entry)) (now (finals .entry)) (placeOf v) ⌝ }
+{
+    let k = values.len();
+    root_values::prepare(
+        field,
+        pw,
+        table,
+        ac,
+        vg,
+        how,
+        k,
+        finals,
+        tops,
+        bottoms,
+        behind,
+    );
+    compare(field, pw, tops, how, r, coefficients, finals, values)
+}
