@@ -1,5 +1,6 @@
-/* Judges the file named on the command line, or standard input, and says what the verdict means: `judge [-2] [FILE]`,
- * where -2 is for a file of edition 2. The exit status is 0 for accepted, 1 for refused, 2 where the file cannot be read.
+/* Judges the file named on the command line, or standard input, and says what the verdict means:
+ * `judge [-r | -d] [-2] [FILE]`, where -r is for the first of verify's two steps, reading, -d for the second, deciding, and
+ * -2 for a file of edition 2. The exit status is 0 for accepted, 1 for refused, 2 where the file cannot be read.
  *
  * To build it, at the top of the repository, after `rt staticlib tevrolig`; or anywhere, after `tools/install`:
  *
@@ -60,10 +61,40 @@ static void explain(const uint8_t *file, size_t length, uint32_t number, uint64_
     }
 }
 
+/* What is asked of a file: verify, or one of its steps. */
+enum step { VERIFY, READ, DECIDE };
+
+/* The answer to it, in the edition given; reading has no reads. */
+static uint32_t judge(enum step step, int edition, const uint8_t *file, size_t length, uint64_t *place, uint64_t *reads)
+{
+    switch (step) {
+    case READ:
+        *reads = 0;
+        return edition == 2 ? tevrolig_read_2(file, length, place) : tevrolig_read(file, length, place);
+    case DECIDE:
+        return edition == 2 ? tevrolig_decide_2(file, length, place, reads) : tevrolig_decide(file, length, place, reads);
+    default:
+        return edition == 2 ? tevrolig_verify_2(file, length, place, reads) : tevrolig_verify(file, length, place, reads);
+    }
+}
+
 int main(int argc, char **argv)
 {
-    int second = argc > 1 && strcmp(argv[1], "-2") == 0;
-    const char *name = argc > 1 + second ? argv[1 + second] : NULL;
+    enum step step = VERIFY;
+    int edition = 1, next = 1;
+    for (; next < argc && argv[next][0] == '-'; next++) {
+        if (strcmp(argv[next], "-r") == 0)
+            step = READ;
+        else if (strcmp(argv[next], "-d") == 0)
+            step = DECIDE;
+        else if (strcmp(argv[next], "-2") == 0)
+            edition = 2;
+        else {
+            fprintf(stderr, "usage: judge [-r | -d] [-2] [FILE]\n");
+            return 2;
+        }
+    }
+    const char *name = next < argc ? argv[next] : NULL;
     FILE *input = name != NULL ? fopen(name, "rb") : stdin;
     if (input == NULL) {
         perror(name);
@@ -78,8 +109,7 @@ int main(int argc, char **argv)
     fclose(input);
 
     uint64_t place, reads;
-    uint32_t number = second ? tevrolig_verify_2(file, length, &place, &reads)
-                             : tevrolig_verify(file, length, &place, &reads);
+    uint32_t number = judge(step, edition, file, length, &place, &reads);
     const char *outcome = number == TEVROLIG_ACCEPTED ? "accepted" : "refused";
     printf("%s %" PRIu32 " %" PRIu64 " %" PRIu64 "\n", outcome, number, place, reads);
     if (number == TEVROLIG_ACCEPTED)

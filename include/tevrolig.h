@@ -24,9 +24,9 @@
  * - Everything is lent for the call alone. No pointer is kept, and inputs are only read.
  * - Nothing is allocated and no state is kept, so calls may run in several threads at once, over the same inputs too.
  * - Each number that a function gives by a pointer is written on every return, whatever was there before.
- * - The stack that a call takes is bounded: below TEVROLIG_VERIFY_STACK bytes for tevrolig_verify, likewise for prove,
- *   encode and the converters, in both editions, and below 1,024 for tevrolig_word, tevrolig_sheet_of and the field
- *   operations. This is measured, not proved.
+ * - The stack that a call takes is bounded: below TEVROLIG_VERIFY_STACK bytes for tevrolig_verify and tevrolig_decide,
+ *   below TEVROLIG_READ_STACK for tevrolig_read, likewise for prove, encode and the converters, in both editions, and
+ *   below 1,024 for tevrolig_word, tevrolig_sheet_of and the field operations. This is measured, not proved.
  *
  * Words are unsigned 32-bit numbers. Numbers, places and positions count from 0.
  *
@@ -83,13 +83,14 @@ extern "C" {
 
 /* Bytes of stack below which a call stays. */
 #define TEVROLIG_VERIFY_STACK 98304
+#define TEVROLIG_READ_STACK 49152
 #define TEVROLIG_PROVE_STACK 98304
 #define TEVROLIG_ENCODE_STACK 49152
 #define TEVROLIG_CONVERT_STACK 49152
 
 /* What the functions answer. The place that belongs to each number stands at the function. */
 enum {
-    TEVROLIG_ACCEPTED = 0,  /* verify: the file is accepted */
+    TEVROLIG_ACCEPTED = 0,  /* verify, read, decide: the file is accepted */
     TEVROLIG_DONE = 0,      /* prove, encode, sheet_of, to_edition_1, to_edition_2: the output is written */
     TEVROLIG_LENGTH = 1,    /* the file is empty, or its length is no multiple of 512 bytes */
     TEVROLIG_CHECK = 2,     /* a block's check word is wrong */
@@ -129,6 +130,22 @@ uint32_t tevrolig_verify(const uint8_t *file, size_t length, uint64_t *place, ui
 /* Judges a file of edition 2 likewise. Place 3 is the first in the order in which the sheet's words are tested, and each
  * shift or final coin over domain i counts k_i reads: t_0*k_0 + .. + t_M*k_M for an accepted file. */
 uint32_t tevrolig_verify_2(const uint8_t *file, size_t length, uint64_t *place, uint64_t *reads);
+
+/* Verify in two steps, for a caller who receives a file long before he may decide: read, and where it accepts, decide. Both
+ * in turn say what tevrolig_verify says. Nothing is handed over from one to the other: both take the whole file, and
+ * deciding reads it again. So a reading that was skipped, or a file that changed since, lets nothing through.
+ *
+ * tevrolig_read makes the tests 1 to 6 alone. It answers 0 for accepted, with place 0, else the number of the first of
+ * them that fails, with its place as above. It uses no table word, so there are no reads.
+ *
+ * tevrolig_decide answers and writes of any file what tevrolig_verify does. After an accepted reading of the same bytes it
+ * accepts, or refuses with 7, 14, 8 or 9; a file that fails reading gets reading's number and place again, with 0 reads. */
+uint32_t tevrolig_read(const uint8_t *file, size_t length, uint64_t *place);
+uint32_t tevrolig_decide(const uint8_t *file, size_t length, uint64_t *place, uint64_t *reads);
+
+/* The same two steps for a file of edition 2, and tevrolig_verify_2. */
+uint32_t tevrolig_read_2(const uint8_t *file, size_t length, uint64_t *place);
+uint32_t tevrolig_decide_2(const uint8_t *file, size_t length, uint64_t *place, uint64_t *reads);
 
 /* Shows the word of this number in a file's stream, of either edition. The sheet has the words 0 to 11, or 0 to 17, and
  * block checks are not counted. Answers 1, or 0 where the file's whole blocks hold no word of that number; `word` is then

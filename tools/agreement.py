@@ -1,8 +1,8 @@
 #!/usr/bin/env python3
 """Writes theorems that hold by computation, from what the model says. Files of either edition: for each line `HEX outcome number place reads` the definition's verdict
-of these bytes. Conversions: for each line `EDITION HEX LENGTH answer number place HEX` what the definition's converter makes of these bytes and an output of so many
+of these bytes. Steps: for each line `EDITION STEP HEX outcome number place reads` what the definition's reading or deciding says of these bytes. Conversions: for each line `EDITION HEX LENGTH answer number place HEX` what the definition's converter makes of these bytes and an output of so many
 bytes 165. Orders: for each line `v | next | sheet | coefficients | coins` what the definition draws in one run of the load from the state v. Arguments:
-the folder with the lines, in the files one, two, convert and orders, and the folder to write to."""
+the folder with the lines, in the files one, two, steps, convert and orders, and the folder to write to."""
 import sys
 
 HEAD = """use Prim.Native.Nat.{ℕ}
@@ -13,6 +13,11 @@ WORKED = "use Rattle.definition.specs.WorkedTranscript.{definitions}\n"
 VERDICTS = """use Rattle.definition.specs.Sheet.{edition1, edition2}
 use Rattle.definition.specs.Verdict.{accepted, refused}
 use Rattle.definition.specs.Verify.{verifyIn}
+"""
+STEPS = """use Rattle.definition.specs.Reading.{reading}
+use Rattle.definition.specs.Sheet.{edition1, edition2}
+use Rattle.definition.specs.Verdict.{accepted, refused}
+use Rattle.definition.specs.Verify.{decideFile}
 """
 CONVERSIONS = """use lib.ListN.{replicate}
 use Rattle.definition.specs.Prove.{done, refusal}
@@ -31,21 +36,31 @@ def data(text):
     return listed(b"" if text == "-" else bytes.fromhex(text))
 
 
+def said(outcome, fault, place):
+    return "accepted" if outcome == "accepted" else f"refused {fault} {place}"
+
+
 def verdict(edition):
     def theorem(line):
-        file, outcome, fault, place, reads = line.split()
-        said = "accepted" if outcome == "accepted" else f"refused {fault} {place}"
-        return f"verifyIn {edition} ({data(file)})", f"record {{ outcome = {said}; reads = {reads} }}"
+        file, *outcome, reads = line.split()
+        return f"verifyIn {edition} ({data(file)})", f"record {{ outcome = {said(*outcome)}; reads = {reads} }}"
 
     return theorem
+
+
+def step(line):
+    edition, name, file, *outcome, reads = line.split()
+    if name == "read":
+        return f"reading edition{edition} ({data(file)})", said(*outcome)
+    return f"decideFile edition{edition} ({data(file)})", f"record {{ outcome = {said(*outcome)}; reads = {reads} }}"
 
 
 def conversion(line):
     edition, file, length, answer, number, place, output = line.split()
     before = f"replicate {length} 165"
     after = before if output == int(length) * "a5" else data(output)
-    said = f"done {place}" if answer == "done" else f"refusal {number} {place}"
-    return f"toEdition{edition} ({data(file)}) ({before})", f"record {{ answer = {said}; output = {after} }}"
+    told = f"done {place}" if answer == "done" else f"refusal {number} {place}"
+    return f"toEdition{edition} ({data(file)}) ({before})", f"record {{ answer = {told}; output = {after} }}"
 
 
 def order(line):
@@ -60,6 +75,7 @@ def main():
     modules = [
         ("one", "One", VERDICTS + WORKED, "definitions", verdict("edition1")),
         ("two", "Two", VERDICTS + WORKED, "definitions", verdict("edition2")),
+        ("steps", "Steps", STEPS + WORKED, "definitions decideFile", step),
         ("convert", "Conversions", CONVERSIONS + WORKED, "definitions", conversion),
         ("orders", "Orders", DRAWS, "loadDefinitions", order),
     ]

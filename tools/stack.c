@@ -1,5 +1,5 @@
-/* Measures how much stack calls take, of verify and the converter, in both editions, and of tevrolig_word and tevrolig_sheet_of, on each file named and on
- * what is proved here; of prove, in both editions, and tevrolig_encode on the largest orders; and of the field operations. It fails where one is not below
+/* Measures how much stack calls take, of verify, its two steps and the converter, in both editions, and of tevrolig_word and tevrolig_sheet_of, on each file named
+ * and on what is proved here; of prove, in both editions, and tevrolig_encode on the largest orders; and of the field operations. It fails where one is not below
  * the header's figure. A call runs on a stack of its own, painted before, and the deepest byte that lost its paint is looked for. */
 #include <stdio.h>
 #include <stdlib.h>
@@ -38,6 +38,30 @@ static void verify_2(void)
 {
     uint64_t place, reads;
     answer = tevrolig_verify_2(file, length, &place, &reads);
+}
+
+static void decide(void)
+{
+    uint64_t place, reads;
+    answer = tevrolig_decide(file, length, &place, &reads);
+}
+
+static void decide_2(void)
+{
+    uint64_t place, reads;
+    answer = tevrolig_decide_2(file, length, &place, &reads);
+}
+
+static void read_file(void)
+{
+    uint64_t place;
+    answer = tevrolig_read(file, length, &place);
+}
+
+static void read_file_2(void)
+{
+    uint64_t place;
+    answer = tevrolig_read_2(file, length, &place);
 }
 
 static void prove(void)
@@ -147,12 +171,14 @@ static size_t done(const char *name, void (*call)(void))
 }
 
 /* The most of each, over all calls. */
-static size_t verifying, proving, encoding, converting, small;
+static size_t verifying, reading, proving, encoding, converting, small;
 
 /* What takes a file, of either edition. */
 static void judge_and_convert(void)
 {
     verifying = larger(verifying, larger(depth(verify), depth(verify_2)));
+    verifying = larger(verifying, larger(depth(decide), depth(decide_2)));
+    reading = larger(reading, larger(depth(read_file), depth(read_file_2)));
     converting = larger(converting, larger(depth(to_edition_1), depth(to_edition_2)));
     small = larger(small, larger(depth(word), depth(sheet_of)));
 }
@@ -183,11 +209,13 @@ int main(int argc, char **argv)
         }
         proving = larger(proving, done("prove, edition 2", prove_2));
         verifying = larger(verifying, done("verify, edition 2", verify_2));
+        verifying = larger(verifying, done("decide, edition 2", decide_2));
+        reading = larger(reading, done("read, edition 2", read_file_2));
         if (i < 2)
             converting = larger(converting, done("to edition 1", to_edition_1));
         judge_and_convert();
     }
-    printf("stack: verify %zu, prove %zu, encode %zu, convert %zu, others %zu bytes at most\n", verifying, proving, encoding, converting, small);
-    return verifying < TEVROLIG_VERIFY_STACK && proving < TEVROLIG_PROVE_STACK && encoding < TEVROLIG_ENCODE_STACK
+    printf("stack: verify and decide %zu, read %zu, prove %zu, encode %zu, convert %zu, others %zu bytes at most\n", verifying, reading, proving, encoding, converting, small);
+    return verifying < TEVROLIG_VERIFY_STACK && reading < TEVROLIG_READ_STACK && proving < TEVROLIG_PROVE_STACK && encoding < TEVROLIG_ENCODE_STACK
         && converting < TEVROLIG_CONVERT_STACK && small < 1024 ? 0 : 1;
 }

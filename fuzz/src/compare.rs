@@ -8,7 +8,7 @@ use tevrolig::{edition2, Field, Outcome, Verdict};
 use tevrolig_model::convert::convert_to;
 use tevrolig_model::prove::prove_in;
 use tevrolig_model::sheet::Edition;
-use tevrolig_model::verify::verify_in;
+use tevrolig_model::verify::{decide_in, read_in, verify_in};
 use tevrolig_model::{self as model, field, stream, Answer};
 
 /// The fences, made once.
@@ -54,13 +54,42 @@ fn verify(edition: Edition, file: &[u8]) -> Verdict {
     }
 }
 
-/// The verdicts of both in each edition, and some words of the stream: the places of the refusals, the words at the end, one that the file itself
+/// Its two steps.
+fn read(edition: Edition, file: &[u8]) -> Outcome {
+    match edition {
+        Edition::One => tevrolig::read(file),
+        Edition::Two => edition2::read(file),
+    }
+}
+
+fn decide(edition: Edition, file: &[u8]) -> Verdict {
+    match edition {
+        Edition::One => tevrolig::decide(file),
+        Edition::Two => edition2::decide(file),
+    }
+}
+
+/// An outcome in the model's terms.
+fn outcome(outcome: Outcome) -> model::Outcome {
+    match outcome {
+        Outcome::Accepted => model::Outcome::Accepted,
+        Outcome::Refused(refusal) => model::Outcome::Refused {
+            number: refusal.number(),
+            place: refusal.place(),
+        },
+    }
+}
+
+/// The verdicts of both and their two steps in each edition, and some words of the stream: the places of the refusals, the words at the end, one that the file itself
 /// names, and the sheet.
 fn verdicts(fences: &mut Fences, file: &[u8]) {
     let lent: &[u8] = fences.file.lend(file);
     let places = Edition::BOTH.map(|edition| {
         let verdict = verify(edition, lent);
         assert_eq!(verdict.line(), model::line(verify_in(edition, file)));
+        assert_eq!(outcome(read(edition, lent)), read_in(edition, file));
+        let decided = decide(edition, lent);
+        assert_eq!(decided.line(), model::line(decide_in(edition, file)));
         match verdict.outcome {
             Outcome::Accepted => 0,
             Outcome::Refused(refusal) => refusal.place(),

@@ -1,5 +1,5 @@
-//! The judge (document 01, "Verify, prove, encode"), of both editions and with the
-//! test for equal out coins (document 02, CR 5 and CR 6).
+//! The judge (document 01, "Verify, prove, encode"), of both editions, with the test for
+//! equal out coins, and in two steps (document 02, CR 5, CR 6 and CR 7).
 
 use crate::domain::Subgroup;
 use crate::layout::{Layout, Part};
@@ -39,11 +39,40 @@ pub fn verify_in(edition: Edition, file: &[u8]) -> Verdict {
     let judged = read(edition, file)
         .and_then(Transcript::new)
         .and_then(|transcript| transcript.decide(&mut reads));
-    let outcome = match judged {
+    Verdict {
+        outcome: outcome(judged),
+        reads,
+    }
+}
+
+/// The first of two steps: the tests 1 to 6 alone.
+pub fn read_in(edition: Edition, file: &[u8]) -> Outcome {
+    outcome(read(edition, file).map(|_| ()))
+}
+
+/// The second step, which may be asked of any file: where the first refuses, its refusal
+/// and no reads; else what the tests from 7 on say.
+pub fn decide_in(edition: Edition, file: &[u8]) -> Verdict {
+    if let refused @ Outcome::Refused { .. } = read_in(edition, file) {
+        return Verdict {
+            outcome: refused,
+            reads: 0,
+        };
+    }
+    let mut reads = 0;
+    let reading = read(edition, file).expect("a file that was read");
+    let decided = Transcript::new(reading).and_then(|transcript| transcript.decide(&mut reads));
+    Verdict {
+        outcome: outcome(decided),
+        reads,
+    }
+}
+
+fn outcome(tested: Result<(), Fault>) -> Outcome {
+    match tested {
         Ok(()) => Outcome::Accepted,
         Err(Fault { number, place }) => Outcome::Refused { number, place },
-    };
-    Verdict { outcome, reads }
+    }
 }
 
 /// The line that the program prints for a verdict.

@@ -9,11 +9,18 @@ use std::process::{Command, Stdio};
 use tevrolig_model::convert::convert_to;
 use tevrolig_model::generate::equal_outs::equal_coin_drawn;
 use tevrolig_model::load::{Generator, WORKED_SHEET};
-use tevrolig_model::Answer;
+use tevrolig_model::verify::{decide_in, read_in};
+use tevrolig_model::{line, Answer, Verdict};
 
 /// What model-check prints for an input.
 fn check(input: &[u8]) -> String {
+    check_as(&[], input)
+}
+
+/// The same for an edition, and a step of verify.
+fn check_as(arguments: &[&str], input: &[u8]) -> String {
     let mut program = Command::new(env!("CARGO_BIN_EXE_model-check"))
+        .args(arguments)
         .stdin(Stdio::piped())
         .stdout(Stdio::piped())
         .spawn()
@@ -48,6 +55,11 @@ fn check_prints_one_line() {
     assert_eq!(check(&[]), "refused 1 0 0\n");
     let wrong = changed(&hand_file(), &[(FINAL, 15)]);
     assert_eq!(check(&wrong), "refused 9 0 4\n");
+    assert_eq!(check_as(&["1", "verify"], &wrong), "refused 9 0 4\n");
+    assert_eq!(check_as(&["1", "read"], &wrong), "accepted 0 0 0\n");
+    assert_eq!(check_as(&["1", "decide"], &wrong), "refused 9 0 4\n");
+    assert_eq!(check_as(&["2", "read"], &wrong), "refused 3 12 0\n");
+    assert_eq!(check_as(&["2", "decide"], &wrong), "refused 3 12 0\n");
 }
 
 #[test]
@@ -112,6 +124,35 @@ fn definition_cases_of_edition_2() {
     assert!(differing >= 40, "{differing}");
 }
 
+#[test]
+fn definition_cases_in_one_step() {
+    let text = cases(&["9", "2000", "steps"]);
+    assert_eq!(text.lines().count(), 2000);
+    let mut kinds: BTreeMap<(&str, &str, &str), usize> = BTreeMap::new();
+    for case in text.lines() {
+        let parts: Vec<&str> = case.splitn(4, ' ').collect();
+        let &[number, step, file, said] = &parts[..] else {
+            panic!("{case}");
+        };
+        let file = bytes(file);
+        let edition = if number == "2" { Two } else { One };
+        let verdict = match step {
+            "read" => Verdict {
+                outcome: read_in(edition, &file),
+                reads: 0,
+            },
+            _ => decide_in(edition, &file),
+        };
+        assert_eq!(line(verdict), said);
+        assert!(file.len() <= 1024);
+        let kind = said.split(' ').nth(1).unwrap();
+        *kinds.entry((number, step, kind)).or_default() += 1;
+    }
+    // Of each edition accepted and 1 to 6 of reading, and all of deciding.
+    assert_eq!(kinds.len(), 2 * (7 + OUTCOMES.len()), "{kinds:?}");
+    assert!(kinds.values().all(|&count| count >= 5), "{kinds:?}");
+}
+
 /// So many files and runs are tried on every run of the gate; equal out coins are among
 /// them, and equal ones that the load draws again.
 #[test]
@@ -124,6 +165,17 @@ fn cases_of_the_gate() {
                 .lines()
                 .any(|case| case.split(' ').nth(2) == Some(&kind));
             assert!(met, "{kind}");
+        }
+    }
+    let steps = cases(&["1", "100", "steps"]);
+    for (step, numbers) in [("read", &[0, 1, 2, 3, 4, 5, 6][..]), ("decide", &OUTCOMES)] {
+        for number in numbers {
+            let kind = number.to_string();
+            let met = steps.lines().any(|case| {
+                let parts: Vec<&str> = case.split(' ').collect();
+                parts[1] == step && parts[4] == kind
+            });
+            assert!(met, "{step} {kind}");
         }
     }
     assert!(equal_coins_drawn(&cases(&["1", "150", "orders"])) > 15);

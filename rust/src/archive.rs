@@ -3,8 +3,11 @@
 //! Every pointer that the crate hands over comes from a slice or a reference, so it is aligned, not null and lent for the call, and what
 //! is written overlaps nothing else; a slice without elements has such a pointer too.
 
-/// Judges a file in one of the editions: number, place and reads.
+/// Judges or decides a file in one of the editions: number, place and reads.
 pub type Verify = unsafe extern "C" fn(*const u8, usize, &mut u64, &mut u64) -> u32;
+
+/// Reads a file in one of the editions: number and place.
+pub type Read = unsafe extern "C" fn(*const u8, usize, &mut u64) -> u32;
 
 /// Proves an order in one of the editions: sheet, coefficients, coins and output, each with its length, and the value.
 pub type Prove = unsafe extern "C" fn(
@@ -26,6 +29,18 @@ extern "C" {
     pub fn tevrolig_verify(file: *const u8, length: usize, place: &mut u64, reads: &mut u64)
         -> u32;
     pub fn tevrolig_verify_2(
+        file: *const u8,
+        length: usize,
+        place: &mut u64,
+        reads: &mut u64,
+    ) -> u32;
+
+    pub fn tevrolig_read(file: *const u8, length: usize, place: &mut u64) -> u32;
+    pub fn tevrolig_read_2(file: *const u8, length: usize, place: &mut u64) -> u32;
+
+    pub fn tevrolig_decide(file: *const u8, length: usize, place: &mut u64, reads: &mut u64)
+        -> u32;
+    pub fn tevrolig_decide_2(
         file: *const u8,
         length: usize,
         place: &mut u64,

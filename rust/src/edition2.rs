@@ -17,8 +17,9 @@
 //! ```
 
 use crate::order::proved;
+use crate::steps::told;
 use crate::verdict::judged;
-use crate::{archive, OrderRefusal, Verdict};
+use crate::{archive, OrderRefusal, Outcome, Verdict};
 
 /// Words of the sheet.
 pub const SHEET_WORDS: usize = 18;
@@ -33,6 +34,32 @@ pub const SHEET_WORDS: usize = 18;
 #[must_use]
 pub fn verify(file: &[u8]) -> Verdict {
     judged(archive::tevrolig_verify_2, file)
+}
+
+/// The first of verify's two steps, as [`read`](crate::read) is for edition 1.
+///
+/// ```
+/// use tevrolig::{edition2, Outcome, Refusal};
+///
+/// let file = include_bytes!("../../examples/transcript-2");
+/// assert_eq!(edition2::read(file), Outcome::Accepted);
+/// let first = include_bytes!("../../examples/worked-transcript");
+/// assert_eq!(edition2::read(first), Outcome::Refused(Refusal::Sheet { word: 12 }));
+/// ```
+#[must_use]
+pub fn read(file: &[u8]) -> Outcome {
+    told(archive::tevrolig_read_2, file)
+}
+
+/// The second, as [`decide`](crate::decide) is for edition 1.
+///
+/// ```
+/// let file = include_bytes!("../../examples/transcript-2");
+/// assert_eq!(tevrolig::edition2::decide(file).line(), "accepted 0 0 12");
+/// ```
+#[must_use]
+pub fn decide(file: &[u8]) -> Verdict {
+    judged(archive::tevrolig_decide_2, file)
 }
 
 /// Writes the honest prover's file of edition 2 as [`prove`](crate::prove) writes one of edition 1; the sheet has 18 words.

@@ -24,18 +24,22 @@
 //! assert_eq!(word(&file, 42), Some(15));
 //! ```
 //!
-//! What stands here is for files of edition 1. [`edition2`] has verify and prove for edition 2, with a folding number for each round, and
-//! [`convert`] the way from one to the other.
+//! [`verify`] may be asked in two steps: [`read`] where a file comes in, and [`decide`] where it counts.
+//!
+//! What stands here is for files of edition 1. [`edition2`] has verify, its two steps and prove for edition 2, with a folding number for each round,
+//! and [`convert`] the way from one to the other.
 
 mod archive;
 pub mod convert;
 pub mod edition2;
 mod field;
 mod order;
+mod steps;
 mod verdict;
 
 pub use field::{Field, Powered};
 pub use order::{encode, prove, OrderRefusal};
+pub use steps::{decide, read};
 pub use verdict::{place_sheet, sheet_of, verify, word, Outcome, Refusal, Verdict};
 
 /// The version of this interface, which is the header's `TEVROLIG_VERSION`.

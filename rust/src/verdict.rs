@@ -139,7 +139,7 @@ pub enum Outcome {
 }
 
 impl Outcome {
-    fn told(number: u32, place: u64) -> Outcome {
+    pub(crate) fn told(number: u32, place: u64) -> Outcome {
         match number {
             0 => Outcome::Accepted,
             _ => Outcome::Refused(Refusal::told(number, place)),

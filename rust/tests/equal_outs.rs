@@ -2,22 +2,20 @@
 
 mod common;
 
-use common::{agree, edition, refused, verify, Edition, One, Order, Two, LARGEST};
+use common::{agree, edition, judged, refused, Edition, One, Order, Two, LARGEST};
 use std::collections::BTreeMap;
 use tevrolig::convert::{to_edition_1, to_edition_2};
-use tevrolig_model as model;
 use tevrolig_model::convert::{convert_to, with_equal_folds};
 use tevrolig_model::generate::equal_outs::{case, case_of, honest_case_of, Case};
 use tevrolig_model::generate::{self, Rng};
-use tevrolig_model::verify::verify_in;
+use tevrolig_model::layout::Part;
 use tevrolig_model::Answer;
 
-/// Verify of both, and prove of both into outputs with room and without.
+/// Verify of both in one and in two steps, and prove of both into outputs with room and without.
 fn refuse(edition: Edition, case: &Case, what: &str) {
-    let line = verify(edition, &case.file).line();
     let Case { number, word, .. } = case;
-    assert_eq!(line, format!("refused {number} {word} 0"), "{what}");
-    assert_eq!(line, model::line(verify_in(edition, &case.file)), "{what}");
+    let expected = format!("refused {number} {word} 0");
+    assert_eq!(judged(edition, &case.file, what), expected, "{what}");
 
     let order = Order {
         edition,
@@ -106,7 +104,7 @@ fn conversions() {
                 One => case.word - 6,
                 Two => case.word + 6,
             };
-            let line = verify(to, &output[..512 * blocks as usize]).line();
+            let line = judged(to, &output[..512 * blocks as usize], &what);
             assert_eq!(line, format!("refused {} {word} 0", case.number), "{what}");
         }
     }
@@ -127,7 +125,7 @@ fn rounds_may_share_their_out_coins() {
         }
         let outs: Vec<usize> = layout
             .coin_sections()
-            .filter(|section| matches!(section.part, model::layout::Part::OutCoins(_)))
+            .filter(|section| matches!(section.part, Part::OutCoins(_)))
             .map(|section| layout.coin_position(section.words.start))
             .collect();
         // A coin outside domain 1 is outside the later ones, which are parts of it.

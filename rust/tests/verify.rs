@@ -1,21 +1,17 @@
-//! Verify of both editions in the archive against the model: verdict, place and reads are equal on every file.
+//! Verify of both editions in the archive, and each of its two steps, against the model: outcome, place and reads are equal on every file.
 
 mod common;
 
-use common::{edition, honest, reads, verify, Edition, One, Two, LARGEST};
+use common::{edition, honest, judged, reads, Edition, One, Two, LARGEST};
 use std::collections::BTreeMap;
-use tevrolig_model as model;
 use tevrolig_model::generate::{self, Rng, REFUSALS};
 use tevrolig_model::stream::write_word;
-use tevrolig_model::verify::verify_in;
 
-/// Both verdicts of a file as a line, which must be equal and leave the file as it was.
+/// Both verdicts of a file as a line, which must be equal and leave the file as it was; likewise of the two steps.
 fn agree(edition: Edition, file: &[u8], what: &str, seed: u64) -> String {
     let before = file.to_vec();
-    let line = verify(edition, file).line();
+    let line = judged(edition, file, &format!("{what}, seed {seed}"));
     assert_eq!(file, before, "{what}: the file changed, seed {seed}");
-    let expected = model::line(verify_in(edition, file));
-    assert_eq!(line, expected, "{what}: seed {seed}");
     line
 }
 

@@ -70,6 +70,7 @@ pub mod VerifyExactly
 pub mod AcceptedExactly
 -- the answers that exist; encode; and what a verdict depends on
 pub mod Answers
+pub mod TwoSteps
 pub mod EncodeExactly
 pub mod Dependence
 pub mod SameVerdict

@@ -15,12 +15,12 @@ use Rattle.definition.specs.Prove.{done, encode, proveIn, refusal}
 use Rattle.definition.specs.Prover.{tableOf}
 use Rattle.definition.specs.Reading.{reading}
 use Rattle.definition.specs.Sheet.{Edition, Sheet, edition1, sheetLength, sheetOf, shiftCount, testOrder}
-use Rattle.definition.specs.Verdict.{accepted, refused}
-use Rattle.definition.specs.Verify.{verifyIn}
+use Rattle.definition.specs.Verdict.{accepted, refused, thenVerdict}
+use Rattle.definition.specs.Verify.{decideFile, verifyIn}
 use Rattle.completeness.specs.AcceptedExactly
 use Rattle.completeness.specs.Answers
 use Rattle.completeness.specs.EncodeExactly
-use Rattle.completeness.specs.Faults.{Encodable, EncodeRefusal, ProveRefusal, VerifyRefusal, FirstFault, KeepsRule, Kept, Part, PartDue, PlainSheet, SameOutside, SameWhereUsed, blockWord, blocksIn, combination, dueOf, fold, functionIn, numberTurn, outs, pairIn, pairsIn, partLength, partStart, partWord, readsWith, sheetIn, shifts, wordTurn, words}
+use Rattle.completeness.specs.Faults.{Encodable, EncodeRefusal, Fault, ProveRefusal, VerifyRefusal, FirstFault, KeepsRule, Kept, Part, PartDue, PlainSheet, SameOutside, SameWhereUsed, blockWord, blocksIn, combination, dueOf, fold, functionIn, numberTurn, outs, pairIn, pairsIn, partLength, partStart, partWord, readsWith, sheetIn, shifts, wordTurn, words}
 use Rattle.completeness.specs.FileByNumber
 use Rattle.completeness.specs.Numbered.{levelOf, outsOf, replies, roundsOf, sheetField, sheetRoot, table}
 use Rattle.completeness.specs.PairsByNumber
@@ -30,6 +30,7 @@ use Rattle.completeness.specs.PlainSheet
 use Rattle.completeness.specs.ReadsByNumber
 use Rattle.completeness.specs.RulesByWord
 use Rattle.completeness.specs.SameVerdict
+use Rattle.completeness.specs.TwoSteps
 use Rattle.completeness.specs.VerifyExactly
 
 -- 1. ACCEPTED EXACTLY. Verify accepts a file exactly when all of Kept holds: of every block, sheet word, stream word, out coin, two out coins of a round, two pairs and final
@@ -148,3 +149,22 @@ verify-reads = ReadsByNumber.verify-reads
 pub dependence : (ed : Edition) (x y : List ℕ) → reading ed x ≡ accepted → reading ed y ≡ accepted → SameOutside ed (sheetIn ed x) (streamOf x) (streamOf y) →
     SameWhereUsed ed (sheetIn ed x) (streamOf x) (streamOf y) → verifyIn ed x ≡ verifyIn ed y
 dependence = SameVerdict.dependence
+
+-- 6. VERIFY IN TWO STEPS (02, CR 7). Reading, and deciding where reading accepts, have verify's verdict, of every file;
+pub two-steps : (ed : Edition) (file : List ℕ) → thenVerdict (reading ed file) (decideFile ed file) ≡ verifyIn ed file
+two-steps = TwoSteps.two-steps
+
+-- a file that fails reading gets reading's refusal from deciding too, with no reads.
+pub decide-refused : (ed : Edition) (file : List ℕ) (n q : ℕ) → reading ed file ≡ refused n q → decideFile ed file ≡ record { outcome = refused n q; reads = 0 }
+decide-refused = TwoSteps.decide-refused
+
+-- Reading accepts exactly where there is no fault of a number up to 6, and refuses exactly with the first fault, where its number is up to 6;
+pub reading-accepted-exactly : (ed : Edition) (file : List ℕ) → (reading ed file ≡ accepted) ↔ ((n q : ℕ) → n ≤ 6 → Fault ed file n q → ⊥)
+reading-accepted-exactly = TwoSteps.reading-accepted-exactly
+
+pub reading-refused-exactly : (ed : Edition) (file : List ℕ) (n q : ℕ) → (reading ed file ≡ refused n q) ↔ ((n ≤ 6) × FirstFault ed file n q)
+reading-refused-exactly = TwoSteps.reading-refused-exactly
+
+-- after an accepted reading, deciding refuses with the numbers from 7 on alone.
+pub decide-refusals : (ed : Edition) (file : List ℕ) (n q : ℕ) → reading ed file ≡ accepted → decideFile ed file .outcome ≡ refused n q → (7 ≤ n) × VerifyRefusal ed file n q
+decide-refusals = TwoSteps.decide-refusals

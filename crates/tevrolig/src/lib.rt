@@ -1,43 +1,17 @@
 // The operations as C functions. Nothing is allocated and no state is kept; what is lent is lent for the call alone.
 use edition::Edition;
-use field::Element;
-use field::Inverted;
 use field::PowerTurns;
-use outcome::Answer;
-use outcome::Outcome;
-use outcome::Verdict;
 use reader::Word;
 ghost use mathlib.Core.Path.{_≡_};
-ghost use Rattle.definition.specs.Verify.{verify, verifyIn};
+ghost use Rattle.definition.specs.Reading.{reading};
+ghost use Rattle.definition.specs.Verify.{decideFile, verify, verifyIn};
 ghost use Rattle.definition.specs.Block.{streamOf};
 ghost use Rattle.definition.specs.Prove.{encode, prove, proveIn};
-ghost use Rattle.definition.specs.Sheet.{edition2};
+ghost use Rattle.definition.specs.Sheet.{edition1, edition2};
 ghost use Rattle.definition.specs.Convert.{toEdition1, toEdition2};
 ghost use Rattle.definition.specs.Field.{sum, difference, product, powerOf, powerTurnsOf, inverseOf};
-ghost use Rattle.field.specs.Answer.{answerOf, invertedOf};
-ghost use Rattle.outcome.specs.Meaning.{answerOf as orderAnswer, verdictOf};
 ghost use Rattle.reader.specs.Words.{wordIn, sheetWords};
-ghost use Rattle.tevrolig.specs.Numbers.{numberOf, placeIn, refusalOf, valueOf, wordThere, wordOrZero, fieldNamed, elementOrZero, powerNamed, powerOrZero, turnsOrZero, inverseNumber, inverseOrZero};
-
-// Writes a verdict: the fault's place, 0 where accepted, and the count of reads. Answers 0 for accepted, else the fault's number.
-fn write_verdict(v: Verdict, place: &mut u64, reads: &mut u64) -> u32
-    ensures { λ r. ⌜ r ≡ numberOf (verdictOf v .outcome) ⌝ }
-    ensures { λ r. ⌜ now (place .exit) ≡ placeIn (verdictOf v .outcome) ⌝ }
-    ensures { λ r. ⌜ now (reads .exit) ≡ verdictOf v .reads ⌝ }
-{
-    *reads = v.reads as u64;
-    let o = v.outcome;
-    match o {
-        Outcome::Accepted => {
-            *place = 0;
-            0
-        }
-        Outcome::Refused(number, at) => {
-            *place = at as u64;
-            number
-        }
-    }
-}
+ghost use Rattle.numbers.specs.Numbers.{numberOf, placeIn, refusalOf, valueOf, wordThere, wordOrZero, fieldNamed, elementOrZero, powerNamed, powerOrZero, turnsOrZero, inverseNumber, inverseOrZero};
 
 // Judges a file of edition 1. Answers 0 for accepted, else the fault's number, and writes the fault's place (0 where accepted) and the count of reads.
 #[no_mangle]
@@ -46,7 +20,7 @@ pub extern "C" fn tevrolig_verify(file: &[u8], place: &mut u64, reads: &mut u64)
     ensures { λ r. ⌜ now (place .exit) ≡ placeIn (verify (now (file .entry)) .outcome) ⌝ }
     ensures { λ r. ⌜ now (reads .exit) ≡ verify (now (file .entry)) .reads ⌝ }
 {
-    write_verdict(verify::verify(file), place, reads)
+    numbers::write_verdict(verify::verify(file), place, reads)
 }
 
 // The same of edition 2.
@@ -56,7 +30,45 @@ pub extern "C" fn tevrolig_verify_2(file: &[u8], place: &mut u64, reads: &mut u6
     ensures { λ r. ⌜ now (place .exit) ≡ placeIn (verifyIn edition2 (now (file .entry)) .outcome) ⌝ }
     ensures { λ r. ⌜ now (reads .exit) ≡ verifyIn edition2 (now (file .entry)) .reads ⌝ }
 {
-    write_verdict(verify::verify_in(Edition::Two, file), place, reads)
+    numbers::write_verdict(verify::verify_in(Edition::Two, file), place, reads)
+}
+
+// The first step of verify, of a file of edition 1: reading. Answers 0 for accepted, else the fault's number, 1 to 6, and writes the fault's place (0 where accepted).
+#[no_mangle]
+pub extern "C" fn tevrolig_read(file: &[u8], place: &mut u64) -> u32
+    ensures { λ r. ⌜ r ≡ numberOf (reading edition1 (now (file .entry))) ⌝ }
+    ensures { λ r. ⌜ now (place .exit) ≡ placeIn (reading edition1 (now (file .entry))) ⌝ }
+{
+    numbers::write_outcome(verify::read_in(Edition::One, file), place)
+}
+
+// The same of edition 2.
+#[no_mangle]
+pub extern "C" fn tevrolig_read_2(file: &[u8], place: &mut u64) -> u32
+    ensures { λ r. ⌜ r ≡ numberOf (reading edition2 (now (file .entry))) ⌝ }
+    ensures { λ r. ⌜ now (place .exit) ≡ placeIn (reading edition2 (now (file .entry))) ⌝ }
+{
+    numbers::write_outcome(verify::read_in(Edition::Two, file), place)
+}
+
+// The second step: deciding, of any file of edition 1. One that fails reading gets reading's refusal, with no reads. Answers and writes as tevrolig_verify does.
+#[no_mangle]
+pub extern "C" fn tevrolig_decide(file: &[u8], place: &mut u64, reads: &mut u64) -> u32
+    ensures { λ r. ⌜ r ≡ numberOf (decideFile edition1 (now (file .entry)) .outcome) ⌝ }
+    ensures { λ r. ⌜ now (place .exit) ≡ placeIn (decideFile edition1 (now (file .entry)) .outcome) ⌝ }
+    ensures { λ r. ⌜ now (reads .exit) ≡ decideFile edition1 (now (file .entry)) .reads ⌝ }
+{
+    numbers::write_verdict(steps::decide_in(Edition::One, file), place, reads)
+}
+
+// The same of edition 2.
+#[no_mangle]
+pub extern "C" fn tevrolig_decide_2(file: &[u8], place: &mut u64, reads: &mut u64) -> u32
+    ensures { λ r. ⌜ r ≡ numberOf (decideFile edition2 (now (file .entry)) .outcome) ⌝ }
+    ensures { λ r. ⌜ now (place .exit) ≡ placeIn (decideFile edition2 (now (file .entry)) .outcome) ⌝ }
+    ensures { λ r. ⌜ now (reads .exit) ≡ decideFile edition2 (now (file .entry)) .reads ⌝ }
+{
+    numbers::write_verdict(steps::decide_in(Edition::Two, file), place, reads)
 }
 
 // Shows a word of the stream, as the place of a refusal 5, 6 or 7 names it. Answers 1 and writes the word, or 0 where the file's whole
@@ -86,28 +98,7 @@ pub extern "C" fn tevrolig_sheet_of(file: &[u8], output: &mut [u32]) -> u32
     ensures { λ r. ⌜ r ≡ refusalOf (sheetWords (now (file .entry)) (now (output .entry)) .answer) ⌝ }
     ensures { λ r. ⌜ now (output .exit) ≡ sheetWords (now (file .entry)) (now (output .entry)) .output ⌝ }
 {
-    let answer = reader::sheet_of(file, output);
-    match answer {
-        Answer::Done(count) => 0,
-        Answer::Refusal(number, place) => number,
-    }
-}
-
-// Writes an answer's value: the count where done, else the refusal's place. Answers 0 where done, else the refusal's number.
-fn write_value(answer: Answer, value: &mut u64) -> u32
-    ensures { λ r. ⌜ r ≡ refusalOf (orderAnswer answer) ⌝ }
-    ensures { λ r. ⌜ now (value .exit) ≡ valueOf (orderAnswer answer) ⌝ }
-{
-    match answer {
-        Answer::Done(count) => {
-            *value = count as u64;
-            0
-        }
-        Answer::Refusal(number, place) => {
-            *value = place as u64;
-            number
-        }
-    }
+    numbers::refusal_number(reader::sheet_of(file, output))
 }
 
 // Writes the honest file of edition 1 of a polynomial and coins at the front of `output`. Answers 0, with the number of blocks in `value`; or a refusal's number, with its
@@ -125,7 +116,7 @@ pub extern "C" fn tevrolig_prove(
     ensures { λ r. ⌜ now (output .exit) ≡ prove (now (sheet .entry)) (now (coefficients .entry)) (now (coins .entry)) (now (output .entry)) .output ⌝ }
 {
     let answer = prove::prove(sheet, coefficients, coins, output);
-    write_value(answer, value)
+    numbers::write_value(answer, value)
 }
 
 // The same of edition 2.
@@ -142,7 +133,7 @@ pub extern "C" fn tevrolig_prove_2(
     ensures { λ r. ⌜ now (output .exit) ≡ proveIn edition2 (now (sheet .entry)) (now (coefficients .entry)) (now (coins .entry)) (now (output .entry)) .output ⌝ }
 {
     let answer = prove::prove_in(Edition::Two, sheet, coefficients, coins, output);
-    write_value(answer, value)
+    numbers::write_value(answer, value)
 }
 
 // Writes a file of edition 1 as one of edition 2 at the front of `output`. Answers 0, with the number of blocks in `value`; or a refusal's number, with its place in
@@ -153,7 +144,7 @@ pub extern "C" fn tevrolig_to_edition_2(file: &[u8], output: &mut [u8], value: &
     ensures { λ r. ⌜ now (value .exit) ≡ valueOf (toEdition2 (now (file .entry)) (now (output .entry)) .answer) ⌝ }
     ensures { λ r. ⌜ now (output .exit) ≡ toEdition2 (now (file .entry)) (now (output .entry)) .output ⌝ }
 {
-    write_value(convert::to_edition_2(file, output), value)
+    numbers::write_value(convert::to_edition_2(file, output), value)
 }
 
 // And back.
@@ -163,7 +154,7 @@ pub extern "C" fn tevrolig_to_edition_1(file: &[u8], output: &mut [u8], value: &
     ensures { λ r. ⌜ now (value .exit) ≡ valueOf (toEdition1 (now (file .entry)) (now (output .entry)) .answer) ⌝ }
     ensures { λ r. ⌜ now (output .exit) ≡ toEdition1 (now (file .entry)) (now (output .entry)) .output ⌝ }
 {
-    write_value(convert::to_edition_1(file, output), value)
+    numbers::write_value(convert::to_edition_1(file, output), value)
 }
 
 // Writes table 0 of a polynomial at the front of `output`. Answers 0, with n0 in `value`; or a refusal's number, with its place in `value`, and the output is as
@@ -180,24 +171,7 @@ pub extern "C" fn tevrolig_encode(
     ensures { λ r. ⌜ now (output .exit) ≡ encode (now (sheet .entry)) (now (coefficients .entry)) (now (output .entry)) .output ⌝ }
 {
     let answer = encode::encode(sheet, coefficients, output);
-    write_value(answer, value)
-}
-
-// Writes an element, or 0 where the number named no field; answers 1 or 0.
-fn write_element(answer: Element, element: &mut u32) -> u32
-    ensures { λ r. ⌜ r ≡ fieldNamed (answerOf answer) ⌝ }
-    ensures { λ r. ⌜ now (element .exit) ≡ elementOrZero (answerOf answer) ⌝ }
-{
-    match answer {
-        Element::Value(x) => {
-            *element = x;
-            1
-        }
-        Element::NoField => {
-            *element = 0;
-            0
-        }
-    }
+    numbers::write_value(answer, value)
 }
 
 // The sum of two words in a field. Each field operation answers 1 and writes the element, or 0 where the number names no field, and then
@@ -207,7 +181,7 @@ pub extern "C" fn tevrolig_sum(field: u32, a: u32, b: u32, element: &mut u32) ->
     ensures { λ r. ⌜ r ≡ fieldNamed (sum field a b) ⌝ }
     ensures { λ r. ⌜ now (element .exit) ≡ elementOrZero (sum field a b) ⌝ }
 {
-    write_element(field::sum(field, a, b), element)
+    numbers::write_element(field::sum(field, a, b), element)
 }
 
 // The difference of two words in a field.
@@ -216,7 +190,7 @@ pub extern "C" fn tevrolig_difference(field: u32, a: u32, b: u32, element: &mut 
     ensures { λ r. ⌜ r ≡ fieldNamed (difference field a b) ⌝ }
     ensures { λ r. ⌜ now (element .exit) ≡ elementOrZero (difference field a b) ⌝ }
 {
-    write_element(field::difference(field, a, b), element)
+    numbers::write_element(field::difference(field, a, b), element)
 }
 
 // The product of two words in a field.
@@ -225,7 +199,7 @@ pub extern "C" fn tevrolig_product(field: u32, a: u32, b: u32, element: &mut u32
     ensures { λ r. ⌜ r ≡ fieldNamed (product field a b) ⌝ }
     ensures { λ r. ⌜ now (element .exit) ≡ elementOrZero (product field a b) ⌝ }
 {
-    write_element(field::product(field, a, b), element)
+    numbers::write_element(field::product(field, a, b), element)
 }
 
 // The power of a word in a field; the exponent is any word as it is.
@@ -234,7 +208,7 @@ pub extern "C" fn tevrolig_power(field: u32, a: u32, exponent: u32, element: &mu
     ensures { λ r. ⌜ r ≡ fieldNamed (powerOf field a exponent) ⌝ }
     ensures { λ r. ⌜ now (element .exit) ≡ elementOrZero (powerOf field a exponent) ⌝ }
 {
-    write_element(field::power(field, a, exponent), element)
+    numbers::write_element(field::power(field, a, exponent), element)
 }
 
 // The same power, and the turns that its loop made: as many as the exponent has binary digits, none for 0. Where the number names no field, `turns` is 0 too.
@@ -263,22 +237,6 @@ pub extern "C" fn tevrolig_power_turns(
     }
 }
 
-// Writes an inverse that was found, else 0; answers 1 where it was found, 2 where there is none, 0 where the number named no field.
-fn write_inverse(answer: Inverted, element: &mut u32) -> u32
-    ensures { λ r. ⌜ r ≡ inverseNumber (invertedOf answer) ⌝ }
-    ensures { λ r. ⌜ now (element .exit) ≡ inverseOrZero (invertedOf answer) ⌝ }
-{
-    *element = 0;
-    match answer {
-        Inverted::Found(u) => {
-            *element = u;
-            1
-        }
-        Inverted::Nothing => 2,
-        Inverted::NoField => 0,
-    }
-}
-
 // The inverse of a word in a field. Answers 1 and writes it, or answers 2 where there is none, exactly for 0, or 0 where the number names no field; `element`
 // is then 0.
 #[no_mangle]
@@ -286,5 +244,5 @@ pub extern "C" fn tevrolig_inverse(field: u32, a: u32, element: &mut u32) -> u32
     ensures { λ r. ⌜ r ≡ inverseNumber (inverseOf field a) ⌝ }
     ensures { λ r. ⌜ now (element .exit) ≡ inverseOrZero (inverseOf field a) ⌝ }
 {
-    write_inverse(field::inverse(field, a), element)
+    numbers::write_inverse(field::inverse(field, a), element)
 }

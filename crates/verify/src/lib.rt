@@ -5,10 +5,11 @@ use outcome::Verdict;
 ghost use mathlib.Core.Path.{_≡_};
 ghost use Prim.Native.Nat.{_*_, _/_, _≤_, min};
 ghost use lib.ListN.{length};
+ghost use Rattle.definition.specs.Reading.{reading};
 ghost use Rattle.definition.specs.Sheet.{edition2};
 ghost use Rattle.definition.specs.Verify.{verify, verifyIn};
 ghost use Rattle.edition.specs.Meaning.{editionOf};
-ghost use Rattle.outcome.specs.Meaning.{verdictOf};
+ghost use Rattle.outcome.specs.Meaning.{outcomeOf, verdictOf};
 
 // Places for the words of the largest file that can be accepted, 67 blocks, and one block more.
 fn room() -> [u32; 8636]
@@ -22,6 +23,32 @@ fn small_room() -> [u32; 1016]
     ensures { λ r. ⌜ length r ≡ 1016 ⌝ }
 {
     [0u32; 1016]
+}
+
+// Places for the words of 32 blocks.
+fn middle_room() -> [u32; 4064]
+    ensures { λ r. ⌜ length r ≡ 4064 ⌝ }
+{
+    [0u32; 4064]
+}
+
+// Places for the words of one block.
+fn block_room() -> [u32; 127]
+    ensures { λ r. ⌜ length r ≡ 127 ⌝ }
+{
+    [0u32; 127]
+}
+
+// What reading says of a file of the edition: accepted, or one of the refusals 1 to 6. A short one is spared the clearing of many places.
+pub fn read_in(e: Edition, file: &[u8]) -> Outcome
+    ensures { λ r. ⌜ outcomeOf r ≡ reading (editionOf e) (now (file .entry)) ⌝ }
+{
+    if file.len() <= 4096 {
+        let mut words = small_room();
+        return reading::read(e, file, &mut words);
+    }
+    let mut words = room();
+    reading::read(e, file, &mut words)
 }
 
 // The verdict on a file of the edition, by way of the places lent.
@@ -39,16 +66,55 @@ fn judge(e: Edition, file: &[u8], words: &mut [u32]) -> Verdict
     deciding::deciding(e, &words[..127 * (file.len() / 512)])
 }
 
+// The verdict on a file of up to one block. The places of each size have a function of their own, so that the stack holds those that are used alone.
+fn judge_block(e: Edition, file: &[u8]) -> Verdict
+    requires { ⌜ length (now file) ≤ 512 ⌝ }
+    ensures { λ r. ⌜ verdictOf r ≡ verifyIn (editionOf e) (now (file .entry)) ⌝ }
+{
+    let mut words = block_room();
+    judge(e, file, &mut words)
+}
+
+// The same of up to 8 blocks.
+fn judge_small(e: Edition, file: &[u8]) -> Verdict
+    requires { ⌜ length (now file) ≤ 4096 ⌝ }
+    ensures { λ r. ⌜ verdictOf r ≡ verifyIn (editionOf e) (now (file .entry)) ⌝ }
+{
+    let mut words = small_room();
+    judge(e, file, &mut words)
+}
+
+// The same of up to 32 blocks.
+fn judge_middle(e: Edition, file: &[u8]) -> Verdict
+    requires { ⌜ length (now file) ≤ 16384 ⌝ }
+    ensures { λ r. ⌜ verdictOf r ≡ verifyIn (editionOf e) (now (file .entry)) ⌝ }
+{
+    let mut words = middle_room();
+    judge(e, file, &mut words)
+}
+
+// The same of any file.
+fn judge_any(e: Edition, file: &[u8]) -> Verdict
+    ensures { λ r. ⌜ verdictOf r ≡ verifyIn (editionOf e) (now (file .entry)) ⌝ }
+{
+    let mut words = room();
+    judge(e, file, &mut words)
+}
+
 // The verdict on a file of the edition. It is only read. A short one is spared the clearing of many places.
 pub fn verify_in(e: Edition, file: &[u8]) -> Verdict
     ensures { λ r. ⌜ verdictOf r ≡ verifyIn (editionOf e) (now (file .entry)) ⌝ }
 {
-    if file.len() <= 4096 {
-        let mut words = small_room();
-        return judge(e, file, &mut words);
+    if file.len() <= 512 {
+        return judge_block(e, file);
     }
-    let mut words = room();
-    judge(e, file, &mut words)
+    if file.len() <= 4096 {
+        return judge_small(e, file);
+    }
+    if file.len() <= 16384 {
+        return judge_middle(e, file);
+    }
+    judge_any(e, file)
 }
 
 // The verdict on a file of edition 1.

@@ -3,6 +3,8 @@
 //!
 //! Arguments: seed, count, and optionally what to print instead:
 //! - `edition2`: the same for files of edition 2;
+//! - `steps`: the edition, `read` or `decide`, and the same for that step of verify; of
+//!   reading there are no reads;
 //! - `convert`: the edition to convert to, the file's bytes, the output's length,
 //!   `done 0 BLOCKS` or `refused NUMBER PLACE`, and the output's bytes afterwards,
 //!   all of which were 165 before;
@@ -19,8 +21,8 @@ use tevrolig_model::generate::{
 };
 use tevrolig_model::load::{Generator, WORKED_SHEET};
 use tevrolig_model::sheet::Edition;
-use tevrolig_model::verify::verify_in;
-use tevrolig_model::{line, Answer};
+use tevrolig_model::verify::{decide_in, read_in, verify_in};
+use tevrolig_model::{line, Answer, Verdict};
 
 /// Bytes of a file at most.
 const MOST_BYTES: usize = 1024;
@@ -31,12 +33,13 @@ fn main() -> ExitCode {
     let draw: Option<fn(&mut Rng, u64) -> String> = match arguments.get(2).map(String::as_str) {
         None => Some(|rng, case| judged(Edition::One, rng, case)),
         Some("edition2") => Some(|rng, case| judged(Edition::Two, rng, case)),
+        Some("steps") => Some(in_one_step),
         Some("convert") => Some(converted),
         Some("orders") => Some(drawn_order),
         Some(_) => None,
     };
     let (Some(seed), Some(count), Some(draw)) = (number(0), number(1), draw) else {
-        eprintln!("usage: definition-cases SEED COUNT [edition2 | convert | orders]");
+        eprintln!("usage: definition-cases SEED COUNT [edition2 | steps | convert | orders]");
         return ExitCode::FAILURE;
     };
 
@@ -65,6 +68,23 @@ fn judged(edition: Edition, rng: &mut Rng, case: u64) -> String {
     };
     let verdict = line(verify_in(edition, &file));
     format!("{} {verdict}", hexadecimal(&file))
+}
+
+/// A file of either edition in one of verify's two steps.
+fn in_one_step(rng: &mut Rng, case: u64) -> String {
+    let (number, edition) = match case % 2 {
+        0 => (1, Edition::One),
+        _ => (2, Edition::Two),
+    };
+    let file = small(edition, rng);
+    let (step, verdict) = match case / 2 % 2 {
+        0 => {
+            let outcome = read_in(edition, &file);
+            ("read", Verdict { outcome, reads: 0 })
+        }
+        _ => ("decide", decide_in(edition, &file)),
+    };
+    format!("{number} {step} {} {}", hexadecimal(&file), line(verdict))
 }
 
 /// A file that is converted, or refused, with the output afterwards. One in two is

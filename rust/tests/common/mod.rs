@@ -7,8 +7,8 @@ use tevrolig_model::generate::{self, Rng};
 use tevrolig_model::layout::{Layout, Section};
 use tevrolig_model::prove::prove_in;
 use tevrolig_model::sheet::Sheet;
-use tevrolig_model::verify::verify_in;
-use tevrolig_model::{self as model, Answer};
+use tevrolig_model::verify::{decide_in, read_in, verify_in};
+use tevrolig_model::{self as model, Answer, Outcome};
 
 pub use tevrolig_model::sheet::Edition::{self, One, Two};
 
@@ -49,6 +49,30 @@ pub fn verify(edition: Edition, file: &[u8]) -> tevrolig::Verdict {
         One => tevrolig::verify(file),
         Two => tevrolig::edition2::verify(file),
     }
+}
+
+/// The verdict as a line, after it and both steps of verify were compared with the model's.
+pub fn judged(edition: Edition, file: &[u8], what: &str) -> String {
+    let (read, decided) = match edition {
+        One => (tevrolig::read(file), tevrolig::decide(file)),
+        Two => (
+            tevrolig::edition2::read(file),
+            tevrolig::edition2::decide(file),
+        ),
+    };
+    let read = match read.result() {
+        Ok(()) => Outcome::Accepted,
+        Err(refusal) => Outcome::Refused {
+            number: refusal.number(),
+            place: refusal.place(),
+        },
+    };
+    assert_eq!(read, read_in(edition, file), "{what}: reading");
+    let expected = model::line(decide_in(edition, file));
+    assert_eq!(decided.line(), expected, "{what}: deciding");
+    let line = verify(edition, file).line();
+    assert_eq!(line, model::line(verify_in(edition, file)), "{what}");
+    line
 }
 
 /// A random honest file for a sheet, by the model.
@@ -174,10 +198,8 @@ impl Order {
         );
         if let Answer::Done(blocks) = answer {
             let file = &output[..512 * blocks as usize];
-            let line = verify(edition, file).line();
             let accepted = format!("accepted 0 0 {}", reads(&self.sheet));
-            assert_eq!(line, accepted, "{what}");
-            assert_eq!(line, model::line(verify_in(edition, file)), "{what}");
+            assert_eq!(judged(edition, file, what), accepted, "{what}");
         }
         answer
     }

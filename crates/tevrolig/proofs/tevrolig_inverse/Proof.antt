@@ -11,7 +11,7 @@ write-inverse-requires : tie.Need-write-inverse-requires
 write-inverse-requires c κs = search needs
 
 returns : tie.Need-returns
-returns c = inverse-defined (c .before .before .inverse .result) (c .write-inverse .ensures) (c .before .before .inverse .ensures)
+returns c = inverse-defined (c .write-inverse .ensures) (c .before .before .inverse .ensures)
 
 pub tevrolig-inverse-spec : {M : Type 1} → statement M
 tevrolig-inverse-spec = tie.close (tie.spec inverse-requires write-inverse-requires returns)

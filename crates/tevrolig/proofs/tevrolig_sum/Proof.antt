@@ -1,6 +1,6 @@
 -- `tevrolig::tevrolig_sum` meets its contract. Assumes nothing.
 use borrow.Author.Needs.{needs}
-use Rattle.tevrolig.proofs.Numbered.{as-defined}
+use Rattle.tevrolig.proofs.Numbered.{element-defined}
 use Rattle.tevrolig.proofs.tevrolig_sum.Statement.{statement}
 use Rattle.tevrolig.proofs.tevrolig_sum.Tie as tie
 
@@ -11,7 +11,7 @@ write-element-requires : tie.Need-write-element-requires
 write-element-requires c κs = search needs
 
 returns : tie.Need-returns
-returns c = as-defined (c .before .before .sum .result) (c .write-element .ensures) (c .before .before .sum .ensures)
+returns c = element-defined (c .write-element .ensures) (c .before .before .sum .ensures)
 
 pub tevrolig-sum-spec : {M : Type 1} → statement M
 tevrolig-sum-spec = tie.close (tie.spec sum-requires write-element-requires returns)

@@ -1,7 +1,8 @@
--- What an operation answers, as two numbers.
+-- What an operation answers, as numbers.
 use Prim.Native.Nat.{ℕ}
+use mathlib.Core.Path.{_≡_}
 use mathlib.Core.Option.{Option, none, some}
-use Rattle.definition.specs.Verdict.{Outcome, accepted, refused}
+use Rattle.definition.specs.Verdict.{Outcome, Verdict, accepted, refused}
 use Rattle.definition.specs.Prove.{Answer, done, refusal}
 use Rattle.definition.specs.Field.{FieldAnswer, element, noField, PowerAnswer, powered, inNoField, InverseAnswer, found, noInverse, unknownField}
 
@@ -64,3 +65,19 @@ unfoldable pub inverseOrZero : InverseAnswer → ℕ
 inverseOrZero unknownField = 0
 inverseOrZero noInverse = 0
 inverseOrZero (found x) = x
+
+-- the numbers that are answered and written of each, together
+abbrev pub OutcomeNumbers : Outcome → ℕ → ℕ → Type 0
+OutcomeNumbers o number place = (number ≡ numberOf o) × (place ≡ placeIn o)
+
+abbrev pub VerdictNumbers : Verdict → ℕ → ℕ → ℕ → Type 0
+VerdictNumbers v number place reads = (number ≡ numberOf (v .outcome)) × ((place ≡ placeIn (v .outcome)) × (reads ≡ v .reads))
+
+abbrev pub AnswerNumbers : Answer → ℕ → ℕ → Type 0
+AnswerNumbers a number value = (number ≡ refusalOf a) × (value ≡ valueOf a)
+
+abbrev pub ElementNumbers : FieldAnswer → ℕ → ℕ → Type 0
+ElementNumbers a named value = (named ≡ fieldNamed a) × (value ≡ elementOrZero a)
+
+abbrev pub InverseNumbers : InverseAnswer → ℕ → ℕ → Type 0
+InverseNumbers a number value = (number ≡ inverseNumber a) × (value ≡ inverseOrZero a)

@@ -1,8 +1,8 @@
--- `tevrolig::write_value` meets its contract. Assumes nothing.
+-- `numbers::write_value` meets its contract. Assumes nothing.
 use borrow.Author.Needs.{needs}
-use Rattle.tevrolig.proofs.Numbered.{done-numbers, refusal-numbers}
-use Rattle.tevrolig.proofs.write_value.Statement.{statement}
-use Rattle.tevrolig.proofs.write_value.Tie as tie
+use Rattle.numbers.proofs.Written.{done-numbers, refusal-numbers}
+use Rattle.numbers.proofs.write_value.Statement.{statement}
+use Rattle.numbers.proofs.write_value.Tie as tie
 
 enum-known-answer : tie.Need-enum-known-answer
 enum-known-answer c = search needs

@@ -1,8 +1,8 @@
--- `tevrolig::write_inverse` meets its contract. Assumes nothing.
-use Rattle.tevrolig.proofs.Numbered.{inverse-found, inverse-nothing, inverse-unknown}
+-- `numbers::write_inverse` meets its contract. Assumes nothing.
+use Rattle.numbers.proofs.Written.{inverse-found, inverse-nothing, inverse-unknown}
 use borrow.Author.Needs.{needs}
-use Rattle.tevrolig.proofs.write_inverse.Statement.{statement}
-use Rattle.tevrolig.proofs.write_inverse.Tie as tie
+use Rattle.numbers.proofs.write_inverse.Statement.{statement}
+use Rattle.numbers.proofs.write_inverse.Tie as tie
 
 enum-known-answer : tie.Need-enum-known-answer
 enum-known-answer c = search needs

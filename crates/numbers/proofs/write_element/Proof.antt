@@ -1,8 +1,8 @@
--- `tevrolig::write_element` meets its contract. Assumes nothing.
+-- `numbers::write_element` meets its contract. Assumes nothing.
 use borrow.Author.Needs.{needs}
-use Rattle.tevrolig.proofs.Numbered.{element-numbers, no-field-numbers}
-use Rattle.tevrolig.proofs.write_element.Statement.{statement}
-use Rattle.tevrolig.proofs.write_element.Tie as tie
+use Rattle.numbers.proofs.Written.{element-numbers, no-field-numbers}
+use Rattle.numbers.proofs.write_element.Statement.{statement}
+use Rattle.numbers.proofs.write_element.Tie as tie
 
 enum-known-answer : tie.Need-enum-known-answer
 enum-known-answer c = search needs
