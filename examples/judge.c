@@ -111,6 +111,7 @@ int main(int argc, char **argv)
     uint64_t place, reads;
     uint32_t number = judge(step, edition, file, length, &place, &reads);
     const char *outcome = number == TEVROLIG_ACCEPTED ? "accepted" : "refused";
+    /* As `check` prints it; the reads are the different table places opened. */
     printf("%s %" PRIu32 " %" PRIu64 " %" PRIu64 "\n", outcome, number, place, reads);
     if (number == TEVROLIG_ACCEPTED)
         return 0;

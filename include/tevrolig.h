@@ -123,12 +123,15 @@ enum {
  *   8        the first such round, from 1 to M
  *   9        the first such position in the list of final indices
  *
- * `reads` is the count of table words used, k for each shift or final coin treated: 0 for the numbers 1 to 7 and 14, for
- * 8 and 9 what was used until then, and k*(t_0 + .. + t_M) for an accepted file. */
+ * `reads` is the count of table places opened, a place being table number and point number. A shift or final coin over
+ * domain i leads to k places of table i, and one place is opened once however many coins lead to it, so that it is k for
+ * each different index over each domain: 0 for the numbers 1 to 7 and 14; for 8 of all shift coins up to those of that
+ * round; for 9 of all shift coins, and of the final coins up to and with the failing one; of all coins for an accepted
+ * file, at most k*(t_0 + .. + t_M). */
 uint32_t tevrolig_verify(const uint8_t *file, size_t length, uint64_t *place, uint64_t *reads);
 
-/* Judges a file of edition 2 likewise. Place 3 is the first in the order in which the sheet's words are tested, and each
- * shift or final coin over domain i counts k_i reads: t_0*k_0 + .. + t_M*k_M for an accepted file. */
+/* Judges a file of edition 2 likewise. Place 3 is the first in the order in which the sheet's words are tested, and a
+ * shift or final coin over domain i leads to k_i places: at most t_0*k_0 + .. + t_M*k_M for an accepted file. */
 uint32_t tevrolig_verify_2(const uint8_t *file, size_t length, uint64_t *place, uint64_t *reads);
 
 /* Verify in two steps, for a caller who receives a file long before he may decide: read, and where it accepts, decide. Both

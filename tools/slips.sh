@@ -72,7 +72,9 @@ slip 'combination and fold coin swapped in reading' Layout.antt 'combination = g
 
 # the sheet, the reads and the blocks
 slip 't_i + s <= d_(i+1)' Sheet.antt 'ltb (getD w (6 + i) 0 + getD w 5 0)' 'leb (getD w (6 + i) 0 + getD w 5 0)'
-slip 'one read for each coin' Deciding.antt 'flatMap (λ j. flatMap places (rootNumbers l j)) js' 'flatMap places js'
+slip 'one read for each coin' Deciding.antt 'coinPlaces l places j = flatMap places (rootNumbers l j)' 'coinPlaces l places j = places j'
+slip 'repeats read again' Deciding.antt 'readsOf used = length (different samePlace used)' 'readsOf used = length used'
+slip 'one place for all tables' Deciding.antt 'eqb (a .table) (b .table) && eqb (a .number) (b .number)' 'eqb (a .number) (b .number)'
 slip 'every check tested as that of block 0' Block.antt '∷ wrongChecks (suc b) xs' '∷ wrongChecks b xs'
 slip 'fill of ones' Block.antt 'replicate (127 * blockCount (length w) - length w) 0' 'replicate (127 * blockCount (length w) - length w) 1'
 

@@ -4,6 +4,7 @@
 use crate::input::{Input, Order};
 use tevrolig_model::convert::with_equal_folds;
 use tevrolig_model::domain::Subgroup;
+use tevrolig_model::generate::repeats::repeat;
 use tevrolig_model::generate::{self, aim, coefficients, coins, honest_file, known, Rng};
 use tevrolig_model::layout::{Layout, Part};
 use tevrolig_model::sheet::Edition;
@@ -55,7 +56,8 @@ fn fresh(rng: &mut Rng) -> Input {
     }
 }
 
-/// An allowed order of either edition; in edition 2 the folding numbers are equal in one of four, so that the file has an edition 1.
+/// An allowed order of either edition, in half of them with repeated indices; in edition 2 the folding numbers are equal in one of four, so that the file has
+/// an edition 1.
 fn allowed(rng: &mut Rng) -> (Edition, Order) {
     let most_n0 = rng.pick(&[16, 16, 32, 64, 128]);
     let (edition, sheet) = match rng.below(8) {
@@ -73,9 +75,13 @@ fn allowed(rng: &mut Rng) -> (Edition, Order) {
         ),
     };
     let hostile = rng.one_in(2);
+    let mut drawn = coins(rng, &sheet, hostile);
+    if rng.one_in(2) {
+        repeat(rng, &sheet, &mut drawn);
+    }
     let order = Order {
         coefficients: coefficients(rng, &sheet),
-        coins: coins(rng, &sheet, hostile),
+        coins: drawn,
         output: output_due(&sheet) + rng.pick(&[0, 0, 1, 600]),
         sheet,
     };
@@ -124,6 +130,7 @@ fn change_order(rng: &mut Rng, order: &mut Order) {
         1 => order.coins = coins(rng, &order.sheet, true),
         2 => order.coefficients = coefficients(rng, &order.sheet),
         3 => change_out_coin(rng, &order.sheet, &mut order.coins),
+        4 => repeat(rng, &order.sheet, &mut order.coins),
         _ => {
             let list = match rng.below(4) {
                 0 => &mut order.sheet,

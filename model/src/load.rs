@@ -1,5 +1,5 @@
 //! The stated load: a thousand runs from one seed (document 02, CR 2), whose rounds
-//! have no two equal out coins (CR 6).
+//! have no two equal out coins (CR 6) and whose reads are openings (CR 8).
 //!
 //! The values that a sheet word may have are listed here from document 01's rules, and
 //! the coins are drawn in document 01's order, without the sheet's reader or the
@@ -11,6 +11,7 @@ use crate::prove::{prove, Answer};
 use crate::sheet::{Sheet, MOST_COINS, SHEET_WORDS};
 use crate::stream::BLOCK_BYTES;
 use crate::verify::{line, verify, Outcome, Verdict};
+use std::collections::BTreeSet;
 use std::fmt;
 
 /// The sheet of the worked transcript (document 01, "A transcript by hand").
@@ -75,12 +76,22 @@ impl Order {
     }
 
     /// The line that an honest file is promised: accepted, with k reads for each of
-    /// the t_0 to t_M coins. The counts past t_M are zero.
+    /// the different indices of a level.
     pub fn promised(&self) -> String {
-        let counts: u32 = self.sheet[6..].iter().sum();
+        let [k, rounds, outs] = [3, 4, 5].map(|word| self.sheet[word] as usize);
+        // Fold coin 0; then each round has its out coins, a combination coin and a fold
+        // coin before its indices. The final ones follow those of the last round.
+        let mut rest = &self.coins[1..];
+        let mut different = 0;
+        for i in 0..=rounds {
+            let before = if i < rounds { outs + 2 } else { 0 };
+            let (indices, later) = rest[before..].split_at(self.sheet[6 + i] as usize);
+            different += indices.iter().collect::<BTreeSet<_>>().len();
+            rest = later;
+        }
         line(Verdict {
             outcome: Outcome::Accepted,
-            reads: u64::from(self.sheet[3] * counts),
+            reads: (k * different) as u64,
         })
     }
 }

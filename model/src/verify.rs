@@ -1,5 +1,5 @@
 //! The judge (document 01, "Verify, prove, encode"), of both editions, with the test for
-//! equal out coins, and in two steps (document 02, CR 5, CR 6 and CR 7).
+//! equal out coins, in two steps, and with reads as openings (document 02, CR 5 to CR 8).
 
 use crate::domain::Subgroup;
 use crate::layout::{Layout, Part};
@@ -17,7 +17,7 @@ pub enum Outcome {
     Refused { number: u32, place: u64 },
 }
 
-/// An outcome and the count of table words used.
+/// An outcome and the count of reads: the different table places opened.
 #[derive(Debug, Clone, Copy, PartialEq, Eq)]
 pub struct Verdict {
     pub outcome: Outcome,
@@ -35,13 +35,13 @@ pub fn verify_2(file: &[u8]) -> Verdict {
 }
 
 pub fn verify_in(edition: Edition, file: &[u8]) -> Verdict {
-    let mut reads = 0;
+    let mut opened = Places::new();
     let judged = read(edition, file)
         .and_then(Transcript::new)
-        .and_then(|transcript| transcript.decide(&mut reads));
+        .and_then(|transcript| transcript.decide(&mut opened));
     Verdict {
         outcome: outcome(judged),
-        reads,
+        reads: opened.len() as u64,
     }
 }
 
@@ -59,12 +59,12 @@ pub fn decide_in(edition: Edition, file: &[u8]) -> Verdict {
             reads: 0,
         };
     }
-    let mut reads = 0;
+    let mut opened = Places::new();
     let reading = read(edition, file).expect("a file that was read");
-    let decided = Transcript::new(reading).and_then(|transcript| transcript.decide(&mut reads));
+    let decided = Transcript::new(reading).and_then(|transcript| transcript.decide(&mut opened));
     Verdict {
         outcome: outcome(decided),
-        reads,
+        reads: opened.len() as u64,
     }
 }
 
@@ -194,6 +194,10 @@ fn join(pairs: impl Iterator<Item = (u64, u64)>) -> Option<Pairs> {
     Some(joined)
 }
 
+/// Places of the tables, by table number and point number, each once however many
+/// coins lead to it.
+type Places = BTreeSet<(usize, usize)>;
+
 /// A file that passed the tests 1 to 7 and 14, which use no table word.
 struct Transcript {
     sheet: Sheet,
@@ -237,8 +241,8 @@ impl Transcript {
         u64::from(self.stream[self.layout.range(part).start])
     }
 
-    /// Tests 8 and 9, counting the table words used.
-    fn decide(&self, reads: &mut u64) -> Result<(), Fault> {
+    /// Tests 8 and 9. The places that a coin leads to are opened when it is treated.
+    fn decide(&self, opened: &mut Places) -> Result<(), Fault> {
         // f_i over the whole of domain i, beginning with table 0.
         let mut f = self.elements(Part::Table(0));
         for i in 1..=self.sheet.rounds {
@@ -246,7 +250,9 @@ impl Transcript {
             let k = self.sheet.k[i - 1];
             let folds = self.folds(i - 1, &f);
             let shifts = self.indices(Part::ShiftIndices(i));
-            *reads += (k * shifts.len()) as u64;
+            for &j in &shifts {
+                opened.extend(self.places(i - 1, j));
+            }
 
             let outs = self.elements(Part::OutCoins(i));
             let replies = self.elements(Part::Replies(i));
@@ -261,13 +267,19 @@ impl Transcript {
         let folds = self.folds(last, &f);
         let polynomial = self.elements(Part::FinalCoefficients);
         for (position, j) in self.indices(Part::FinalIndices).into_iter().enumerate() {
-            *reads += k as u64;
+            opened.extend(self.places(last, j));
             let point = self.subgroup.shift_point(last, k, j);
             if evaluate(self.sheet.field, &polynomial, point) != folds[j] {
                 return Err(Fault::new(9, position));
             }
         }
         Ok(())
+    }
+
+    /// The places that a coin with index j over domain i leads to: its roots, in table i.
+    fn places(&self, i: usize, j: usize) -> impl Iterator<Item = (usize, usize)> {
+        let roots = self.subgroup.root_places(i, self.sheet.k[i], j);
+        roots.map(move |point| (i, point))
     }
 
     /// The folds of f_i by fold coin i.

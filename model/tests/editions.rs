@@ -87,7 +87,7 @@ fn equal_folding_numbers_are_proved_as_in_edition_1() {
                 assert_eq!(other_blocks as usize, (words + 6).div_ceil(127));
                 assert!((12..words).all(|at| read_word(&one, at) == read_word(&two, at + 6)));
                 let file = &two[..512 * other_blocks as usize];
-                let accepted = format!("accepted 0 0 {}", reads(&other));
+                let accepted = format!("accepted 0 0 {}", reads(&other, file));
                 assert_eq!(judged(Two, file), accepted);
                 done += 1;
             }

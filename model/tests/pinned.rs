@@ -69,7 +69,7 @@ fn two_rounds_with_one_fold() {
         60250, 60172,
         0, 3,
     ];
-    compare(&sheet, &coefficients, &coins, &words, &[101028082], 10);
+    compare(&sheet, &coefficients, &coins, &words, &[101028082], 8);
 }
 
 /// Field 2, k = 4, one round with two out coins; equal ones are refused.
@@ -168,7 +168,7 @@ fn a_larger_fold_first() {
         55986, 17832,
         5, 0,
     ];
-    compare(&sheet, &coefficients, &coins, &words, &[86497571], 12);
+    compare(&sheet, &coefficients, &coins, &words, &[86497571], 8);
 }
 
 /// Field 1, two rounds and two blocks, k = 4, 2, 2.
@@ -229,6 +229,6 @@ fn a_large_first_fold() {
         3585986461, 3022312472, 459460905, 397036231,
         70036375, 3634828638, 3778393786, 1898954556,
     ];
-    let reads = 16 * 5 + 4 + 2 * 3;
+    let reads = 16 * 4 + 4 + 2 * 3;
     proved(&sheet, &coefficients, &coins, &checks, reads);
 }

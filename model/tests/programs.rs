@@ -8,9 +8,11 @@ use std::io::Write;
 use std::process::{Command, Stdio};
 use tevrolig_model::convert::convert_to;
 use tevrolig_model::generate::equal_outs::equal_coin_drawn;
+use tevrolig_model::generate::repeats::Met;
 use tevrolig_model::load::{Generator, WORKED_SHEET};
-use tevrolig_model::verify::{decide_in, read_in};
-use tevrolig_model::{line, Answer, Verdict};
+use tevrolig_model::stream::read_word;
+use tevrolig_model::verify::{decide_in, read_in, verify_in};
+use tevrolig_model::{line, Answer, Outcome, Verdict};
 
 /// What model-check prints for an input.
 fn check(input: &[u8]) -> String {
@@ -154,11 +156,24 @@ fn definition_cases_in_one_step() {
 }
 
 /// So many files and runs are tried on every run of the gate; equal out coins are among
-/// them, and equal ones that the load draws again.
+/// them, repeated indices, and equal out coins that the load draws again.
 #[test]
 fn cases_of_the_gate() {
-    for arguments in [&["1", "100"][..], &["1", "100", "edition2"]] {
+    for (edition, arguments) in [(One, &["1", "100"][..]), (Two, &["1", "100", "edition2"])] {
         let text = cases(arguments);
+        let met = repeats_met(edition, &text);
+        for kind in [
+            "accepted, a shift index",
+            "accepted, a final index",
+            "8, in its round",
+            "9, in a round",
+            "9, before the failing coin",
+            "9, after it",
+            "one index in two levels",
+        ] {
+            assert!(met.0[kind] > 0, "{met:?}");
+        }
+        assert!(met.0["accepted, a final index"] >= 10, "{met:?}");
         for outcome in OUTCOMES {
             let kind = outcome.to_string();
             let met = text
@@ -179,6 +194,25 @@ fn cases_of_the_gate() {
         }
     }
     assert!(equal_coins_drawn(&cases(&["1", "150", "orders"])) > 15);
+}
+
+/// The repeats in files that pass reading.
+fn repeats_met(edition: Edition, text: &str) -> Met {
+    let mut met = Met::default();
+    for case in text.lines() {
+        let (hexadecimal, _) = case.split_once(' ').unwrap();
+        let file = bytes(hexadecimal);
+        let outcome = verify_in(edition, &file).outcome;
+        if matches!(
+            outcome,
+            Outcome::Accepted | Outcome::Refused { number: 8 | 9, .. }
+        ) {
+            let words = 0..edition.sheet_words();
+            let sheet: Vec<u32> = words.map(|word| read_word(&file, word)).collect();
+            met.count(&sheet, &file, outcome);
+        }
+    }
+    met
 }
 
 /// The runs in which an out coin that equals the one before it is drawn.

@@ -70,6 +70,7 @@ impl Order {
         ];
         assert_eq!(proved(file).outcome, tevrolig::Outcome::Accepted);
         let verdict = verify_in(edition, file);
+        assert_eq!(proved(file).reads, verdict.reads);
         for baseline in [plain, tuned, lists] {
             assert_eq!(baseline(edition, file), verdict);
         }

@@ -12,7 +12,7 @@
 //! let coins = [2, 0, 3, 4, 0, 5, 1, 0];
 //! let mut file = [0; 512];
 //! assert_eq!(prove(&sheet, &[1, 2, 3, 4, 5, 6, 7, 8], &coins, &mut file), Ok(1));
-//! // Two shifts of 2 words each, and two finals of 4.
+//! // Two different shifts of 2 places each, and two different finals of 4.
 //! assert_eq!(verify(&file).line(), "accepted 0 0 12");
 //! ```
 
@@ -24,7 +24,7 @@ use crate::{archive, OrderRefusal, Outcome, Verdict};
 /// Words of the sheet.
 pub const SHEET_WORDS: usize = 18;
 
-/// Judges a file of edition 2, of any length and content. A shift or final coin of round i counts its own k.
+/// Judges a file of edition 2, of any length and content. A shift or final coin over domain i leads to k_i places of table i.
 ///
 /// ```
 /// let file = include_bytes!("../../examples/worked-transcript");

@@ -179,7 +179,8 @@ impl Display for Outcome {
 #[derive(Debug, Clone, Copy, PartialEq, Eq, Hash)]
 pub struct Verdict {
     pub outcome: Outcome,
-    /// The table words used, repeats counted.
+    /// The different table places opened by the coins treated, a place being table number and point number: one place is opened once,
+    /// however many coins lead to it.
     pub reads: u64,
 }
 

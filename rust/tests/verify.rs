@@ -38,7 +38,7 @@ fn honest_files_of_every_kind_are_accepted() {
         for seed in 0..30_000 {
             let mut rng = Rng::new(seed);
             let (sheet, file) = drawn(edition, &mut rng, most_n0, seed % 2 == 0);
-            let expected = format!("accepted 0 0 {}", reads(&sheet));
+            let expected = format!("accepted 0 0 {}", reads(&sheet, &file));
             assert_eq!(agree(edition, &file, "honest", seed), expected);
         }
     }
@@ -173,7 +173,7 @@ fn the_largest_sheets() {
         let edition = edition(sheet);
         for hostile in [false, true] {
             let file = honest(&mut rng, sheet, hostile);
-            let expected = format!("accepted 0 0 {}", reads(sheet));
+            let expected = format!("accepted 0 0 {}", reads(sheet, &file));
             assert_eq!(agree(edition, &file, "largest", seed), expected);
             for number in REFUSALS {
                 let mut damaged = file.clone();

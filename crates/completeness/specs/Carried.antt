@@ -9,7 +9,7 @@ use lib.ListN.{length, take, drop, replicate, length-drop, take-append-drop}
 use lib.Seq.{drop-at, length-take-le, take-add, take-append-le, take-at, take-take}
 use Rattle.definition.specs.Block.{blockCount, fileOf, streamOf}
 use Rattle.definition.specs.Convert.{bodyOf}
-use Rattle.definition.specs.Deciding.{decide, deciding, equalTest, outInDomain, outTest, outTests, repeatedOuts}
+use Rattle.definition.specs.Deciding.{counted, decide, deciding, equalTest, outInDomain, outTest, outTests, repeatedOuts}
 use Rattle.definition.specs.Field.{primeField}
 use Rattle.definition.specs.Layout.{layout, readTranscript, wordsDue}
 use Rattle.definition.specs.Lists.{firstTrue}
@@ -32,7 +32,7 @@ use Rattle.completeness.specs.Tests.{at-passes}
 unfoldable pub decidedFrom : Sheet → List ℕ → ℕ → Verdict
 decidedFrom h words n =
     thenVerdict (refuseAt 7 (firstTrue n (zipWith (outInDomain h) (layout h) words)) then refuseAt 14 (firstTrue n (repeatedOuts none (layout h) words)))
-    (decide (primeField (h .prime)) (rootOfUnity h) (firstLevel h) (readTranscript h words))
+    (counted (decide (primeField (h .prime)) (rootOfUnity h) (firstLevel h) (readTranscript h words)))
 
 pub verdict-is : (a : Edition) (bytes : List ℕ) → reading a bytes ≡ accepted → verifyIn a bytes ≡ decidedFrom (sheetOf a (streamOf bytes)) (drop (sheetLength a) (streamOf bytes)) (sheetLength a)
 unfolding verifyIn deciding outTests outTest equalTest decidedFrom thenVerdict
@@ -134,4 +134,4 @@ module _ (a : Edition) (bytes : List ℕ) (read : reading a bytes ≡ accepted) 
         let ts : readTranscript h (body ++ fill) ≡ readTranscript h xs = transcript-front h (body ++ fill) xs
         (take-append-le (length (layout h)) body fill (omega (arith, body-long)) ∙ take-take (length (layout h)) (length (layout h)) xs (omega arith)) in
         verdict-is b file carried-reads ∙ (λ i. decidedFrom (carried-sheet i) (carried-words i) (sheetLength b))
-        ∙ (λ i. thenVerdict (refuseAt 7 (firstTrue (sheetLength b) (zs i)) then refuseAt 14 (firstTrue (sheetLength b) (rs i))) (decide (primeField (h .prime)) (rootOfUnity h) (firstLevel h) (ts i)))
+        ∙ (λ i. thenVerdict (refuseAt 7 (firstTrue (sheetLength b) (zs i)) then refuseAt 14 (firstTrue (sheetLength b) (rs i))) (counted (decide (primeField (h .prime)) (rootOfUnity h) (firstLevel h) (ts i))))

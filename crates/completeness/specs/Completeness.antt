@@ -1,28 +1,29 @@
 -- Completeness: every honest file is accepted, whatever the coins. Reading accepts it, then deciding does; then the claim is made, over the bytes of the file.
-use Prim.Native.Nat.{ℕ, _*_, _<_}
+use Prim.Native.Nat.{ℕ, suc, _*_, _<_}
 use native.Mathlib.Omega.{arith}
 use mathlib.Core.Bool.{Bool, false}
-use mathlib.Core.List.{List, _++_, zipWith, append-assoc}
+use mathlib.Core.List.{List, _++_, map, zipWith, append-assoc}
 use mathlib.Core.Option.{none}
 use mathlib.Core.Path.{_≡_, sym, ap, _∙_, subst}
 use lib.ListN.{length, drop, replicate}
 use lib.Seq.{drop-at}
 use Rattle.definition.specs.Block.{blockCount, fileOf, streamOf}
-use Rattle.definition.specs.Deciding.{decide, deciding, equalTest, outInDomain, outTest, outTests, ownPlace, readsOf, repeatedOuts}
+use Rattle.definition.specs.Deciding.{counted, decide, deciding, equalTest, outInDomain, outTest, outTests, ownPlace, readsOf, repeatedOuts}
 use Rattle.definition.specs.Field.{Field, primeField}
 use Rattle.definition.specs.Layout.{coinKinds, layout, readCoins, readTranscript, wordsDue}
-use Rattle.definition.specs.Lists.{firstTrue}
+use Rattle.definition.specs.Lists.{firstTrue, range}
 use Rattle.definition.specs.Prover.{honest, honestStream}
 use Rattle.definition.specs.Reading.{reading}
-use Rattle.definition.specs.Sheet.{Edition, Sheet, firstLevel, laterLevels, rootOfUnity, sheetLength, sheetOf}
-use Rattle.definition.specs.Transcript.{Transcript, transcriptWords}
+use Rattle.definition.specs.Sheet.{Edition, Level, Sheet, firstLevel, laterLevels, rootOfUnity, sheetLength, sheetOf}
+use Rattle.definition.specs.Transcript.{Coins, Transcript, transcriptWords}
 use Rattle.definition.specs.Verdict.{_then_, accepted, thenVerdict}
 use Rattle.definition.specs.Verify.{verifyIn}
 use Rattle.algebra.specs.ListFacts.{All}
 use Rattle.algebra.specs.PrimeField.{signs-differ}
 use Rattle.completeness.specs.Allowed.{allowed-apart, allowed-degree, allowed-enough, allowed-first, allowed-long, allowed-rounds, allowed-some}
+use Rattle.completeness.specs.CoinsByNumber.{coins-read}
 use Rattle.completeness.specs.DecidingAccepts
-use Rattle.completeness.specs.DecidingAccepts.{Fair}
+use Rattle.completeness.specs.DecidingAccepts.{Fair, allPlaces}
 use Rattle.completeness.specs.Domains.{foldable}
 use Rattle.completeness.specs.EachWord.{Each, each-length, each-map, each-none}
 use Rattle.completeness.specs.EqualOuts.{NoRepeat, repeated-front, stream-apart}
@@ -31,9 +32,10 @@ use Rattle.completeness.specs.FileRead
 use Rattle.completeness.specs.FileRead.{InRange}
 use Rattle.completeness.specs.FileTrip.{Word, fillCount}
 use Rattle.completeness.specs.HonestStream.{first-degree, words-coins, words-each, words-read}
-use Rattle.completeness.specs.Numbered.{Allowed, readsDue}
-use Rattle.completeness.specs.Reads.{all-reads, sheet-reads}
-use Rattle.completeness.specs.Ready.{Ready, ready}
+use Rattle.completeness.specs.LevelsByNumber.{level-first}
+use Rattle.completeness.specs.Numbered.{Allowed, coinsOf, finalIndices, foldCoin, levelOf, readsDue, roundsOf}
+use Rattle.completeness.specs.Reads.{all-reads}
+use Rattle.completeness.specs.Ready.{Ready, ready, ready-sized}
 use Rattle.completeness.specs.SheetLevels.{sheet-front}
 use Rattle.completeness.specs.Lawful.{lawful}
 use Rattle.completeness.specs.Tests.{at-none, none-true}
@@ -128,28 +130,39 @@ module _ {ed : Edition} {w f coins : List ℕ} (ok : Allowed ed w f coins) where
   unfolding honestStream
   read-back z = ap (λ (l : List ℕ). readTranscript h (drop (sheetLength ed) l)) (append-assoc w (transcriptWords τ) z) ∙ ap (readTranscript h) (drop-at w (transcriptWords τ ++ z) (sheetLength ed) long) ∙ read-words z
 
+  -- the coins by number, which are fair too, and what they read
+  numbered : readCoins h coins ≡ record { fold = foldCoin h coins 0; rounds = map (coinsOf h coins) (range 1 (roundsOf h)); finals = finalIndices h coins }
+  numbered = coins-read h coins (lawful ed w (allowed-enough ok) (ok .sheet) .paired)
+
+  fair-numbered : Fair F (sheetReady .laws) ω (levelOf h 0) (map (coinsOf h coins) (range 1 (roundsOf h))) (finalIndices h coins)
+  fair-numbered =
+      subst (λ (c : Coins ℕ). Fair F (sheetReady .laws) ω (levelOf h 0) (c .rounds) (c .finals)) numbered
+      (subst (λ (b : Level). Fair F (sheetReady .laws) ω b (readCoins h coins .rounds) (readCoins h coins .finals)) (level-first h) fair-coins)
+
+  coins-counted : readsOf (allPlaces (firstLevel h) (ownPlace (firstLevel h)) (readCoins h coins .rounds) (readCoins h coins .finals)) ≡ readsDue h coins
+  coins-counted =
+      (λ i. readsOf (allPlaces (level-first h i) (ownPlace (level-first h i)) (numbered i .rounds) (numbered i .finals)))
+      ∙ all-reads h coins (suc (sheetReady .e)) (sheetReady .laws) (ready-sized ed w (allowed-enough ok) (ok .sheet)) fair-numbered
+
   -- deciding: refusals 8 and 9
-  decided : decide F ω (firstLevel h) (readTranscript h (transcriptWords τ ++ fill)) ≡ record { outcome = accepted; reads = readsDue (sheetOf ed w) }
-  unfolding readCoins readsOf
+  decided : counted (decide F ω (firstLevel h) (readTranscript h (transcriptWords τ ++ fill))) ≡ record { outcome = accepted; reads = readsDue (sheetOf ed w) coins }
+  unfolding counted
   decided =
-      ap (decide F ω (firstLevel h)) (read-words fill)
+      ap counted (ap (decide F ω (firstLevel h)) (read-words fill)
       ∙ DecidingAccepts.deciding-accepts F (sheetReady .laws) ω (firstLevel h) f (readCoins h coins) degree
       (foldable F (sheetReady .laws) ω (signs-differ (h .prime) (sheetReady .large)) (sheetReady .e) (sheetReady .root) (firstLevel h) (chain-head _ (firstLevel h) (laterLevels h) (sheetReady .chain)))
-      fair-coins
-      ∙ (λ i. record { outcome = accepted; reads = counted i })
+      fair-coins)
+      ∙ (λ i. record { outcome = accepted; reads = coins-counted i })
     where
       degree : length f ≡ firstLevel h .degree
       degree = first-degree h f (allowed-degree ok)
 
-      counted : length (DecidingAccepts.allPlaces (firstLevel h) (ownPlace (firstLevel h)) (readCoins h coins .rounds) (readCoins h coins .finals)) ≡ readsDue (sheetOf ed w)
-      counted = all-reads (Passes h) (h .outCoins) (firstLevel h) (laterLevels h) (drop 1 coins) (allowed-rounds ok) ∙ sheet-reads h (lawful ed w (allowed-enough ok) (ok .sheet) .paired)
-
-  deciding-passes : deciding ed (w ++ (transcriptWords τ ++ fill)) ≡ record { outcome = accepted; reads = readsDue (sheetOf ed w) }
+  deciding-passes : deciding ed (w ++ (transcriptWords τ ++ fill)) ≡ record { outcome = accepted; reads = readsDue (sheetOf ed w) coins }
   unfolding deciding outTests thenVerdict _then_
   deciding-passes = rw (sheet-front ed w long (ok .sheet) (transcriptWords τ ++ fill), out-passes, equal-passes, after-sheet) decided
 
 -- Completeness: in either edition, for every sheet without a broken rule, every list of d0 elements and every allowed coin list, the prover's file is accepted,
--- with k_0·t_0 + .. + k_M·t_M reads.
-pub completeness : (ed : Edition) (w f coins : List ℕ) → Allowed ed w f coins → verifyIn ed (fileOf (honestStream ed w f coins)) ≡ record { outcome = accepted; reads = readsDue (sheetOf ed w) }
+-- with k_i reads for each different index of level i.
+pub completeness : (ed : Edition) (w f coins : List ℕ) → Allowed ed w f coins → verifyIn ed (fileOf (honestStream ed w f coins)) ≡ record { outcome = accepted; reads = readsDue (sheetOf ed w) coins }
 unfolding verifyIn thenVerdict
 completeness ed w f coins ok = rw (reading-passes ok, stream ok) (deciding-passes ok)

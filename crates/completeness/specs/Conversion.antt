@@ -11,7 +11,7 @@ use lib.Seq.{getD-take, length-take-le, take-at, take-length, take-take}
 use borrow.Author.Tests.{eq-eqb, ne-eqb}
 use Rattle.definition.specs.Block.{fileOf, streamOf}
 use Rattle.definition.specs.Convert.{backward, bodyOf, foldsTest, forward, spread}
-use Rattle.definition.specs.Deciding.{decide, outInDomain, repeatedOuts}
+use Rattle.definition.specs.Deciding.{counted, decide, outInDomain, repeatedOuts}
 use Rattle.definition.specs.Field.{primeField}
 use Rattle.definition.specs.Layout.{layout, readTranscript, wordsDue}
 use Rattle.definition.specs.Lists.{firstTrue}
@@ -99,10 +99,10 @@ module _ (a : Edition) (bytes : List ℕ) (read : reading a bytes ≡ accepted) 
       (then-refuses Q _ _ (at-refuses Q 8 1 _ (λ j l. (λ e. omega (arith, e), λ e. omega (arith, e)))) (at-refuses Q 9 0 _ (λ j l. (λ e. omega (arith, e), λ e. omega (arith, e)))))
 
   pub higher : decidedFrom (sheetOf a (streamOf bytes)) (drop (sheetLength a) (streamOf bytes)) 18 ≡ converted (decidedFrom (sheetOf a (streamOf bytes)) (drop (sheetLength a) (streamOf bytes)) 12)
-  unfolding decidedFrom
+  unfolding decidedFrom counted
   higher =
       let zs = zipWith (outInDomain h) (layout h) words in
-      let v = decide (primeField (h .prime)) (rootOfUnity h) (firstLevel h) (readTranscript h words) in
+      let v = counted (decide (primeField (h .prime)) (rootOfUnity h) (firstLevel h) (readTranscript h words)) in
       let rs = repeatedOuts none (layout h) words in
       (λ i. thenVerdict (refuseAt 7 (first-six 12 zs i) then refuseAt 14 (first-six 12 rs i)) v) ∙ moved-tests (firstTrue 12 zs) (firstTrue 12 rs) v decide-later
 

@@ -7,7 +7,7 @@ use mathlib.Core.List.{List, [], _∷_, _++_, map}
 use mathlib.Core.Path.{_≡_, refl, ap, _∙_}
 use lib.ListN.{getD, take, drop}
 use lib.Seq.{drop-drop, getD-drop, getD-take}
-use Rattle.definition.specs.Deciding.{Place, decide, decideFinal, decideRest, differences, placesOf, readsOf, tableFunction}
+use Rattle.definition.specs.Deciding.{Decision, Place, decide, decideFinal, decideRest, differences, placesOf, tableFunction}
 use Rattle.definition.specs.Field.{Field}
 use Rattle.definition.specs.Layout.{laterCount, readRest, readTranscript, roundCoins}
 use Rattle.definition.specs.Lists.{firstTrue, range}
@@ -15,7 +15,7 @@ use Rattle.definition.specs.Polynomial.{clash}
 use Rattle.definition.specs.Sheet.{Edition, Sheet, firstLevel, sheetLength}
 use Rattle.definition.specs.Transcript.{Rest}
 use Rattle.definition.specs.Transcript
-use Rattle.definition.specs.Verdict.{Outcome, Verdict, _then_, refuseAt, refused}
+use Rattle.definition.specs.Verdict.{Outcome, _then_, refuseAt, refused}
 use Rattle.completeness.specs.Faults.{combination, finals, fold, functionIn, outs, pairsIn, partLength, partStart, partWord, partWords, roundIn, shifts, words}
 use Rattle.completeness.specs.LevelsByNumber.{Paired, level-first, levels-later}
 use Rattle.completeness.specs.ListLaws.{drop-take}
@@ -106,13 +106,13 @@ module _ (ed : Edition) (h : Sheet) (w : List ℕ) where
   rest-decided (suc m) i used e =
       let now = used ++ placesOf (levelOf h i) (functionIn ed h w i .places) (partWords ed h w (shifts i)) in
       ap (λ (r : Rest ℕ). decideRest F ω (levelOf h i) (functionIn ed h w i) (partWord ed h w (fold i) 0) used r .outcome) (rest-round i m)
-      ∙ go (decideRest F ω (levelOf h (suc i)) (functionIn ed h w (suc i)) (partWord ed h w (fold (suc i)) 0) now (restAfter (suc i) m)) (readsOf now) (clashes (suc i) m)
+      ∙ go (decideRest F ω (levelOf h (suc i)) (functionIn ed h w (suc i)) (partWord ed h w (fold (suc i)) 0) now (restAfter (suc i) m)) now (clashes (suc i) m)
       (refuseAt 9 (firstTrue 0 finalTests)) (clash F (pairsIn ed h w i)) (rest-decided m (suc i) now (omega arith))
     where
-      go : (v : Verdict) (n : ℕ) (bs : List Bool) (z : Outcome) (c : Bool) → v .outcome ≡ (refuseAt 8 (firstTrue (suc (suc i)) bs) then z) →
-          cond c (record { outcome = refused 8 (suc i); reads = n }) v .outcome ≡ (refuseAt 8 (firstTrue (suc i) (c ∷ bs)) then z)
-      go v n bs z true g = refl
-      go v n bs z false g = g
+      go : (d : Decision) (now : List Place) (bs : List Bool) (z : Outcome) (c : Bool) → d .outcome ≡ (refuseAt 8 (firstTrue (suc (suc i)) bs) then z) →
+          cond c (record { outcome = refused 8 (suc i); used = now }) d .outcome ≡ (refuseAt 8 (firstTrue (suc i) (c ∷ bs)) then z)
+      go d now bs z true g = refl
+      go d now bs z false g = g
 
   -- deciding the words after the sheet
   pub decide-rounds : Paired h → decide F ω (firstLevel h) (readTranscript h (drop (sheetLength ed) w))
@@ -127,4 +127,4 @@ module _ (ed : Edition) (h : Sheet) (w : List ℕ) where
 
   pub decided : Paired h → decide F ω (firstLevel h) (readTranscript h (drop (sheetLength ed) w)) .outcome
       ≡ (refuseAt 8 (firstTrue 1 (clashes 0 M)) then refuseAt 9 (firstTrue 0 finalTests))
-  decided long = ap (λ (v : Verdict). v .outcome) (decide-rounds long) ∙ rest-decided M 0 [] (omega arith)
+  decided long = ap (λ (d : Decision). d .outcome) (decide-rounds long) ∙ rest-decided M 0 [] (omega arith)

@@ -1,4 +1,4 @@
--- What deciding depends on: two transcripts that differ in their tables alone, and agree there at every place that is used in the first, get one verdict.
+-- What deciding depends on: two transcripts that differ in their tables alone, and agree there at every place that is used in the first, come to one decision.
 use Prim.Native.Nat.{ℕ, zero, suc, _+_, _*_, _≤_, _<_}
 use native.Mathlib.Decide.{decLt}
 use native.Mathlib.Omega.{arith}
@@ -9,14 +9,14 @@ use lib.ListN.{length, getD, take, drop, length-map, length-take, List·getD-eq-
 use lib.Seq.{getD-drop, getD-take}
 use lib.Dec.{eqb}
 use borrow.Author.Tests.{eqb-true, not-false}
-use Rattle.definition.specs.Deciding.{Place, answers, decideFinal, decideRest, differences, nextFunction, ownPlace, placesOf, readsOf, tableFunction, treated}
+use Rattle.definition.specs.Deciding.{Decision, Place, answers, decideFinal, decideRest, differences, nextFunction, ownPlace, placesOf, tableFunction, treated}
 use Rattle.definition.specs.Domain.{foldAt, point, rootNumbers, shiftPoint}
 use Rattle.definition.specs.Field.{Field, primeField}
 use Rattle.definition.specs.Lists.{firstTrue, range}
 use Rattle.definition.specs.Polynomial.{Sample, clash, correctedValue, distinct, evaluate, interpolate, pair}
 use Rattle.definition.specs.Sheet.{Edition, Level, Sheet, shiftCount}
 use Rattle.definition.specs.Transcript
-use Rattle.definition.specs.Verdict.{Verdict, refuseAt, refused}
+use Rattle.definition.specs.Verdict.{refuseAt, refused}
 use Rattle.algebra.specs.ListFacts.{All, all-of-map, all-range, map-all}
 use Rattle.completeness.specs.ByPlace.{all-places}
 use Rattle.completeness.specs.DecidedByNumber.{rest-final, rest-round, restAfter}
@@ -148,9 +148,9 @@ module _ (ed : Edition) (h : Sheet) (v w : List ℕ) (beside : Beside ed h v w) 
       ≡ decideFinal F ω (levelOf h M) (functionIn ed h w M) (partWord ed h w (fold M) 0) before (partWords ed h w (words final)) (partWords ed h w finals)
   unfolding decideFinal differences primeField
   final-same before clear agree =
-      (λ t. record { outcome = refuseAt 9 (fault t); reads = readsOf (before ++ placesOf (levelOf h M) (functionIn ed h v M .places) (treated (partWords ed h v finals) (fault t))) })
+      (λ t. record { outcome = refuseAt 9 (fault t); used = before ++ placesOf (levelOf h M) (functionIn ed h v M .places) (treated (partWords ed h v finals) (fault t)) })
       ∙ (λ t. let found = firstTrue 0 (differences F ω (levelOf h M) (functionIn ed h w M .value) (beside .fold·same M (omega arith) t) (beside .final·same t) (beside .finals·same t)) in
-      record { outcome = refuseAt 9 found; reads = readsOf (before ++ placesOf (levelOf h M) (places-same M t) (treated (beside .finals·same t) found)) })
+      record { outcome = refuseAt 9 found; used = before ++ placesOf (levelOf h M) (places-same M t) (treated (beside .finals·same t) found) })
     where
       row : (ℕ → ℕ) → List Bool
       row f = differences F ω (levelOf h M) f (partWord ed h v (fold M) 0) (partWords ed h v (words final)) (partWords ed h v finals)
@@ -217,23 +217,23 @@ module _ (ed : Edition) (h : Sheet) (v w : List ℕ) (beside : Beside ed h v w) 
               true≢false (sym (clash-there (h .prime) ω (record { point = 0; value = 0 }) (pairsIn ed h v (k .0)) (p .0) (p .1) (p .2) (p .3) (p .4))
               ∙ ap (λ (n : ℕ). clash F (pairsIn ed h v n)) j ∙ c)
 
-      next : List Place → Verdict
+      next : List Place → Decision
       next p = decideRest F ω (levelOf h (suc i)) (functionIn ed h v (suc i)) (partWord ed h v (fold (suc i)) 0) p (restAfter ed h v (suc i) m)
 
-      next′ : List Place → Verdict
+      next′ : List Place → Decision
       next′ p = decideRest F ω (levelOf h (suc i)) (functionIn ed h w (suc i)) (partWord ed h w (fold (suc i)) 0) p (restAfter ed h w (suc i) m)
 
       go : (c : Bool) → clash F (pairsIn ed h v i) ≡ c → (clash F (pairsIn ed h v i) ≡ false → next now ≡ next′ now) →
-          cond (clash F (pairsIn ed h v i)) (record { outcome = refused 8 (suc i); reads = readsOf now }) (next now)
-          ≡ cond (clash F (pairsIn ed h w i)) (record { outcome = refused 8 (suc i); reads = readsOf now′ }) (next′ now′)
+          cond (clash F (pairsIn ed h v i)) (record { outcome = refused 8 (suc i); used = now }) (next now)
+          ≡ cond (clash F (pairsIn ed h w i)) (record { outcome = refused 8 (suc i); used = now′ }) (next′ now′)
       go true c k =
-          ap (λ (b : Bool). cond b (record { outcome = refused 8 (suc i); reads = readsOf now }) (next now)) c
-          ∙ (λ t. record { outcome = refused 8 (suc i); reads = readsOf (now-same t) })
-          ∙ sym (ap (λ (b : Bool). cond b (record { outcome = refused 8 (suc i); reads = readsOf now′ }) (next′ now′)) (sym (λ t. clash F (same t)) ∙ c))
+          ap (λ (b : Bool). cond b (record { outcome = refused 8 (suc i); used = now }) (next now)) c
+          ∙ (λ t. record { outcome = refused 8 (suc i); used = now-same t })
+          ∙ sym (ap (λ (b : Bool). cond b (record { outcome = refused 8 (suc i); used = now′ }) (next′ now′)) (sym (λ t. clash F (same t)) ∙ c))
       go false c k =
-          ap (λ (b : Bool). cond b (record { outcome = refused 8 (suc i); reads = readsOf now }) (next now)) c
+          ap (λ (b : Bool). cond b (record { outcome = refused 8 (suc i); used = now }) (next now)) c
           ∙ k c ∙ ap next′ now-same
-          ∙ sym (ap (λ (b : Bool). cond b (record { outcome = refused 8 (suc i); reads = readsOf now′ }) (next′ now′)) (sym (λ t. clash F (same t)) ∙ c))
+          ∙ sym (ap (λ (b : Bool). cond b (record { outcome = refused 8 (suc i); used = now′ }) (next′ now′)) (sym (λ t. clash F (same t)) ∙ c))
 
   -- with no clash so far and tables 0 that agree where they are used
   pub decided-same : decideRest F ω (levelOf h 0) (functionIn ed h v 0) (partWord ed h v (fold 0) 0) [] (restAfter ed h v 0 M)

@@ -36,7 +36,7 @@ use Rattle.completeness.specs.Domains.{foldable}
 use Rattle.completeness.specs.EachWord.{Front, front-at, front-false, front-run, front-tail}
 use Rattle.completeness.specs.FairCoins.{Passes, chain-head, fair-round, in-range}
 use Rattle.completeness.specs.LevelSizes.{Chain}
-use Rattle.completeness.specs.ListLaws.{regroup}
+use Rattle.completeness.specs.ListLaws.{all-flat, regroup}
 use Rattle.completeness.specs.Numbered.{Allowed, Nonzero, decidingDivisors, divisors, foldDivisors, restDivisors, roundsOf, samplesAt, sheetField, sheetRoot}
 use Rattle.completeness.specs.Passed.{passed}
 use Rattle.completeness.specs.Ready.{Ready, ready}
@@ -47,11 +47,6 @@ use Rattle.completeness.specs.Tests.{at-passes, then-passes, verdict-pas
 all-parts : {A : Type 0} (P : A → Type 0) (xs ys : List A) → All P (xs ++ ys) → All P xs × All P ys
 all-parts P [] ys h = (tt, h)
 all-parts P (x ∷ xs) ys h = let r = all-parts P xs ys (h .1) in ((h .0, r .0), r .1)
-
-all-flat : {A B : Type 0} (P : B → Type 0) (f : A → List B) (xs : List A) → All (λ x. All P (f x)) xs → All P (flatMap f xs)
-unfolding flatMap
-all-flat P f [] h = tt
-all-flat P f (x ∷ xs) h = all-append P (f x) (flatMap f xs) (h .0) (all-flat P f xs (h .1))
 
 all-pair : {A : Type 0} (P : A → Type 0) (xs ys : List A) → All P xs → All (λ (p : Sample A). P (p .point)) (pair xs ys)
 unfolding pair zipWith

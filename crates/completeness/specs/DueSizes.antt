@@ -1,12 +1,12 @@
--- What a sheet that passes makes due, in either edition: at most 8,433 words, which are 67 blocks, and 309 coins.
+-- What a sheet that passes makes due, in either edition: at most 8,433 words, which are 67 blocks, 309 coins, and 4,608 reads.
 use Prim.Native.Nat.{ℕ, zero, suc, _+_, _*_, _/_, _≤_}
-use native.Mathlib.Nat.{div-mul-le-self, mul-le-mul-left, mul-le-mul-right}
+use native.Mathlib.Nat.{div-mul-le-self, mul-le-mul, mul-le-mul-left, mul-le-mul-right}
 use native.Mathlib.Omega.{arith}
-use mathlib.Core.List.{List}
+use mathlib.Core.List.{List, zipWith}
 use mathlib.Core.Path.{_≡_}
-use lib.ListN.{length, getD}
+use lib.ListN.{length, getD, drop, drop-of-length-le}
 use lib.Pow.{pow-mono}
-use lib.Seq.{getD-take}
+use lib.Seq.{drop-cons, getD-take}
 use Rattle.definition.specs.Block.{blockCount}
 use Rattle.definition.specs.Layout.{coinKinds, laterCount, layout, wordsDue}
 use Rattle.definition.specs.Reading.{sheetTest}
@@ -16,10 +16,10 @@ use Rattle.completeness.specs.FileSize.{short-sheet}
 use Rattle.completeness.specs.Lawful.{Lawful, lawful, rounds-word}
 use Rattle.completeness.specs.LayoutByNumber
 use Rattle.completeness.specs.LevelsByNumber.{folded, halved, undivided, undivided-degree}
-use Rattle.completeness.specs.Numbered.{coinCount, coinsBefore, degreeOf, levelOf, roundStart, roundsOf, wordCount}
+use Rattle.completeness.specs.Numbered.{coinCount, coinsBefore, degreeOf, levelOf, roundStart, roundsOf, total, wordCount}
 use Rattle.completeness.specs.PlainSheet.{sheet-plain}
 use Rattle.completeness.specs.SheetLevels.{sized}
-use Rattle.completeness.specs.SheetRules.{fold-words, folding-large}
+use Rattle.completeness.specs.SheetRules.{fold-words, folding-large, folding-small}
 
 -- the degree bound falls at least as the domain does
 degree-halves : (n d k : ℕ) → 2 ≤ k → d ≤ n → d / k ≤ n / 2
@@ -38,11 +38,16 @@ module _ (ed : Edition) (w : List ℕ) (long : sheetLength ed ≤ length w) (pas
   few : M ≤ 5
   few = omega (arith, law .most, law .paired .some)
 
-  fold-two : (i : ℕ) → i ≤ M → 2 ≤ getD (h .folds) i 0
+  fold-range : (i : ℕ) → i ≤ M → (2 ≤ getD (h .folds) i 0) × (getD (h .folds) i 0 ≤ 16)
   unfolding sheetOf
-  fold-two i l =
+  fold-range i l =
       let m = rounds-word ed w long passed in
-      omega (arith, folding-large w _ (fold-words ed w passed i (omega (arith, m))), getD-take (suc (getD w 4 0)) (foldWords ed w) i 0 (omega (arith, m)))
+      let word = getD-take (suc (getD w 4 0)) (foldWords ed w) i 0 (omega (arith, m)) in
+      let fine = fold-words ed w passed i (omega (arith, m)) in
+      (omega (arith, word, folding-large w _ fine), omega (arith, word, folding-small w _ fine .0))
+
+  fold-two : (i : ℕ) → i ≤ M → 2 ≤ getD (h .folds) i 0
+  fold-two i l = fold-range i l .0
 
   -- d_i is at most n_i/2
   half-degree : (i : ℕ) → i ≤ M → degreeOf h i ≤ levelOf h i .size / 2
@@ -94,3 +99,16 @@ module _ (ed : Edition) (w : List ℕ) (long : sheetLength ed ≤ length w) (pas
 
   pub coins-most : length (coinKinds (layout (sheetOf ed w))) ≤ 309
   coins-most = omega (arith, LayoutByNumber.coins-due ed h (law .paired), coins-bound M (omega arith), law .times M (omega arith), few)
+
+  -- k_i is at most 16, t_i at most 48
+  reads-bound : (m i : ℕ) → i + m ≡ length (h .folds) → total (zipWith _*_ (drop i (h .folds)) (drop i (h .repetitions))) ≤ 768 * m
+  unfolding total zipWith
+  reads-bound zero i e = rw (drop-of-length-le (h .folds) {i = i} (omega arith)) (omega arith)
+  reads-bound (suc m) i e =
+      let l : i ≤ M = omega (arith, law .paired .some) in
+      rw (drop-cons (h .folds) i 0 (omega arith), drop-cons (h .repetitions) i 0 (omega (arith, law .paired .same)))
+      (omega (arith, mul-le-mul (fold-range i l .1) (law .times i l), reads-bound m (suc i) (omega arith)))
+
+  -- k_0·t_0 + .. + k_M·t_M
+  pub reads-most : total (zipWith _*_ (sheetOf ed w .folds) (sheetOf ed w .repetitions)) ≤ 4608
+  reads-most = omega (arith, reads-bound (length (h .folds)) 0 (omega arith), law .most)

@@ -1,15 +1,15 @@
--- The levels of a sheet by its words, in either edition; and in edition 1, whose folding numbers are all one number k: d_i is d0/k^i, and the reads are k for each coin.
+-- The levels of a sheet by its words, in either edition; and in edition 1, whose folding numbers are all one number k: d_i is d0/k^i, and the reads are k for each different index of a level.
 use Prim.Native.Nat.{ℕ, zero, suc, _+_, _-_, _*_, _/_, _^_, _≤_, _<_}
-use native.Mathlib.Nat.{mul-add, mul-zero}
+use native.Mathlib.Nat.{mul-add, mul-comm, mul-zero}
 use native.Mathlib.Omega.{arith}
 use mathlib.Core.Bool.{Bool, true, false, cond}
-use mathlib.Core.List.{List, [], _∷_, map, zipWith}
+use mathlib.Core.List.{List, map}
 use mathlib.Core.Path.{_≡_, refl, sym, ap, _∙_}
-use lib.ListN.{length, getD, take, replicate}
+use lib.ListN.{length, getD, take}
 use lib.Seq.{getD-take, take-take}
 use lib.Dec.{eqb}
 use Rattle.definition.specs.Block.{fileOf}
-use Rattle.definition.specs.Lists.{productOf, range}
+use Rattle.definition.specs.Lists.{different, productOf, range}
 use Rattle.definition.specs.Prover.{honestStream}
 use Rattle.definition.specs.Reading.{sheetTest}
 use Rattle.definition.specs.Sheet.{Edition, Level, Sheet, edition1, foldPlaces, foldWords, sheetLength, sheetOf}
@@ -17,12 +17,12 @@ use Rattle.definition.specs.Verdict.{accepted}
 use Rattle.definition.specs.Verify.{verify}
 use Rattle.completeness.specs.Allowed.{allowed-enough}
 use Rattle.completeness.specs.Completeness.{completeness}
-use Rattle.completeness.specs.Faults.{readsBefore, turnOf, wordTurn}
-use Rattle.completeness.specs.Lawful.{lawful, rounds-word, times-word}
-use Rattle.completeness.specs.Numbered.{Allowed, correctedOf, degreeOf, levelOf, quotientPoly, readsDue, roundPoly, roundsOf, samplesAt, total}
+use Rattle.completeness.specs.Faults.{partWords, readsBefore, shifts, turnOf, wordTurn}
+use Rattle.completeness.specs.Lawful.{rounds-word, times-word}
+use Rattle.completeness.specs.Numbered.{Allowed, correctedOf, degreeOf, indicesOf, levelOf, levelReads, quotientPoly, readsDue, roundPoly, roundsOf, samplesAt, total}
 use Rattle.completeness.specs.PlainSheet.{fold-one, product-one}
 use Rattle.completeness.specs.RunByNumber.{corrected-length, fewer, quotient-length, round-length}
-use Rattle.completeness.specs.SheetRules.{rounds-most, take-replicate}
+use Rattle.completeness.specs.SheetRules.{rounds-most}
 
 -- level i by the words of the sheet
 pub level-is : (ed : Edition) (w : List ℕ) → sheetLength ed ≤ length w → sheetTest ed w ≡ accepted → (i : ℕ) → i ≤ getD w 4 0 → levelOf (sheetOf ed w) i ≡ record {
@@ -40,11 +40,6 @@ level-is ed w long passed i l = λ t. record {
   fold = getD-take (suc (getD w 4 0)) (foldWords ed w) i 0 (omega arith) t;
   repetitions = times-word ed w long passed i l t;
 }
-
--- in edition 1 the folding numbers are one number
-folds-one : (w : List ℕ) → getD w 4 0 ≤ 5 → sheetOf edition1 w .folds ≡ replicate (suc (getD w 4 0)) (getD w 3 0)
-unfolding sheetOf foldWords foldPlaces
-folds-one w most = take-replicate (suc (getD w 4 0)) 6 (getD w 3 0) (omega arith)
 
 module _ (w : List ℕ) (long : 12 ≤ length w) (passed : sheetTest edition1 w ≡ accepted) where
   most : getD w 4 0 ≤ 5
@@ -65,35 +60,27 @@ module _ (w : List ℕ) (long : 12 ≤ length w) (passed : sheetTest edition1 w 
     repetitions = getD w (6 + i) 0;
   })
 
-  -- k for each of some coins
-  times-one : (k n : ℕ) (ts : List ℕ) → length ts ≤ n → total (zipWith _*_ (replicate n k) ts) ≡ k * total ts
-  unfolding total zipWith
-  times-one k zero [] h = sym (mul-zero k)
-  times-one k zero (t ∷ ts) h = absurd (omega arith)
-  times-one k (suc n) [] h = sym (mul-zero k)
-  times-one k (suc n) (t ∷ ts) h = ap (λ (x : ℕ). k * t + x) (times-one k n ts (omega arith)) ∙ sym (mul-add k t (total ts))
+  -- k for each different index, summed over m levels from i on
+  different-one : (js : ℕ → List ℕ) (m i : ℕ) → i + m ≤ suc (getD w 4 0) →
+      total (map (λ j. levelReads (sheetOf edition1 w) j (js j)) (range i m)) ≡ getD w 3 0 * total (map (λ j. length (different eqb (js j))) (range i m))
+  unfolding total range levelReads
+  different-one js zero i l = sym (mul-zero (getD w 3 0))
+  different-one js (suc m) i l =
+      let n = length (different eqb (js i)) in
+      (λ t. (ap (λ (b : Level). n * b .fold) (level-one i (omega arith)) ∙ mul-comm n (getD w 3 0)) t + different-one js m (suc i) (omega arith) t)
+      ∙ sym (mul-add (getD w 3 0) n (total (map (λ j. length (different eqb (js j))) (range (suc i) m))))
 
-  pub reads-one : readsDue (sheetOf edition1 w) ≡ getD w 3 0 * total (sheetOf edition1 w .repetitions)
+  pub reads-one : (coins : List ℕ) → readsDue (sheetOf edition1 w) coins
+      ≡ getD w 3 0 * total (map (λ i. length (different eqb (indicesOf (sheetOf edition1 w) coins i))) (range 0 (suc (getD w 4 0))))
   unfolding readsDue
-  reads-one =
-      let k = getD w 3 0 in
-      let ts = sheetOf edition1 w .repetitions in
-      let p = lawful edition1 w long passed .paired in
-      ap (λ (l : List ℕ). total (zipWith _*_ l ts)) equal ∙ times-one k (suc (getD w 4 0)) ts (omega (arith, p .same, p .some, rounds-word edition1 w long passed))
-    where
-      equal : sheetOf edition1 w .folds ≡ replicate (suc (getD w 4 0)) (getD w 3 0)
-      equal = folds-one w most
+  reads-one coins =
+      ap (λ (n : ℕ). total (map (λ i. levelReads (sheetOf edition1 w) i (indicesOf (sheetOf edition1 w) coins i)) (range 0 (suc n)))) (rounds-word edition1 w long passed)
+      ∙ different-one (indicesOf (sheetOf edition1 w) coins) (suc (getD w 4 0)) 0 (omega arith)
 
-  sums-one : (m i : ℕ) → i + m ≤ suc (getD w 4 0) →
-      total (map (λ j. levelOf (sheetOf edition1 w) j .fold * levelOf (sheetOf edition1 w) j .repetitions) (range i m)) ≡ getD w 3 0 * total (map (λ j. getD w (6 + j) 0) (range i m))
-  unfolding total range
-  sums-one zero i l = sym (mul-zero (getD w 3 0))
-  sums-one (suc m) i l =
-      (λ t. level-one i (omega arith) t .fold * level-one i (omega arith) t .repetitions + sums-one m (suc i) (omega arith) t) ∙ sym (mul-add (getD w 3 0) (getD w (6 + i) 0) (total (map (λ j. getD w (6 + j) 0) (range (suc i) m))))
-
-  pub reads-before-one : (m : ℕ) → m ≤ suc (getD w 4 0) → readsBefore (sheetOf edition1 w) m ≡ getD w 3 0 * total (map (λ j. getD w (6 + j) 0) (range 0 m))
+  pub reads-before-one : (stream : List ℕ) (m : ℕ) → m ≤ suc (getD w 4 0) → readsBefore edition1 (sheetOf edition1 w) stream m
+      ≡ getD w 3 0 * total (map (λ i. length (different eqb (partWords edition1 (sheetOf edition1 w) stream (shifts i)))) (range 0 m))
   unfolding readsBefore
-  reads-before-one m l = sums-one m 0 (omega arith)
+  reads-before-one stream m l = different-one (λ i. partWords edition1 (sheetOf edition1 w) stream (shifts i)) m 0 (omega arith)
 
 -- each place is its own turn
 pub turn-one : (n q : ℕ) → turnOf edition1 n q ≡ q
@@ -115,8 +102,11 @@ module _ {w f coins : List ℕ} (ok : Allowed edition1 w f coins) where
   rounds-one : roundsOf h ≡ getD w 4 0
   rounds-one = rounds-word edition1 w (allowed-enough ok) (ok .sheet)
 
-  pub accepted-one : verify (fileOf (honestStream edition1 w f coins)) ≡ record { outcome = accepted; reads = getD w 3 0 * total (sheetOf edition1 w .repetitions) }
-  accepted-one = completeness edition1 w f coins ok ∙ (λ t. record { outcome = accepted; reads = reads-one w (allowed-enough ok) (ok .sheet) t })
+  pub accepted-one : verify (fileOf (honestStream edition1 w f coins)) ≡ record {
+    outcome = accepted;
+    reads = getD w 3 0 * total (map (λ i. length (different eqb (indicesOf (sheetOf edition1 w) coins i))) (range 0 (suc (getD w 4 0))));
+  }
+  accepted-one = completeness edition1 w f coins ok ∙ (λ t. record { outcome = accepted; reads = reads-one w (allowed-enough ok) (ok .sheet) coins t })
 
   pub round-degree-one : (i : ℕ) → i ≤ getD w 4 0 → length (roundPoly (sheetOf edition1 w) f coins i) ≡ getD w 2 0 / getD w 3 0 ^ i
   round-degree-one i l = round-length ok i (omega (arith, rounds-one)) ∙ degree-one i l

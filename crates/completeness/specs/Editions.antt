@@ -5,11 +5,12 @@ use Prim.Native.Nat.{ℕ, suc, _+_, _-_, _*_, _/_, _^_, _≤_, _<_}
 use mathlib.Core.List.{List, _++_, map}
 use mathlib.Core.Logic.{_↔_}
 use mathlib.Core.Path.{_≡_}
+use lib.Dec.{eqb}
 use lib.ListN.{length, getD, take, drop}
 use Rattle.definition.specs.Block.{blockCount, fileOf, streamOf}
 use Rattle.definition.specs.Convert.{backward, bodyOf, foldsTest, forward, toEdition1, toEdition2}
 use Rattle.definition.specs.Layout.{wordsDue}
-use Rattle.definition.specs.Lists.{productOf, range}
+use Rattle.definition.specs.Lists.{different, productOf, range}
 use Rattle.definition.specs.Prove.{done, refusal}
 use Rattle.definition.specs.Prover.{honestStream}
 use Rattle.definition.specs.Reading.{reading, sheetTest}
@@ -19,9 +20,9 @@ use Rattle.definition.specs.Verify.{verify, verifyIn}
 use Rattle.completeness.specs.Conversion
 use Rattle.completeness.specs.Converter
 use Rattle.completeness.specs.EditionOne
-use Rattle.completeness.specs.Faults.{KeepsRule, PlainSheet1, readsBefore, sheetIn, sixHigher, turnOf}
+use Rattle.completeness.specs.Faults.{KeepsRule, PlainSheet1, partWords, readsBefore, sheetIn, shifts, sixHigher, turnOf}
 use Rattle.completeness.specs.Lawful
-use Rattle.completeness.specs.Numbered.{Allowed, correctedOf, levelOf, quotientPoly, readsDue, roundPoly, roundsOf, samplesAt, total}
+use Rattle.completeness.specs.Numbered.{Allowed, correctedOf, indicesOf, levelOf, quotientPoly, readsDue, roundPoly, roundsOf, samplesAt, total}
 use Rattle.completeness.specs.PlainSheet
 
 -- 1. LEVELS BY THE WORDS OF A SHEET without a fault, in either edition. M is word 4; d_i is d0 over the product of k_0 to k_(i-1), and k_i is the edition's word for it.
@@ -49,11 +50,13 @@ module _ (w : List ℕ) (long : 12 ≤ length w) (sheet : sheetTest edition1 w �
   }
   level-of-edition-1 = EditionOne.level-one w long sheet
 
-  -- the reads of an accepted file are k·(t_0 + .. + t_M), and those of its first m rounds k·(t_0 + .. + t_(m-1)).
-  pub reads-of-edition-1 : readsDue (sheetOf edition1 w) ≡ getD w 3 0 * total (sheetOf edition1 w .repetitions)
+  -- the reads of an accepted transcript are k for each different index of each level, and so are those of a stream's first m rounds.
+  pub reads-of-edition-1 : (coins : List ℕ) → readsDue (sheetOf edition1 w) coins
+      ≡ getD w 3 0 * total (map (λ i. length (different eqb (indicesOf (sheetOf edition1 w) coins i))) (range 0 (suc (getD w 4 0))))
   reads-of-edition-1 = EditionOne.reads-one w long sheet
 
-  pub reads-before-of-edition-1 : (m : ℕ) → m ≤ suc (getD w 4 0) → readsBefore (sheetOf edition1 w) m ≡ getD w 3 0 * total (map (λ j. getD w (6 + j) 0) (range 0 m))
+  pub reads-before-of-edition-1 : (stream : List ℕ) (m : ℕ) → m ≤ suc (getD w 4 0) → readsBefore edition1 (sheetOf edition1 w) stream m
+      ≡ getD w 3 0 * total (map (λ i. length (different eqb (partWords edition1 (sheetOf edition1 w) stream (shifts i)))) (range 0 m))
   reads-before-of-edition-1 = EditionOne.reads-before-one w long sheet
 
 -- Its rules are those of one folding number, with k^(M+1) at most d0;
@@ -66,7 +69,10 @@ turns-of-edition-1 = EditionOne.turn-one
 
 -- So completeness and the degrees are, for 12 words without a broken rule, d0 elements and an allowed coin list:
 module _ (w f coins : List ℕ) (ok : Allowed edition1 w f coins) where
-  pub completeness-of-edition-1 : verify (fileOf (honestStream edition1 w f coins)) ≡ record { outcome = accepted; reads = getD w 3 0 * total (sheetOf edition1 w .repetitions) }
+  pub completeness-of-edition-1 : verify (fileOf (honestStream edition1 w f coins)) ≡ record {
+    outcome = accepted;
+    reads = getD w 3 0 * total (map (λ i. length (different eqb (indicesOf (sheetOf edition1 w) coins i))) (range 0 (suc (getD w 4 0))));
+  }
   completeness-of-edition-1 = EditionOne.accepted-one ok
 
   pub round-degree-of-edition-1 : (i : ℕ) → i ≤ getD w 4 0 → length (roundPoly (sheetOf edition1 w) f coins i) ≡ getD w 2 0 / getD w 3 0 ^ i

@@ -17,7 +17,7 @@ use Rattle.definition.specs.Polynomial.{Sample, distinct, evaluate}
 use Rattle.definition.specs.Sheet.{Edition, Sheet, edition1, edition2, finalCount, foldWords, sheetLength, sheetOf, sheetRules, shiftCount}
 use Rattle.definition.specs.Transcript.{Round}
 use Rattle.definition.specs.Verdict.{Outcome, accepted, refused}
-use Rattle.completeness.specs.Numbered.{Due, Message, final, lengthOf, levelOf, outsOf, replies, roundStart, roundsOf, sheetField, sheetRoot, startOf, table, total}
+use Rattle.completeness.specs.Numbered.{Due, Message, final, lengthOf, levelOf, levelReads, outsOf, replies, roundStart, roundsOf, sheetField, sheetRoot, startOf, table, total}
 
 -- BLOCKS. The number of blocks; word x of block b, four bytes; and whether the block's word 127 is its check.
 abbrev pub blocksIn : List ℕ → ℕ
@@ -285,15 +285,15 @@ SameOutside ed h v w = (n : ℕ) → ((i j : ℕ) → i ≤ roundsOf h → j < l
 abbrev pub SameWhereUsed : Edition → Sheet → List ℕ → List ℕ → Type 0
 SameWhereUsed ed h v w = (i y : ℕ) → Used ed h v i y → partWord ed h v (words (table i)) y ≡ partWord ed h w (words (table i)) y
 
--- the reads of all shift coins of the first rounds, k_i for each coin of round i + 1; and the reads that go with an outcome: those of the rounds up to the clash for 8;
--- for 9 those of all rounds, and k_M for each final coin up to and with the failing one; and for accepted those of all coins
-unfoldable pub readsBefore : Sheet → ℕ → ℕ
-readsBefore h m = total (map (λ i. levelOf h i .fold * levelOf h i .repetitions) (range 0 m))
+-- the reads of the shift indices of the first m rounds, k_i for each different index of round i + 1; and the reads that go with an outcome: those of the rounds up to the
+-- clash for 8; for 9 those of all rounds, and k_M for each different final index up to and with the failing one; and for accepted those of all indices
+unfoldable pub readsBefore : Edition → Sheet → List ℕ → ℕ → ℕ
+readsBefore ed h w m = total (map (λ i. levelReads h i (partWords ed h w (shifts i))) (range 0 m))
 
-unfoldable pub readsWith : Sheet → Outcome → ℕ
-readsWith h accepted = readsBefore h (roundsOf h) + levelOf h (roundsOf h) .fold * partLength h finals
-readsWith h (refused n q) =
-    cond (eqb n 8) (readsBefore h q) (cond (eqb n 9) (readsBefore h (roundsOf h) + levelOf h (roundsOf h) .fold * suc q) 0)
+unfoldable pub readsWith : Edition → Sheet → List ℕ → Outcome → ℕ
+readsWith ed h w accepted = readsBefore ed h w (roundsOf h) + levelReads h (roundsOf h) (partWords ed h w finals)
+readsWith ed h w (refused n q) =
+    cond (eqb n 8) (readsBefore ed h w q) (cond (eqb n 9) (readsBefore ed h w (roundsOf h) + levelReads h (roundsOf h) (take (suc q) (partWords ed h w finals))) 0)
 
 -- THE OUTCOME OF A CONVERTED FILE is that of the original, but for the word number of a 7 or a 14, which is six higher in edition 2.
 unfoldable pub sixHigher : Outcome → Outcome

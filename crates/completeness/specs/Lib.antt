@@ -19,6 +19,8 @@ pub mod SheetRules
 pub mod Lawful
 pub mod SheetLevels
 pub mod Ready
+-- the places that coins lead to, counted
+pub mod Openings
 -- in any field with the laws: deciding accepts honest transcripts; one round; domains; and a party that sends and asks
 pub mod DistinctPoints
 pub mod DecidingAccepts

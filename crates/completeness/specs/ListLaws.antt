@@ -8,7 +8,7 @@ use mathlib.Core.Path.{_≡_, refl, sym, ap, _∙_, subst}
 use lib.ListN.{length, getD, take, drop, replicate}
 use lib.Seq.{take-nil}
 use Rattle.definition.specs.Lists.{range}
-use Rattle.algebra.specs.ListFacts.{All}
+use Rattle.algebra.specs.ListFacts.{All, all-append}
 
 pub range-length : (from n : ℕ) → length (range from n) ≡ n
 unfolding range
@@ -66,6 +66,11 @@ all-at P from (suc n) h (suc i) l = subst P (step from i) (all-at P (suc from) n
   where
     step : (a b : ℕ) → suc a + b ≡ a + suc b
     step a b = omega arith
+
+pub all-flat : {A B : Type 0} (P : B → Type 0) (f : A → List B) (xs : List A) → All (λ x. All P (f x)) xs → All P (flatMap f xs)
+unfolding flatMap
+all-flat P f [] h = tt
+all-flat P f (x ∷ xs) h = all-append P (f x) (flatMap f xs) (h .0) (all-flat P f xs (h .1))
 
 -- the parts of a joined list
 pub all-left : {A : Type 0} (P : A → Type 0) (xs ys : List A) → All P (xs ++ ys) → All P xs

@@ -48,29 +48,29 @@ keep-all test (x ∷ xs) = go (test x) refl (keep-all test xs)
 
 -- Every value that a rule permits is among the candidates.
 module _ (x : ℕ) where
-  listed : (from n : ℕ) → from ≤ x → x < from + n → member x (range from n) ≡ true
+  listed : (from n : ℕ) → from ≤ x → x < from + n → member eqb x (range from n) ≡ true
   unfolding member range
   listed from zero l u = absurd (omega arith)
   listed from (suc n) l u = go (eqb x from) refl (λ h. listed (suc from) n h (omega arith))
     where
-      go : (b : Bool) → eqb x from ≡ b → (suc from ≤ x → member x (range (suc from) n) ≡ true) → (b || member x (range (suc from) n)) ≡ true
+      go : (b : Bool) → eqb x from ≡ b → (suc from ≤ x → member eqb x (range (suc from) n) ≡ true) → (b || member eqb x (range (suc from) n)) ≡ true
       go true e r = refl
       go false e r = let differ : x ≡ from → ⊥ = λ z. true≢false (sym (eq-eqb x from z) ∙ e) in r (omega (arith, differ))
 
-  in-front : (xs ys : List ℕ) → member x xs ≡ true → member x (xs ++ ys) ≡ true
+  in-front : (xs ys : List ℕ) → member eqb x xs ≡ true → member eqb x (xs ++ ys) ≡ true
   unfolding member
   in-front [] ys e = absurd (true≢false (sym e))
   in-front (y ∷ xs) ys e = go (eqb x y) e (in-front xs ys)
     where
-      go : (b : Bool) → (b || member x xs) ≡ true → (member x xs ≡ true → member x (xs ++ ys) ≡ true) → (b || member x (xs ++ ys)) ≡ true
+      go : (b : Bool) → (b || member eqb x xs) ≡ true → (member eqb x xs ≡ true → member eqb x (xs ++ ys) ≡ true) → (b || member eqb x (xs ++ ys)) ≡ true
       go true k r = refl
       go false k r = r k
 
-  small-in : x ≤ 48 → member x candidates ≡ true
+  small-in : x ≤ 48 → member eqb x candidates ≡ true
   unfolding candidates
   small-in h = in-front (range 0 49) (map (λ a. 2 ^ a) (range 6 7)) (listed 0 49 (omega arith) (omega arith))
 
-two-in : (a : ℕ) → a < 13 → member (2 ^ a) candidates ≡ true
+two-in : (a : ℕ) → a < 13 → member eqb (2 ^ a) candidates ≡ true
 unfolding candidates member range
 two-in zero h = refl
 two-in (suc zero) h = refl
@@ -87,10 +87,10 @@ two-in (suc (suc (suc (suc (suc (suc (suc (suc (suc (suc (suc zero))))))))))) h 
 two-in (suc (suc (suc (suc (suc (suc (suc (suc (suc (suc (suc (suc zero)))))))))))) h = refl
 two-in (suc (suc (suc (suc (suc (suc (suc (suc (suc (suc (suc (suc (suc a))))))))))))) h = absurd (omega arith)
 
-power-in : (x : ℕ) → powerOfTwo x ≡ true → member x candidates ≡ true
-power-in x e = let p = power-of-two x e in subst (λ (y : ℕ). member y candidates ≡ true) (sym (p .2)) (two-in (p .0) (p .1))
+power-in : (x : ℕ) → powerOfTwo x ≡ true → member eqb x candidates ≡ true
+power-in x e = let p = power-of-two x e in subst (λ (y : ℕ). member eqb y candidates ≡ true) (sym (p .2)) (two-in (p .0) (p .1))
 
-pub none-missing : (w : List ℕ) (x : ℕ) → permits w x ≡ true → member x candidates ≡ true
+pub none-missing : (w : List ℕ) (x : ℕ) → permits w x ≡ true → member eqb x candidates ≡ true
 unfolding permits sheetRules range fieldRule knownField sizeRule degreeRule foldRule roundsRule outCoinsRule foldingNumber laterRules
 none-missing [] x e = small-in x (omega (arith, ltb-true x 3 e))
 none-missing (a ∷ []) x e = power-in x (and-true (powerOfTwo x) _ (and-true (powerOfTwo x && between 4 4096 x) _ e .0) .0)
@@ -271,7 +271,7 @@ draws-allowed v =
 -- ---- the lines
 
 -- So the honest file of each run is accepted, with the reads due.
-pub draws-accepted : (v : ℕ) → verdictOn (drawOrder v .value) ≡ record { outcome = accepted; reads = readsDue (sheetOf edition1 (drawOrder v .value .sheet)) }
+pub draws-accepted : (v : ℕ) → verdictOn (drawOrder v .value) ≡ record { outcome = accepted; reads = readsDue (sheetOf edition1 (drawOrder v .value .sheet)) (drawOrder v .value .coins) }
 unfolding verdictOn
 draws-accepted v = completeness edition1 _ _ _ (draws-allowed v)
 

@@ -1,15 +1,17 @@
 -- THE VOCABULARY OF THE PAGE: 01's notions by number, over a sheet h, coefficients f, a coin list and a word stream. It holds no lemma and no proof.
 -- M is the number of rounds, s the number of out coins of a round; k_i, t_i, n_i and d_i belong to level i.
 use Prim.Native.Nat.{ℕ, zero, suc, _+_, _*_, _/_, _%_, _^_, _≤_}
-use mathlib.Core.List.{List, [], _∷_, _++_, flatMap, map, tail, zipWith}
+use mathlib.Core.Bool.{cond}
+use mathlib.Core.List.{List, [], _∷_, _++_, flatMap, map, tail}
 use mathlib.Core.Path.{_≡_}
+use lib.Dec.{eqb, ltb}
 use lib.ListN.{length, getD, take, drop}
 use Rattle.definition.specs.Block.{blockCount, fileOf, streamOf}
 use Rattle.definition.specs.Deciding.{answers, nextFunction, tableFunction}
 use Rattle.definition.specs.Domain.{domain, point, rootNumbers}
 use Rattle.definition.specs.Field.{Field, primeField}
 use Rattle.definition.specs.Layout.{coinKinds, laterCount, layout, readTranscript, wordsDue}
-use Rattle.definition.specs.Lists.{productOf}
+use Rattle.definition.specs.Lists.{different, productOf, range}
 use Rattle.definition.specs.Polynomial.{Sample, distinct, evaluate, foldPoly, interpolate, points, quotient, subPoly, vanishing}
 use Rattle.definition.specs.Prove.{coefficientsTest, coinDomainTest, coinEqualTest, coinsTest, inputRangeTest, outputTest, sheetLengthTest}
 use Rattle.definition.specs.Prover.{honestAnswers, honestStream, nextPoly}
@@ -51,10 +53,6 @@ levelOf h i = record {
 unfoldable pub total : List ℕ → ℕ
 total [] = 0
 total (x ∷ xs) = x + total xs
-
--- the reads of an accepted transcript: k_0·t_0 + .. + k_M·t_M
-unfoldable pub readsDue : Sheet → ℕ
-readsDue h = total (zipWith _*_ (h .folds) (h .repetitions))
 
 -- THE PREMISES: the tests that prove makes of its input, in their order.
 -- the edition's words without a broken rule; d0 coefficients; a full coin list; every word in range; every out coin outside its round's domain;
@@ -108,6 +106,17 @@ coinsOf h coins i = record {
   fold = foldCoin h coins i;
   shifts = shiftIndices h coins i;
 }
+
+-- THE READS. The indices whose roots are read in table i: the shift indices of round i + 1, and for i = M the final indices
+unfoldable pub indicesOf : Sheet → List ℕ → ℕ → List ℕ
+indicesOf h coins i = cond (ltb i (roundsOf h)) (shiftIndices h coins (suc i)) (finalIndices h coins)
+
+-- the reads of indices in table i, k_i for each different index; and of an accepted transcript, those of all its indices, table by table
+unfoldable pub levelReads : Sheet → ℕ → List ℕ → ℕ
+levelReads h i js = length (different eqb js) * levelOf h i .fold
+
+unfoldable pub readsDue : Sheet → List ℕ → ℕ
+readsDue h coins = total (map (λ i. levelReads h i (indicesOf h coins i)) (range 0 (suc (roundsOf h))))
 
 -- THE PROVER'S POLYNOMIALS. f_0 = f, and f_(i+1) is the corrected polynomial of G_(i+1), combination coin i + 1 and g_(i+1), the fold of f_i by fold coin i.
 unfoldable pub correctedOf : Sheet → List ℕ → List ℕ → ℕ → List ℕ

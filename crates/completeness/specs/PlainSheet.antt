@@ -30,18 +30,18 @@ unfolding between
 is-between low high x l u = both (leb low x) (leb x high) (le-leb low x l) (le-leb x high u)
 
 -- a power of two up to 4096
-listed : (f : ℕ → ℕ) (from n a x : ℕ) → from ≤ a → a < from + n → x ≡ f a → member x (map f (range from n)) ≡ true
+listed : (f : ℕ → ℕ) (from n a x : ℕ) → from ≤ a → a < from + n → x ≡ f a → member eqb x (map f (range from n)) ≡ true
 unfolding member range
 listed f from zero a x l u e = absurd (omega arith)
 listed f from (suc n) a x l u e = go (decLt from a) (λ h. listed f (suc from) n a x h (omega arith) e)
   where
-    go : Dec (from < a) → (suc from ≤ a → member x (map f (range (suc from) n)) ≡ true) → (eqb x (f from) || member x (map f (range (suc from) n))) ≡ true
+    go : Dec (from < a) → (suc from ≤ a → member eqb x (map f (range (suc from) n)) ≡ true) → (eqb x (f from) || member eqb x (map f (range (suc from) n))) ≡ true
     go (yes h) r = either (eqb x (f from)) (r (omega arith))
       where
         either : (b : Bool) {c : Bool} → c ≡ true → (b || c) ≡ true
         either true k = refl
         either false k = k
-    go (no h) r = let q : a ≡ from = omega arith in ap (λ (b : Bool). b || member x (map f (range (suc from) n))) (eq-eqb x (f from) (e ∙ ap f q))
+    go (no h) r = let q : a ≡ from = omega arith in ap (λ (b : Bool). b || member eqb x (map f (range (suc from) n))) (eq-eqb x (f from) (e ∙ ap f q))
 
 is-power : (x a : ℕ) → x ≡ 2 ^ a → x ≤ 4096 → powerOfTwo x ≡ true
 unfolding powerOfTwo

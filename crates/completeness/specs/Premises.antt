@@ -10,10 +10,10 @@ use lib.Dec.{eqb}
 use lib.ListN.{length, getD, replicate, length-replicate}
 use borrow.Author.Tests.{eq-eqb, eqb-true, ne-eqb, lt-leb}
 use Rattle.definition.specs.Deciding.{outBefore, outInDomain, outRepeated, repeatedOuts, sameAs}
-use Rattle.definition.specs.Domain.{domain, inDomain, inList, point}
+use Rattle.definition.specs.Domain.{domain, inDomain, point}
 use Rattle.definition.specs.Field.{Field, power, primeField}
 use Rattle.definition.specs.Layout.{Kind, coin, coinKinds, index, layout, limit, message, out}
-use Rattle.definition.specs.Lists.{firstTrue, range}
+use Rattle.definition.specs.Lists.{firstTrue, member, range}
 use Rattle.definition.specs.Load.{keep, notAllowed, smallestAllowed}
 use Rattle.definition.specs.Prove.{coefficientsTest, coinDomainTest, coinEqualTest, coinsTest, inputRangeTest, sheetLengthTest}
 use Rattle.definition.specs.Reading.{outOfRange, sheetTest}
@@ -128,8 +128,8 @@ module _ (h : Sheet) (r : Ready h) where
   index-plain b rb = (lt-leb (b .size / b .fold) 0 (positive-sizes (suc (r .e)) b rb .0), refl)
 
   -- an element that is no point of a domain
-  off-list : (l : Level) (x : ℕ) (js : List ℕ) → ((j : ℕ) → power F ω (1 + 2 ^ l .number * j) ≡ x → ⊥) → inList F ω x (map (point F ω l) js) ≡ false
-  unfolding inList point primeField
+  off-list : (l : Level) (x : ℕ) (js : List ℕ) → ((j : ℕ) → power F ω (1 + 2 ^ l .number * j) ≡ x → ⊥) → member (F .equal) x (map (point F ω l) js) ≡ false
+  unfolding member point primeField
   off-list l x [] off = refl
   off-list l x (j ∷ js) off = rw (ne-eqb x (power (primeField (h .prime)) ω (1 + 2 ^ l .number * j)) (λ z. off j (sym z))) (off-list l x js off)
 

@@ -84,7 +84,7 @@ module _ (ed : Edition) (w f coins output : List ℕ) where
 
   -- Completeness of prove: where it answers done with n blocks, the first n blocks of the output are a file that verify accepts.
   pub prove-accepted : (n : ℕ) → proveIn ed w f coins output .answer ≡ done n →
-      verifyIn ed (take (512 * n) (proveIn ed w f coins output .output)) ≡ record { outcome = accepted; reads = readsDue (sheetOf ed w) }
+      verifyIn ed (take (512 * n) (proveIn ed w f coins output .output)) ≡ record { outcome = accepted; reads = readsDue (sheetOf ed w) coins }
   prove-accepted n e =
       let r = done-allowed n e in
       let size : length (fileOf (honestStream ed w f coins)) ≡ 512 * n = file-size (r .0) ∙ ap (λ (m : ℕ). 512 * m) (sym (r .2)) in

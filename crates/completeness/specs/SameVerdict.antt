@@ -9,7 +9,7 @@ use mathlib.Core.Path.{_≡_, refl, sym, ap, _∙_, subst}
 use lib.ListN.{length, getD, take, drop, length-drop, take-append-drop}
 use lib.Seq.{ext-getD, getD-drop, getD-take, length-take-le}
 use Rattle.definition.specs.Block.{streamOf}
-use Rattle.definition.specs.Deciding.{decide, deciding, equalTest, outInDomain, outTest, outTests}
+use Rattle.definition.specs.Deciding.{counted, decide, deciding, equalTest, outInDomain, outTest, outTests}
 use Rattle.definition.specs.Field.{primeField}
 use Rattle.definition.specs.Layout.{Kind, coin, index, laterCount, layout, message, out, readTranscript, wordsDue}
 use Rattle.definition.specs.Lists.{firstTrue}
@@ -58,16 +58,16 @@ module _ (ed : Edition) (file : List ℕ) (passed : reading ed file ≡ accepted
       let bs = map not (sheetRules ed (streamOf file)) in
       true≢false (sym (c .3) ∙ at-place (λ (b : Bool). b ≡ false) bs false (none-of 3 (testOrder ed) bs (omega (arith, rules-length ed (streamOf file), order-count ed)) (sheet-passed .0)) (c .0) (c .2))
 
-  counted : (q : ℕ) → BlocksFault ed file q → ⊥
+  all-blocks : (q : ℕ) → BlocksFault ed file q → ⊥
   unfolding blocksTest
-  counted q p = true≢false (sym (VerifyExactly.blocks-complete ed file whole ruled q p .1) ∙ if-passes 4 _ _ (sheet-passed .1))
+  all-blocks q p = true≢false (sym (VerifyExactly.blocks-complete ed file whole ruled q p .1) ∙ if-passes 4 _ _ (sheet-passed .1))
 
   pub ordered : Ordered ed (streamOf file)
   ordered = record {
     sheet = sheet-passed .0;
     long = VerifyExactly.long ed file whole ruled;
-    full = VerifyExactly.all-due ed file whole ruled counted;
-    kinds = VerifyExactly.kinds-length ed file whole ruled counted;
+    full = VerifyExactly.all-due ed file whole ruled all-blocks;
+    kinds = VerifyExactly.kinds-length ed file whole ruled all-blocks;
   }
 
   -- no fault 7 and no fault 14, where their tests pass
@@ -81,8 +81,8 @@ module _ (ed : Edition) (file : List ℕ) (passed : reading ed file ≡ accepted
   unfolding outTests outTest equalTest
   outside e =
       let p = then-passes _ _ e in (
-        no-faults 7 _ (DomainFault ed (sheetIn ed file) (streamOf file)) (p .0) (VerifyExactly.domain-complete ed file whole ruled counted),
-        no-faults 14 _ (EqualFault ed (sheetIn ed file) (streamOf file)) (p .1) (VerifyExactly.equal-complete ed file whole ruled counted),
+        no-faults 7 _ (DomainFault ed (sheetIn ed file) (streamOf file)) (p .0) (VerifyExactly.domain-complete ed file whole ruled all-blocks),
+        no-faults 14 _ (EqualFault ed (sheetIn ed file) (streamOf file)) (p .1) (VerifyExactly.equal-complete ed file whole ruled all-blocks),
       )
 
 -- a part that is no table
@@ -235,7 +235,7 @@ then-same (refused n q) a b h = refl
 
 -- deciding's verdict on a stream, by its sheet
 decidedBy : Edition → List ℕ → Sheet → Verdict
-decidedBy ed w h = thenVerdict (outTests h (sheetLength ed) (layout h) w) (decide (primeField (h .prime)) (rootOfUnity h) (firstLevel h) (readTranscript h (drop (sheetLength ed) w)))
+decidedBy ed w h = thenVerdict (outTests h (sheetLength ed) (layout h) w) (counted (decide (primeField (h .prime)) (rootOfUnity h) (firstLevel h) (readTranscript h (drop (sheetLength ed) w))))
 
 -- Dependence: the verdicts are equal, outcome and reads.
 pub dependence : (ed : Edition) (x y : List ℕ) → reading ed x ≡ accepted → reading ed y ≡ accepted → SameOutside ed (sheetIn ed x) (streamOf x) (streamOf y) →
@@ -249,6 +249,6 @@ dependence ed x y rx ry same used =
     let ow = ordered ed y ry in
     (λ t. thenVerdict ((rx ∙ sym ry) t) (deciding ed v))
     ∙ ap (thenVerdict (reading ed y)) (then-same (outTests h (sheetLength ed) (layout h) v) _ _ (λ e.
-    decide-rounds ed h v (ov .long) ∙ decided-same ed h v w (beside ed v w ov ow same) (ov .full) used (outside ed x rx e) ∙ sym (decide-rounds ed h w (ov .long)))
-    ∙ ap (λ (o : Outcome). thenVerdict o (decide (primeField (h .prime)) (rootOfUnity h) (firstLevel h) (readTranscript h (drop (sheetLength ed) w)))) (out-same ed v w ov ow same)
+    ap counted (decide-rounds ed h v (ov .long) ∙ decided-same ed h v w (beside ed v w ov ow same) (ov .full) used (outside ed x rx e) ∙ sym (decide-rounds ed h w (ov .long))))
+    ∙ ap (λ (o : Outcome). thenVerdict o (counted (decide (primeField (h .prime)) (rootOfUnity h) (firstLevel h) (readTranscript h (drop (sheetLength ed) w))))) (out-same ed v w ov ow same)
     ∙ ap (decidedBy ed w) (sheet-same ed v w ov ow same))

@@ -24,13 +24,13 @@ use Rattle.completeness.specs.Numbered.{total}
 use Rattle.completeness.specs.Tests.{and-true, none-of}
 
 -- one of the powers of two
-member-range : (f : ℕ → ℕ) (from n x : ℕ) → member x (map f (range from n)) ≡ true → (a : ℕ) × (from ≤ a) × (a < from + n) × (x ≡ f a)
+member-range : (f : ℕ → ℕ) (from n x : ℕ) → member eqb x (map f (range from n)) ≡ true → (a : ℕ) × (from ≤ a) × (a < from + n) × (x ≡ f a)
 unfolding member range
 member-range f from zero x e = absurd (true≢false (sym e))
 member-range f from (suc n) x e = go (eqb x (f from)) refl e (member-range f (suc from) n x)
   where
-    go : (b : Bool) → eqb x (f from) ≡ b → (b || member x (map f (range (suc from) n))) ≡ true →
-        (member x (map f (range (suc from) n)) ≡ true → (a : ℕ) × (suc from ≤ a) × (a < suc from + n) × (x ≡ f a)) →
+    go : (b : Bool) → eqb x (f from) ≡ b → (b || member eqb x (map f (range (suc from) n))) ≡ true →
+        (member eqb x (map f (range (suc from) n)) ≡ true → (a : ℕ) × (suc from ≤ a) × (a < suc from + n) × (x ≡ f a)) →
         (a : ℕ) × (from ≤ a) × (a < from + suc n) × (x ≡ f a)
     go true h k r = (from, omega arith, omega arith, eqb-true x (f from) h)
     go false h k r = let q = r k in (q .0, omega (arith, q .1), omega (arith, q .2), q .3)

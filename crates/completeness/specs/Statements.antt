@@ -6,7 +6,7 @@
 use Prim.Native.Nat.{ℕ, suc, _+_, _-_, _*_, _%_, _^_, _≤_, _<_}
 use native.Mathlib.Omega.{arith}
 use mathlib.Core.Bool.{true, cond}
-use mathlib.Core.List.{List, [], _∷_, _++_, map}
+use mathlib.Core.List.{List, [], _∷_, _++_, map, zipWith}
 use mathlib.Core.Logic.{_↔_}
 use mathlib.Core.Option.{some}
 use mathlib.Core.Path.{_≡_}
@@ -43,13 +43,18 @@ use Rattle.completeness.specs.NonAnticipation
 use Rattle.completeness.specs.Numbered.{Allowed, Copy, Due, Message, Nonzero, Room, answerPoly, coinsOf, combinationCoin, correctedOf, decidingDivisors, degreeOf, divisors, final, finalIndices, foldCoin, functionOf, lengthOf, levelOf, outCoinsOf, outsOf, pairAt, pairsOf, quotientPoly, read, readsDue, replies, roundOf, roundPoly, roundsOf, samplesAt, sentBefore, sheetField, sheetRoot, startOf, streamOn, table, total, vanishingPoly, wordsIn}
 use Rattle.completeness.specs.Premises
 use Rattle.completeness.specs.ProveAccepted
+use Rattle.completeness.specs.Reads
 use Rattle.completeness.specs.RunByNumber
 use Rattle.completeness.specs.StreamByNumber
 
 -- 1. COMPLETENESS. For every sheet without a broken rule, every list of d0 elements and every allowed coin list, verify accepts the prover's blocks, with
--- k_0·t_0 + .. + k_M·t_M reads. One claim over a list of folding numbers and a whole coin list, through all its rounds.
-pub completeness : (ed : Edition) (w f coins : List ℕ) → Allowed ed w f coins → verifyIn ed (fileOf (honestStream ed w f coins)) ≡ record { outcome = accepted; reads = readsDue (sheetOf ed w) }
+-- k_i reads for each different index of level i. One claim over a list of folding numbers and a whole coin list, through all its rounds.
+pub completeness : (ed : Edition) (w f coins : List ℕ) → Allowed ed w f coins → verifyIn ed (fileOf (honestStream ed w f coins)) ≡ record { outcome = accepted; reads = readsDue (sheetOf ed w) coins }
 completeness = Completeness.completeness
+
+-- These are at most k_0·t_0 + .. + k_M·t_M.
+pub reads-at-most : (ed : Edition) (w f coins : List ℕ) → Allowed ed w f coins → readsDue (sheetOf ed w) coins ≤ total (zipWith _*_ (sheetOf ed w .folds) (sheetOf ed w .repetitions))
+reads-at-most = Reads.reads-at-most
 
 -- That file is a list of bytes, 512 for each block that the sheet needs.
 pub file-length : (ed : Edition) (w f coins : List ℕ) → Allowed ed w f coins → length (fileOf (honestStream ed w f coins)) ≡ 512 * blockCount (wordsDue ed (sheetOf ed w))
@@ -60,7 +65,7 @@ file-of-bytes ed w f coins = at-place (λ b. b < 256) (fileOf (honestStream ed w
 
 -- 2. COMPLETENESS OF PROVE. Where prove answers done with n blocks, the first n blocks of its output are a file that verify accepts.
 pub prove-accepted : (ed : Edition) (w f coins output : List ℕ) (n : ℕ) → proveIn ed w f coins output .answer ≡ done n →
-    verifyIn ed (take (512 * n) (proveIn ed w f coins output .output)) ≡ record { outcome = accepted; reads = readsDue (sheetOf ed w) }
+    verifyIn ed (take (512 * n) (proveIn ed w f coins output .output)) ≡ record { outcome = accepted; reads = readsDue (sheetOf ed w) coins }
 prove-accepted = ProveAccepted.prove-accepted
 
 -- It answers done exactly when sheet, coefficients, coins and output pass its tests,
@@ -267,7 +272,7 @@ accepted-short = FileSize.accepted-short
 pub draws-allowed : (v : ℕ) → Allowed edition1 (drawOrder v .value .sheet) (drawOrder v .value .coefficients) (drawOrder v .value .coins)
 draws-allowed = LoadAllowed.draws-allowed
 
-pub draws-accepted : (v : ℕ) → verdictOn (drawOrder v .value) ≡ record { outcome = accepted; reads = readsDue (sheetOf edition1 (drawOrder v .value .sheet)) }
+pub draws-accepted : (v : ℕ) → verdictOn (drawOrder v .value) ≡ record { outcome = accepted; reads = readsDue (sheetOf edition1 (drawOrder v .value .sheet)) (drawOrder v .value .coins) }
 draws-accepted = LoadAllowed.draws-accepted
 
 -- A second out coin that has no draw left becomes the smallest element allowed after the first, y: 1 where y is 0, else 0.
@@ -287,7 +292,7 @@ pub load-refused : loadLines 0 ≡ (114 ∷ 101 ∷ 102 ∷ 117 ∷ 115 ∷ 101 
 load-refused = LoadAllowed.load-refused
 
 -- Every value that the rule of a sheet word permits is among those that the load draws from.
-pub none-missing : (w : List ℕ) (x : ℕ) → permits w x ≡ true → member x candidates ≡ true
+pub none-missing : (w : List ℕ) (x : ℕ) → permits w x ≡ true → member eqb x candidates ≡ true
 none-missing = LoadAllowed.none-missing
 
 -- 12. NO INVERSE FOR ZERO (02, CR 3). The public inverse is none exactly for 0, that is, for each multiple of p;

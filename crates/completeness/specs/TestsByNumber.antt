@@ -8,9 +8,9 @@ use mathlib.Core.Path.{_≡_, refl, sym, ap, _∙_}
 use lib.Dec.{eqb}
 use lib.ListN.{length, getD}
 use borrow.Author.Tests.{eq-eqb, eqb-false, eqb-true, ne-eqb, not-true}
-use Rattle.definition.specs.Domain.{domain, inDomain, inList, point}
+use Rattle.definition.specs.Domain.{domain, inDomain, point}
 use Rattle.definition.specs.Field.{Field, primeField}
-use Rattle.definition.specs.Lists.{range}
+use Rattle.definition.specs.Lists.{member, range}
 use Rattle.definition.specs.Polynomial.{Sample, clash, contradicts}
 use Rattle.definition.specs.Sheet.{Level}
 use Rattle.completeness.specs.Tests.{and-true}
@@ -54,20 +54,20 @@ module _ (p ω : ℕ) where
   F = primeField p
 
   -- the domain's points by number
-  listed : (f : ℕ → ℕ) (from n x : ℕ) → inList F ω x (map f (range from n)) ≡ true → (m : ℕ) × (from ≤ m) × (m < from + n) × (x ≡ f m)
-  unfolding inList range primeField
+  listed : (f : ℕ → ℕ) (from n x : ℕ) → member (F .equal) x (map f (range from n)) ≡ true → (m : ℕ) × (from ≤ m) × (m < from + n) × (x ≡ f m)
+  unfolding member range primeField
   listed f from zero x e = absurd (true≢false (sym e))
   listed f from (suc n) x e =
-      either (eqb x (f from)) (inList F ω x (map f (range (suc from) n))) e
+      either (eqb x (f from)) (member (F .equal) x (map f (range (suc from) n))) e
       (λ h. (from, omega arith, omega arith, eqb-true x (f from) h))
       (λ h. let r = listed f (suc from) n x h in (r .0, omega (arith, r .1), omega (arith, r .2), r .3))
 
-  in-list : (f : ℕ → ℕ) (from n m x : ℕ) → from ≤ m → m < from + n → x ≡ f m → inList F ω x (map f (range from n)) ≡ true
-  unfolding inList range primeField
+  in-list : (f : ℕ → ℕ) (from n m x : ℕ) → from ≤ m → m < from + n → x ≡ f m → member (F .equal) x (map f (range from n)) ≡ true
+  unfolding member range primeField
   in-list f from zero m x l u e = absurd (omega arith)
   in-list f from (suc n) m x l u e = go (decLt from m) (λ h. in-list f (suc from) n m x h (omega arith) e)
     where
-      go : Dec (from < m) → (suc from ≤ m → inList F ω x (map f (range (suc from) n)) ≡ true) → (eqb x (f from) || inList F ω x (map f (range (suc from) n))) ≡ true
+      go : Dec (from < m) → (suc from ≤ m → member (F .equal) x (map f (range (suc from) n)) ≡ true) → (eqb x (f from) || member (F .equal) x (map f (range (suc from) n))) ≡ true
       go (yes h) r = right (eqb x (f from)) _ (r (omega arith))
       go (no h) r = let q : m ≡ from = omega arith in left (eqb x (f from)) _ (eq-eqb x (f from) (e ∙ ap f q))
 

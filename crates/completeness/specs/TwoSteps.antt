@@ -9,7 +9,7 @@ use lib.Dec.{eqb, ltb}
 use lib.ListN.{length, drop}
 use borrow.Author.Tests.{eqb-true, ltb-false}
 use Rattle.definition.specs.Block.{streamOf}
-use Rattle.definition.specs.Deciding.{Function, Place, answers, decide, decideFinal, decideRest, deciding, equalTest, outTest, outTests}
+use Rattle.definition.specs.Deciding.{Decision, Function, Place, answers, counted, decide, decideFinal, decideRest, deciding, equalTest, outTest, outTests}
 use Rattle.definition.specs.Field.{Field}
 use Rattle.definition.specs.Layout.{layout}
 use Rattle.definition.specs.Polynomial.{clash}
@@ -63,9 +63,9 @@ module _ {A : Type 0} (F : Field A) (ω : A) where
   late-rest b f r used (round ρ rest) =
       go (clash F (answers F ω b (f .value) r ρ)) _ _ (let l : 7 ≤ 8 = omega arith in l) (late-rest (ρ .coins .level) _ (ρ .coins .fold) _ rest)
     where
-      go : (c : Bool) (v w : Verdict) → Refuses Late (v .outcome) → Refuses Late (w .outcome) → Refuses Late (cond c v w .outcome)
-      go true v w h k = h
-      go false v w h k = k
+      go : (c : Bool) (x y : Decision) → Refuses Late (x .outcome) → Refuses Late (y .outcome) → Refuses Late (cond c x y .outcome)
+      go true x y h k = h
+      go false x y h k = k
 
 module _ (ed : Edition) (file : List ℕ) where
   early : Refuses Early (reading ed file)
@@ -80,7 +80,7 @@ module _ (ed : Edition) (file : List ℕ) where
       (then-refuses Early (rangeTest h (sheetLength ed) (layout h) w) _ (at-refuses Early 5 _ _ (λ j l. omega arith)) (at-refuses Early 6 _ _ (λ j l. omega arith))))))
 
   late : Refuses Late (deciding ed (streamOf file) .outcome)
-  unfolding deciding outTests outTest equalTest decide
+  unfolding deciding outTests outTest equalTest decide counted
   late =
       let w = streamOf file in
       let h = sheetOf ed w in

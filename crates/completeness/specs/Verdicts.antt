@@ -131,7 +131,7 @@ encode-entry = EncodeExactly.entry
 pub encode-refused : (w f output : List ℕ) (n q : ℕ) → encode w f output .answer ≡ refusal n q → encode w f output .output ≡ output
 encode-refused = EncodeExactly.refused-same
 
--- 5. READS ARE TABLE WORDS USED. A coin of level i leads to k_i places: root m of coin a, for m below k_i, in the table of its own level.
+-- 5. THE READS ARE THE DIFFERENT PLACES USED. A coin of level i leads to k_i places: root m of coin a, for m below k_i, in the table of its own level.
 pub coin-places-count : (ed : Edition) (h : Sheet) (w : List ℕ) (i : ℕ) (js : List ℕ) → length (placesOf (levelOf h i) (functionIn ed h w i .places) js) ≡ length js * levelOf h i .fold
 coin-places-count = Places.coin-places-count
 
@@ -140,8 +140,8 @@ pub coin-places : (ed : Edition) (h : Sheet) (w : List ℕ) (i : ℕ) (js : List
     ≡ record { table = i; number = getD js a 0 + m * shiftCount (levelOf h i) }
 coin-places = Places.coin-places
 
--- The reads go with the outcome: k_i for each coin of level i treated, and none for 1 to 7 and 14.
-pub verify-reads : (ed : Edition) (file : List ℕ) → verifyIn ed file .reads ≡ readsWith (sheetIn ed file) (verifyIn ed file .outcome)
+-- The reads go with the outcome: k_i for each different index of level i among the coins treated, and none for 1 to 7 and 14.
+pub verify-reads : (ed : Edition) (file : List ℕ) → verifyIn ed file .reads ≡ readsWith ed (sheetIn ed file) (streamOf file) (verifyIn ed file .outcome)
 verify-reads = ReadsByNumber.verify-reads
 
 -- DEPENDENCE. Two files that pass reading, with the same words outside the tables and the same table words at every place that deciding uses in the first, get the

@@ -11,7 +11,7 @@ use lib.ListN.{length, getD, drop, length-drop, length-map, List·getD-eq-defaul
 use lib.Seq.{getD-drop}
 use borrow.Author.Tests.{eq-eqb, eqb-false, eqb-true, le-leb, leb-true, ltb-false, ltb-true, ne-eqb, not-true}
 use Rattle.definition.specs.Block.{blockCount, fileBlocks, streamOf, wrongChecks}
-use Rattle.definition.specs.Deciding.{decide, deciding, differences, equalTest, outInDomain, outTest, outTests, repeatedOuts}
+use Rattle.definition.specs.Deciding.{counted, decide, deciding, differences, equalTest, outInDomain, outTest, outTests, repeatedOuts}
 use Rattle.definition.specs.Domain.{foldAt, shiftPoint}
 use Rattle.definition.specs.Field.{Field, primeField}
 use Rattle.definition.specs.Layout.{Kind, layout, limit, message, readTranscript, wordsDue}
@@ -118,7 +118,7 @@ module _ (ed : Edition) (file : List ℕ) where
   -- the outcome as one row of tests
   in-order : verifyIn ed file .outcome
       ≡ (lengthTest file then checkTest file then sheetTest ed w then blocksTest (wordsDue ed h) (blocksIn file) then rangeTest h (sheetLength ed) (layout h) w then fillTest (wordsDue ed h) w then outTest h (sheetLength ed) (layout h) w then equalTest h (sheetLength ed) (layout h) w then decision)
-  unfolding verifyIn reading streamTests bodyTests deciding outTests wordsDue
+  unfolding verifyIn reading streamTests bodyTests deciding outTests wordsDue counted
   in-order =
       then-outcome (reading ed file) (deciding ed w)
       ∙ ap (λ (o : Outcome). reading ed file then o) (then-outcome (outTests h (sheetLength ed) (layout h) w) _ ∙ then-assoc (outTest h (sheetLength ed) (layout h) w) _ _)

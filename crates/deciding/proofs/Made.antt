@@ -11,9 +11,9 @@ use Rattle.deciding.specs.declared.Stand.{Stand}
 use Rattle.deciding.specs.Stand.{coefficientsOf, combinationOf, finalsOf, firstFunction, firstStand, foldCoinOf, foldOf, nextFold, nextFunction, nextStand, outsOf, repetitionsOf, repliesOf, shiftsOf}
 
 pub first-place : (from : ℕ) (h : Sheet) {front n d : ℕ} → front ≡ from → n ≡ h .size → d ≡ h .degree →
-    _≡_ {A = Stand} (record { level = 0; size = n; degree = d; table = front; at = front + n + 1; reads = 0 }) (firstStand from h)
+    _≡_ {A = Stand} (record { level = 0; size = n; degree = d; table = front; at = front + n + 1 }) (firstStand from h)
 unfolding firstStand
-first-place from h ef en ed = λ i. record { level = 0; size = en i; degree = ed i; table = ef i; at = ef i + en i + 1; reads = 0 }
+first-place from h ef en ed = λ i. record { level = 0; size = en i; degree = ed i; table = ef i; at = ef i + en i + 1 }
 
 pub first-way : (h : Sheet) {n k : ℕ} → n ≡ h .size → k ≡ getD (h .folds) 0 0 → _≡_ {A = Function} (record { scale = 1; step = n / k; words = 0 }) (firstFunction h)
 unfolding firstFunction
@@ -27,7 +27,6 @@ module _ (h : Sheet) (st : Stand) where
         degree = st .degree / k;
         table = st .at;
         at = st .at + st .size / 2 + s + s + 2 + t;
-        reads = st .reads + t * k;
       }) (nextStand h st)
   unfolding nextStand
   next-place ek es et = λ i. record {
@@ -36,17 +35,12 @@ module _ (h : Sheet) (st : Stand) where
     degree = st .degree / ek i;
     table = st .at;
     at = st .at + st .size / 2 + es i + es i + 2 + et i;
-    reads = st .reads + et i * ek i;
   }
 
   pub next-way : (scale words : ℕ) {k : ℕ} → k ≡ nextFold h st →
       _≡_ {A = Function} (record { scale = 2 * scale; step = st .size / 2 / k; words = words }) (nextFunction h st scale words)
   unfolding nextFunction
   next-way scale words ek = λ i. record { scale = 2 * scale; step = st .size / 2 / ek i; words = words }
-
-  -- the reads of a level, all its coins treated
-  pub level-reads : {k t : ℕ} → k ≡ foldOf h st → t ≡ repetitionsOf h st → t * k ≡ repetitionsOf h st * foldOf h st
-  level-reads ek et = λ i. et i * ek i
 
 module _ (h : Sheet) (w : List ℕ) (st : Stand) where
   pub coin-part : {s : ℕ} → s ≡ h .outCoins → getD w (st .at + st .size / 2 + s + s + 1) 0 ≡ foldCoinOf h w st

@@ -1,13 +1,14 @@
 -- What the functions hand to each other, over plain numbers and lists: what a call requires, and what it gives, in the words of the stream.
-use Prim.Native.Nat.{ℕ, _+_, _/_, _≤_, _<_}
+use Prim.Native.Nat.{ℕ, _+_, _*_, _/_, _≤_, _<_}
 use native.Mathlib.Omega.{arith}
 use mathlib.Core.Path.{_≡_, refl, sym, ap, _∙_, subst}
 use mathlib.Core.List.{List, zipWith}
 use mathlib.Core.Option.{Option, none, some}
-use lib.ListN.{length, getD, drop}
+use lib.ListN.{length, getD, take, drop}
+use lib.Seq.{take-all, take-take}
 use Rattle.completeness.specs.Numbered.{roundsOf}
 use Rattle.completeness.specs.Tests.{at-passes, then-passes}
-use Rattle.definition.specs.Deciding.{decide, deciding, outInDomain, outTest, outTests}
+use Rattle.definition.specs.Deciding.{counted, decide, deciding, outInDomain, outTest, outTests}
 use Rattle.definition.specs.Field.{fieldOf, primeField}
 use Rattle.definition.specs.Layout.{layout, readTranscript, wordsDue}
 use Rattle.definition.specs.Lists.{firstTrue}
@@ -32,11 +33,14 @@ use Rattle.fractions.specs.Values.{Below, Clear, Fits}
 use Rattle.rounds.specs.RoundLaws.{Answered, Compared, Serves}
 use Rattle.deciding.specs.declared.Stand.{Stand}
 use Rattle.algebra.specs.Different.{Apart}
+use Rattle.algebra.specs.ListFacts.{All, all-map}
+use Rattle.deciding.proofs.Made.{shifts-part}
 use Rattle.deciding.specs.Divisors.{samples-apart}
 use Rattle.deciding.specs.First.{first-room, first-step, range-after, served-first, shaped, sheet-there, standing-first, written}
-use Rattle.deciding.specs.Inside.{standing-next}
+use Rattle.deciding.specs.Inside.{few-coins, standing-next, words-there}
+use Rattle.deciding.specs.Reads.{all-below, all-take, reads-most}
 use Rattle.deciding.specs.Outs.{outs-first}
-use Rattle.deciding.specs.Stand.{afterFold, coefficientsOf, combinationOf, finalsOf, firstFunction, firstStand, foldCoinOf, foldOf, kindsAfterFold, nextDegree, nextFold, nextFunction, nextStand, outsOf, repetitionsOf, repliesOf, shiftsOf, tableOf}
+use Rattle.deciding.specs.Stand.{afterFold, coefficientsOf, combinationOf, finalsOf, firstFunction, firstStand, foldCoinOf, foldOf, kindsAfterFold, nextDegree, nextFold, nextFunction, nextStand, outsOf, readsWith, repetitionsOf, repliesOf, shiftsAt, shiftsOf, tableOf}
 use Rattle.deciding.specs.Standing.{Decided, Differing, FinalInside, RoundInside, Served, Shaped, Sifted, Standing, Written}
 use Rattle.deciding.specs.Steps.{clash-step, next-step, part-length, served-next}
 
@@ -99,6 +103,43 @@ module _ (h : Sheet) (w : List ℕ) {points answers factors : ℕ} (st : Stand) 
         (subst (λ (n : ℕ). Below n finals) (sym (ok .step)) (subst (λ (js : List ℕ). Below (st .size / foldOf h st) js) (sym ef) (i .below)), omega (arith, nf, i .numbers .few)),
       )
 
+-- ---- the coins of a round, or some of the final ones, are there to be counted
+
+few-below : {n : ℕ} (js : List ℕ) → n ≤ 2048 → Below n js → All (λ j. j < 2048) js
+few-below {n} js most below = all-map {Q = λ j. j < 2048} js (all-below n js below) (λ j l. omega arith)
+
+module _ (ed : Edition) (h : Sheet) (w : List ℕ) (st : Stand) where
+  pub shifts-counted : RoundInside ed h w st → {s t : ℕ} → s ≡ h .outCoins → t ≡ repetitionsOf h st →
+      (st .at + st .size / 2 + s + s + 2 + t ≤ length w) × ((t ≤ 48) × All (λ j. j < 2048) (take t (drop (st .at + st .size / 2 + s + s + 2) w)))
+  shifts-counted i es et = (
+    omega (arith, es, et, i .there),
+    (omega (arith, et, i .numbers .few), subst (All (λ j. j < 2048)) (sym (shifts-part h w st es et)) (few-below (shiftsOf h w st) (i .numbers .shifts) (i .below))),
+  )
+
+  module _ (i : FinalInside ed h w st) (count : ℕ) {k : ℕ} (ek : k ≡ foldOf h st) (few : count ≤ repetitionsOf h st) where
+    pub finals-some : take count (drop (st .at + st .degree / k) w) ≡ take count (finalsOf h w st)
+    unfolding finalsOf
+    finals-some =
+        ap (λ (n : ℕ). take count (drop (st .at + st .degree / n) w)) ek ∙ sym (take-take count (repetitionsOf h st) (drop (st .at + nextDegree h st) w) few)
+
+    pub finals-there : st .at + st .degree / k + count ≤ length w
+    finals-there = let e = ap (λ (n : ℕ). st .degree / n) ek in omega (arith, e, few, i .there)
+
+    pub finals-counted : (st .at + st .degree / k + count ≤ length w) × ((count ≤ 48) × All (λ j. j < 2048) (take count (drop (st .at + st .degree / k) w)))
+    finals-counted = (
+      finals-there,
+      (
+        omega (arith, few, i .numbers .few),
+        subst (All (λ j. j < 2048)) (sym finals-some) (all-take (λ j. j < 2048) count (finalsOf h w st) (few-below (finalsOf h w st) (i .numbers .shifts) (i .below))),
+      ),
+    )
+
+  pub finals-whole : FinalInside ed h w st → {t : ℕ} → t ≡ repetitionsOf h st → take t (finalsOf h w st) ≡ finalsOf h w st
+  unfolding finalsOf
+  finals-whole i {t} et =
+      let long = part-length w (st .at + nextDegree h st) (repetitionsOf h st) (i .there) in
+      take-all t (take (repetitionsOf h st) (drop (st .at + nextDegree h st) w)) (omega (arith, et, long))
+
 -- ---- answers
 
 pub room-most : (n t : ℕ) (g : Gathered) → n ≡ 50 → t ≤ 50 → Room n t g → Room 50 50 g
@@ -123,13 +164,23 @@ pub level-next : (h : Sheet) (st next : Stand) → next ≡ nextStand h st → n
 unfolding nextStand
 level-next h st next e = ap (λ (x : Stand). x .level) e
 
-module _ (h : Sheet) (w pw ac vg : List ℕ) (st : Stand) (r : ℕ) (how : Function) (ok : Standing h w (length pw) (length ac) (length vg) st how) (more : st .level < roundsOf h)
+module _ (h : Sheet) (w pw ac vg : List ℕ) (st : Stand) (reads r : ℕ) (how : Function) (ok : Standing h w (length pw) (length ac) (length vg) st how) (more : st .level < roundsOf h)
     (next : Stand) (en : next ≡ nextStand h st) (g : Gathered) where
-  pub clash-ready : (px py : List ℕ) → g ≡ Clash → Sifted h w pw ac vg st r how (kept g px py) →
-      Decided h w pw ac vg st r how (record { outcome = refused 8 (next .level); reads = next .reads })
-  clash-ready px py e a =
-      subst (λ (x : Stand). Decided h w pw ac vg st r how (record { outcome = refused 8 (x .level); reads = x .reads })) (sym en)
-      (clash-step h w pw ac vg st r how ok more (subst (Sifted h w pw ac vg st r how) (sym (kept-clash px py e refl)) a))
+  pub clash-ready : (px py : List ℕ) (now : ℕ) → now ≡ readsWith h st reads (shiftsOf h w st) → g ≡ Clash → Sifted h w pw ac vg st r how (kept g px py) →
+      Decided h w pw ac vg st reads r how (record { outcome = refused 8 (next .level); reads = now })
+  clash-ready px py now ew e a =
+      subst (λ (x : Stand). Decided h w pw ac vg st reads r how (record { outcome = refused 8 (x .level); reads = now })) (sym en)
+      (subst (λ (n : ℕ). Decided h w pw ac vg st reads r how (record { outcome = refused 8 (nextStand h st .level); reads = n })) (sym ew)
+      (clash-step h w pw ac vg st reads r how ok more (subst (Sifted h w pw ac vg st r how) (sym (kept-clash px py e refl)) a)))
+
+  -- and there are not too many reads to count
+  pub most-next : (now : ℕ) → now ≡ readsWith h st reads (shiftsOf h w st) → reads ≤ 768 * st .level → now ≤ 768 * next .level
+  unfolding readsWith shiftsOf
+  most-next now ew few =
+      let js = take (repetitionsOf h st) (drop (shiftsAt h st) w) in
+      let long = part-length w (shiftsAt h st) (repetitionsOf h st) (words-there h w st (ok .place) more) in
+      let small = ok .place .sheet .folds (st .level) (ok .place .level) .small in
+      omega (arith, ew, few, level-next h st next en, reads-most js (foldOf h st) (omega (arith, long, few-coins h w st (ok .place))) small)
 
   -- the points of the samples are different
   pub apart-ready : (px py : List ℕ) (j : ℕ) → g ≡ From j → Sifted h w pw ac vg st r how (kept g px py) → length py ≡ length px → Served h w pw ac vg st how →
@@ -150,14 +201,16 @@ module _ (h : Sheet) (w pw ac vg : List ℕ) (st : Stand) (r : ℕ) (how : Funct
       subst (λ (x : Stand). Standing h w (length pw) (length pa) (length pv) x how′) (sym en)
           (subst (Standing h w (length pw) (length pa) (length pv) (nextStand h st)) (sym eh) after),
       subst (λ (x : Stand). Served h w pw pa pv x how′) (sym en)
-          (subst (Served h w pw pa pv (nextStand h st)) (sym eh) (served-next h w pw ac vg st r how ok more px py pa pv j words after found (few .0) given ly s)),
+          (subst (Served h w pw pa pv (nextStand h st)) (sym eh) (served-next h w pw ac vg st reads r how ok more px py pa pv j words after found (few .0) given ly s)),
     )
 
-    pub next-decided : {v : Verdict} {r′ : ℕ} → r′ ≡ foldCoinOf h w st → Decided h w pw pa pv next r′ how′ v → Decided h w pw ac vg st r how v
-    next-decided {v} {r′} er d =
-        next-step h w pw ac vg st r how ok more px py pa pv j words after found (few .0) given
-        (subst (λ (y : ℕ). Decided h w pw pa pv (nextStand h st) y (nextFunction h st (how .scale) words) v) er
-        (subst (λ (x : Function). Decided h w pw pa pv (nextStand h st) r′ x v) eh (subst (λ (x : Stand). Decided h w pw pa pv x r′ how′ v) en d)))
+    pub next-decided : {v : Verdict} {now r′ : ℕ} → now ≡ readsWith h st reads (shiftsOf h w st) → r′ ≡ foldCoinOf h w st → Decided h w pw pa pv next now r′ how′ v →
+        Decided h w pw ac vg st reads r how v
+    next-decided {v} {now} {r′} ew er d =
+        next-step h w pw ac vg st reads r how ok more px py pa pv j words after found (few .0) given
+        (subst (λ (n : ℕ). Decided h w pw pa pv (nextStand h st) n (foldCoinOf h w st) (nextFunction h st (how .scale) words) v) ew
+        (subst (λ (y : ℕ). Decided h w pw pa pv (nextStand h st) now y (nextFunction h st (how .scale) words) v) er
+        (subst (λ (x : Function). Decided h w pw pa pv (nextStand h st) now r′ x v) eh (subst (λ (x : Stand). Decided h w pw pa pv x now r′ how′ v) en d))))
 
 -- ---- before round 1
 
@@ -210,18 +263,18 @@ module _ (ed : Edition) (w : List ℕ) (passed : sheetTest ed w ≡ accepted) (d
           (served-first from h w pw ac vg points (sheet-written .prime) (outs-first from h w words-from ∙ first-outside))),
     )
 
-    pub first-decided : {v : Verdict} {r : ℕ} → r ≡ getD w (sheetLength ed + getD w 1 0) 0 → Decided (sheetOf ed w) w pw ac vg st r how v →
-        v ≡ decide (primeField (sheetOf ed w .prime)) (rootOfUnity (sheetOf ed w)) (firstLevel (sheetOf ed w)) (readTranscript (sheetOf ed w) (drop (sheetLength ed) w))
+    pub first-decided : {v : Verdict} {r : ℕ} → r ≡ getD w (sheetLength ed + getD w 1 0) 0 → Decided (sheetOf ed w) w pw ac vg st 0 r how v →
+        v ≡ counted (decide (primeField (sheetOf ed w .prime)) (rootOfUnity (sheetOf ed w)) (firstLevel (sheetOf ed w)) (readTranscript (sheetOf ed w) (drop (sheetLength ed) w)))
     first-decided {v} {r} er d =
         first-step from h w pw ac vg points (sheet-written .prime)
-        (subst (λ (y : ℕ). Decided h w pw ac vg (firstStand from h) y (firstFunction h) v) (er ∙ ap (λ (n : ℕ). getD w (from + n) 0) (sheet-written .size))
-        (subst (λ (x : Function). Decided h w pw ac vg (firstStand from h) r x v) eh (subst (λ (x : Stand). Decided h w pw ac vg x r how v) es d)))
+        (subst (λ (y : ℕ). Decided h w pw ac vg (firstStand from h) 0 y (firstFunction h) v) (er ∙ ap (λ (n : ℕ). getD w (from + n) 0) (sheet-written .size))
+        (subst (λ (x : Function). Decided h w pw ac vg (firstStand from h) 0 r x v) eh (subst (λ (x : Stand). Decided h w pw ac vg x 0 r how v) es d)))
 
 -- ---- the tests of out coins, then the rest
 
 module _ (ed : Edition) (w : List ℕ) (r : Tested) (tested : outcomeOf r ≡ outTests (sheetOf ed w) (sheetLength ed) (layout (sheetOf ed w)) w) where
   abbrev decided : Verdict
-  decided = decide (primeField (sheetOf ed w .prime)) (rootOfUnity (sheetOf ed w)) (firstLevel (sheetOf ed w)) (readTranscript (sheetOf ed w) (drop (sheetLength ed) w))
+  decided = counted (decide (primeField (sheetOf ed w .prime)) (rootOfUnity (sheetOf ed w)) (firstLevel (sheetOf ed w)) (readTranscript (sheetOf ed w) (drop (sheetLength ed) w)))
 
   by-outcome : (o : Outcome) → outcomeOf r ≡ o → deciding ed w ≡ thenVerdict o decided
   unfolding deciding

@@ -11,10 +11,10 @@ use Rattle.completeness.specs.LevelsByNumber.{undivided}
 use Rattle.completeness.specs.Numbered.{roundsOf}
 use Rattle.completeness.specs.SheetRules.{fold-words, folding-large, folding-log, folding-small, long-enough, rounds-most}
 use Rattle.completeness.specs.Tests.{at-none, at-passes}
-use Rattle.definition.specs.Deciding.{decide, decideRest, readsOf, tableFunction}
+use Rattle.definition.specs.Deciding.{counted, decide, decideRest, readsOf, tableFunction}
 use Rattle.definition.specs.Field.{Field, fieldOf, primeField, primeOf}
 use Rattle.definition.specs.Layout.{Kind, coin, layout, message, readRest, readTranscript, restLayout, wordsDue}
-use Rattle.definition.specs.Lists.{firstTrue}
+use Rattle.definition.specs.Lists.{different, firstTrue}
 use Rattle.definition.specs.Reading.{outOfRange, rangeTest, sheetTest}
 use Rattle.definition.specs.Sheet.{Edition, Level, Sheet, firstLevel, foldWords, laterLevels, rootOfUnity, sheetLength, sheetOf, shiftCount}
 use Rattle.definition.specs.Verdict.{Verdict, accepted}
@@ -132,7 +132,7 @@ module _ (from : ℕ) (h : Sheet) where
           table = omega (arith, first-room);
           here = first-room;
           words = first-begins;
-          reads = omega arith;
+          points = x .law .small;
         }
 
         first-fits : Fits (h .size) (h .size) (firstFunction h) (getD (h .folds) 0 0)
@@ -186,15 +186,15 @@ module _ (from : ℕ) (h : Sheet) where
       }
 
       -- the definition's deciding is that from the first place on, with fold coin 0
-      pub first-step : {v : Verdict} → h .prime ≡ primeOf (getD w 0 0) → Decided h w pw ac vg (firstStand from h) (getD w (from + h .size) 0) (firstFunction h) v →
-          v ≡ decide (primeField (h .prime)) (rootOfUnity h) (firstLevel h) (readTranscript h (drop from w))
-      unfolding decide readTranscript fieldOf tableFunction restOf firstStand tableOf readsOf
+      pub first-step : {v : Verdict} → h .prime ≡ primeOf (getD w 0 0) → Decided h w pw ac vg (firstStand from h) 0 (getD w (from + h .size) 0) (firstFunction h) v →
+          v ≡ counted (decide (primeField (h .prime)) (rootOfUnity h) (firstLevel h) (readTranscript h (drop from w)))
+      unfolding decide readTranscript fieldOf tableFunction restOf firstStand tableOf readsOf different
       first-step prime d =
           let ω = rootOfUnity h in
           let F = fieldOf (getD w 0 0) in
           let n = h .size in
           let first : Stand = firstStand from h in
-          d ω _ [] first-serves refl
-          ∙ (λ i. decideRest F ω (sym first-level i) (tableFunction F ω (sym first-level i) (take n (drop from w))) (sym first-fold i) []
-          (readRest (h .outCoins) (sym first-level i) (sym later-levels i) (sym first-words i)))
-          ∙ (λ i. decide (primeField (sym prime i)) ω (firstLevel h) (readTranscript h (drop from w)))
+          d ω _ [] first-serves refl tt
+          ∙ (λ i. counted (decideRest F ω (sym first-level i) (tableFunction F ω (sym first-level i) (take n (drop from w))) (sym first-fold i) []
+          (readRest (h .outCoins) (sym first-level i) (sym later-levels i) (sym first-words i))))
+          ∙ (λ i. counted (decide (primeField (sym prime i)) ω (firstLevel h) (readTranscript h (drop from w))))

@@ -1,6 +1,6 @@
 -- The words of the next round, or of the final comparison, are there and in range; and what is known at a place is known at the next.
 use Prim.Native.Nat.{ℕ, _+_, _*_, _/_, _^_, _≤_, _<_}
-use native.Mathlib.Nat.{mul-comm, mul-le-mul-right, pow-suc}
+use native.Mathlib.Nat.{div-mul-le-self, mul-comm, mul-le-mul-left, pow-suc}
 use native.Mathlib.Numerals.{add-one}
 use native.Mathlib.Omega.{arith}
 use mathlib.Core.Path.{_≡_, refl, sym, ap, _∙_, subst}
@@ -44,9 +44,9 @@ shifts-below p s b l w h =
 drop-two : (l : List ℕ) → drop 1 (drop 1 l) ≡ drop 2 l
 drop-two l = drop-drop 1 1 l
 
--- a level's reads are at most 48·16
-pub reads-most : (t k : ℕ) → t ≤ 48 → k ≤ 16 → t * k ≤ 768
-reads-most t k ht hk = omega (arith, mul-le-mul-right k ht)
+-- there are at most 2,048 shift points, since k is 2 at least
+shifts-most : (n k : ℕ) → n ≤ 4096 → 2 ≤ k → n / k ≤ 2048
+shifts-most n k h two = omega (arith, mul-le-mul-left (n / k) two, div-mul-le-self n k)
 
 module _ (h : Sheet) (w : List ℕ) (st : Stand) (ok : Placed h w st) where
   paired : Paired h
@@ -57,9 +57,6 @@ module _ (h : Sheet) (w : List ℕ) (st : Stand) (ok : Placed h w st) where
 
   pub few-coins : repetitionsOf h st ≤ 48
   few-coins = ok .sheet .law .times (st .level) (ok .level)
-
-  few-reads : repetitionsOf h st * foldOf h st ≤ 768
-  few-reads = reads-most (repetitionsOf h st) (foldOf h st) few-coins (folding .small)
 
   pub scale-small : (scale : ℕ) → scale ≡ 2 ^ st .level → scale ≤ 32
   scale-small scale e = let l : st .level ≤ 5 = omega (arith, ok .level, ok .sheet .rounds) in omega (arith, e, pow-mono l)
@@ -75,8 +72,7 @@ module _ (h : Sheet) (w : List ℕ) (st : Stand) (ok : Placed h w st) where
     large = folding .large;
     small = folding .small;
     few = few-coins;
-    fewer = few-reads;
-    reads = omega (arith, ok .reads, ok .level, ok .sheet .rounds);
+    shifts = shifts-most (st .size) (foldOf h st) (ok .points) (folding .large);
   }
 
   module _ (more : st .level < roundsOf h) where
@@ -109,7 +105,7 @@ module _ (h : Sheet) (w : List ℕ) (st : Stand) (ok : Placed h w st) where
         subst (λ (l : List ℕ). Begins (h .prime) ks′ l) (drop-drop (n + (s + (s + (2 + t)))) (st .at) w ∙ ap (λ (m : ℕ). drop m w) e)
         (begins-after (h .prime) (n + (s + (s + (2 + t)))) ks ks′ (drop (st .at) w) (round-length s (levelOf h st) (levelOf h (nextStand h st))) whole)
 
-    indices-below : Below (st .size / foldOf h st) (shiftsOf h w st)
+    pub indices-below : Below (st .size / foldOf h st) (shiftsOf h w st)
     unfolding levelOf nextStand shiftCount shiftsOf
     indices-below =
         let p = h .prime in
@@ -157,19 +153,18 @@ module _ (h : Sheet) (w : List ℕ) (st : Stand) (ok : Placed h w st) (end : st 
         length-replicate (repetitionsOf h st) (index (st .size / foldOf h st)),
       )
 
-  pub final-inside : (ed : Edition) → Written ed h w → FinalInside ed h w st
+  pub finals-below : Below (st .size / foldOf h st) (finalsOf h w st)
   unfolding finalsOf
-  final-inside ed v =
+  finals-below =
       let d = nextDegree h st in
       let t = repetitionsOf h st in
       let c = st .size / foldOf h st in
       let ks = replicate d message in
-      record {
-        numbers = numbers h w st ok ed v;
-        there = final-there;
-        below = subst (λ (js : List ℕ). Below c js) (ap (take t) (drop-drop d (st .at) w))
-            (run-below (h .prime) t c (drop d (drop (st .at) w)) (begins-after (h .prime) d ks (replicate t (index c)) (drop (st .at) w) (length-replicate d message) last-whole));
-      }
+      subst (λ (js : List ℕ). Below c js) (ap (take t) (drop-drop d (st .at) w))
+      (run-below (h .prime) t c (drop d (drop (st .at) w)) (begins-after (h .prime) d ks (replicate t (index c)) (drop (st .at) w) (length-replicate d message) last-whole))
+
+  pub final-inside : (ed : Edition) → Written ed h w → FinalInside ed h w st
+  final-inside ed v = record { numbers = numbers h w st ok ed v; there = final-there; below = finals-below }
 
 -- n_i is n0 over 2^i, of which at every level k_i is a part
 module _ (h : Sheet) (x : Shaped h) (i n : ℕ) (size : n ≡ h .size / 2 ^ i) where
@@ -221,7 +216,7 @@ placed-next h w st ok more = record {
   table = omega (arith, words-there h w st ok more);
   here = words-there h w st ok more;
   words = rest-begins h w st ok more;
-  reads = omega (arith, ok .reads, few-reads h w st ok);
+  points = omega (arith, ok .points);
 }
 
 pub standing-next : (h : Sheet) (w : List ℕ) {points answers factors : ℕ} (st : Stand) (how : Function) → Standing h w points answers factors st how →

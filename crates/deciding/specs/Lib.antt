@@ -3,6 +3,7 @@ pub mod Stand
 pub mod Words
 pub mod Standing
 pub mod Inside
+pub mod Reads
 pub mod Divisors
 pub mod Steps
 pub mod First

@@ -2,10 +2,11 @@
 use Prim.Native.Nat.{ℕ, _+_, _*_, _/_}
 use mathlib.Core.List.{List, zipWith}
 use mathlib.Core.Option.{Option}
-use lib.ListN.{getD, take, drop}
+use lib.Dec.{eqb}
+use lib.ListN.{length, getD, take, drop}
 use Rattle.definition.specs.Deciding.{outInDomain}
 use Rattle.definition.specs.Layout.{Kind, readRest, restLayout}
-use Rattle.definition.specs.Lists.{firstTrue}
+use Rattle.definition.specs.Lists.{different, firstTrue}
 use Rattle.definition.specs.Sheet.{Level, Sheet, firstLevel, laterLevels, levelsFrom}
 use Rattle.definition.specs.Transcript.{Round, Rest}
 use Rattle.fractions.specs.declared.Function.{Function}
@@ -60,7 +61,6 @@ nextStand h st = record {
   degree = nextDegree h st;
   table = st .at;
   at = shiftsAt h st + repetitionsOf h st;
-  reads = st .reads + repetitionsOf h st * foldOf h st;
 }
 
 -- how the next level's function is worked out, where this level's has the scale, with so many words of coefficients
@@ -78,7 +78,6 @@ firstStand from h = record {
   degree = h .degree;
   table = from;
   at = afterFold from h;
-  reads = 0;
 }
 
 -- the kinds of all words after fold coin 0
@@ -128,6 +127,10 @@ coefficientsOf h w st = take (nextDegree h st) (drop (st .at) w)
 
 unfoldable pub finalsOf : Sheet → List ℕ → Stand → List ℕ
 finalsOf h w st = take (repetitionsOf h st) (drop (st .at + nextDegree h st) w)
+
+-- the reads with those of some of the level's coins: k for each different index
+unfoldable pub readsWith : Sheet → Stand → ℕ → List ℕ → ℕ
+readsWith h st reads js = reads + length (different eqb js) * foldOf h st
 
 -- the transcript from here on
 unfoldable pub restOf : Sheet → List ℕ → Stand → Rest ℕ

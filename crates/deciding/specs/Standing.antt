@@ -4,9 +4,10 @@ use mathlib.Core.Path.{_≡_}
 use mathlib.Core.List.{List}
 use mathlib.Core.Option.{Option, none}
 use lib.ListN.{length, getD, drop}
+use Rattle.algebra.specs.ListFacts.{All}
 use Rattle.completeness.specs.Lawful.{Lawful}
 use Rattle.completeness.specs.Numbered.{roundsOf}
-use Rattle.definition.specs.Deciding.{Place, decideRest, ownPlace, readsOf}
+use Rattle.definition.specs.Deciding.{Place, counted, decideRest, ownPlace, readsOf}
 use Rattle.definition.specs.Field.{fieldOf, primeOf}
 use Rattle.definition.specs.Polynomial.{Sample}
 use Rattle.definition.specs.Sheet.{Edition, Sheet, foldWords, rootOfUnity, sheetLength}
@@ -43,15 +44,14 @@ pub record Written (ed : Edition) (h : Sheet) (w : List ℕ) : Type 0 where
   pub times : (i : ℕ) → i ≤ roundsOf h → getD w (6 + i) 0 ≡ getD (h .repetitions) i 0
   pub folds : (i : ℕ) → i ≤ roundsOf h → getD (foldWords ed w) i 0 ≡ getD (h .folds) i 0
 
--- At a place: the level is one of the sheet's; its table is in the words; the words still to come are there, each in range; and there are not too many reads
--- to count.
+-- At a place: the level is one of the sheet's; its table, which has at most 4,096 words, is in the words; and the words still to come are there, each in range.
 pub record Placed (h : Sheet) (w : List ℕ) (st : Stand) : Type 0 where
   pub sheet : Shaped h
   pub level : st .level ≤ roundsOf h
   pub table : st .table + st .size ≤ length w
   pub here : st .at ≤ length w
   pub words : Begins (h .prime) (kindsOf h st) (drop (st .at) w)
-  pub reads : st .reads ≤ 768 * st .level
+  pub points : st .size ≤ 4096
 
 -- What the code needs of a level's numbers: where they stand in the words, and how large they are.
 pub record Numbers (ed : Edition) (h : Sheet) (w : List ℕ) (st : Stand) : Type 0 where
@@ -64,8 +64,7 @@ pub record Numbers (ed : Edition) (h : Sheet) (w : List ℕ) (st : Stand) : Type
   pub large : 2 ≤ foldOf h st
   pub small : foldOf h st ≤ 16
   pub few : repetitionsOf h st ≤ 48
-  pub fewer : repetitionsOf h st * foldOf h st ≤ 768
-  pub reads : st .reads ≤ 8192
+  pub shifts : st .size / foldOf h st ≤ 2048
 
 -- The next round's words are there, and its shift indices are below the number of shift points.
 pub record RoundInside (ed : Edition) (h : Sheet) (w : List ℕ) (st : Stand) : Type 0 where
@@ -105,12 +104,13 @@ pub record Served (h : Sheet) (w pw ac vg : List ℕ) (st : Stand) (how : Functi
   pub clear : Clear (getD w 0 0) pw (st .size) vg how
   pub outside : outsFrom h w st ≡ none
 
--- v is the definition's verdict from the place on with fold coin r, for every ω and function that the words in hand are those of, and all places read with as
--- many reads
-abbrev pub Decided : Sheet → List ℕ → List ℕ → List ℕ → List ℕ → Stand → ℕ → Function → Verdict → Type 0
-Decided h w pw ac vg st r how v =
-    (ω : ℕ) (f : ℕ → ℕ) (used : List Place) → Serves (getD w 0 0) ω (levelOf h st) f pw (tableOf w st) ac vg how (foldOf h st) → st .reads ≡ readsOf used →
-    v ≡ decideRest (fieldOf (getD w 0 0)) ω (levelOf h st) (record { value = f; places = ownPlace (levelOf h st) }) r used (restOf h w st)
+-- v is the definition's verdict from the place on with fold coin r, for every ω and function that the words in hand are those of, and all places in tables of
+-- levels before with as many reads
+abbrev pub Decided : Sheet → List ℕ → List ℕ → List ℕ → List ℕ → Stand → ℕ → ℕ → Function → Verdict → Type 0
+Decided h w pw ac vg st reads r how v =
+    (ω : ℕ) (f : ℕ → ℕ) (used : List Place) → Serves (getD w 0 0) ω (levelOf h st) f pw (tableOf w st) ac vg how (foldOf h st) →
+    reads ≡ readsOf used → All (λ p. p .table < st .level) used →
+    v ≡ counted (decideRest (fieldOf (getD w 0 0)) ω (levelOf h st) (record { value = f; places = ownPlace (levelOf h st) }) r used (restOf h w st))
 
 -- g is G of the next round, for every ω and function that the words in hand are those of
 abbrev pub Sifted : Sheet → List ℕ → List ℕ → List ℕ → List ℕ → Stand → ℕ → Function → Option (List (Sample ℕ)) → Type 0

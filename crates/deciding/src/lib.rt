@@ -7,11 +7,12 @@ use outcome::Verdict;
 use samples::Gathered;
 ghost use mathlib.Core.Path.{_≡_};
 ghost use Prim.Native.Nat.{_+_, _*_, _/_, _≤_, _<_};
-ghost use lib.ListN.{length, getD, drop};
-ghost use Rattle.definition.specs.Deciding.{decide as decideBy, deciding as decidingOf, outTest};
+ghost use lib.ListN.{length, getD, take, drop};
+ghost use Rattle.definition.specs.Deciding.{counted, decide as decideBy, deciding as decidingOf, outTest};
 ghost use Rattle.definition.specs.Field.{primeField, fieldOf};
 ghost use Rattle.definition.specs.Polynomial.{pair};
 ghost use Rattle.algebra.specs.Different.{Apart};
+ghost use Rattle.algebra.specs.ListFacts.{All};
 ghost use Rattle.completeness.specs.Numbered.{roundsOf};
 ghost use Rattle.lists.specs.Correcting.{Columned, Correcting};
 ghost use Rattle.definition.specs.Layout.{layout, readTranscript, wordsDue};
@@ -23,18 +24,17 @@ ghost use Rattle.edition.specs.Meaning.{editionOf};
 ghost use Rattle.outcome.specs.Meaning.{placeOf, verdictOf};
 ghost use Rattle.fractions.specs.Values.{Clear};
 ghost use Rattle.samples.specs.Samples.{kept, Room};
-ghost use Rattle.deciding.specs.Stand.{afterFold, combinationOf, firstFunction, firstStand, foldCoinOf, kindsAfterFold, nextFold, nextFunction, nextStand};
-ghost use Rattle.deciding.specs.Standing.{Decided, Differing, FinalInside, RoundInside, Served, Shaped, Sifted, Standing, Written};
+ghost use Rattle.deciding.specs.Stand.{afterFold, combinationOf, finalsOf, firstFunction, firstStand, foldCoinOf, kindsAfterFold, nextFold, nextFunction, nextStand, readsWith, repetitionsOf, shiftsOf};
+ghost use Rattle.deciding.specs.Standing.{Decided, Differing, FinalInside, Numbers, RoundInside, Served, Shaped, Sifted, Standing, Written};
 
-// A place: the level's number, domain size and degree bound, where its table and the words after its fold coin begin, and the reads so far. It holds no
-// element: the level's fold coin is handed on beside it.
+// A place: the level's number, domain size and degree bound, and where its table and the words after its fold coin begin. It holds no element: the level's
+// fold coin is handed on beside it, and so are the reads so far.
 pub struct Stand {
     pub level: usize,
     pub size: usize,
     pub degree: usize,
     pub table: usize,
     pub at: usize,
-    pub reads: usize,
 }
 
 // Places for the samples of a round, at most 48 + 2.
@@ -57,7 +57,6 @@ fn first_stand(e: Edition, w: &[u32]) -> Stand
         degree: w[2] as usize,
         table: from,
         at: from + size + 1,
-        reads: 0,
     }
 }
 
@@ -87,7 +86,6 @@ fn next_stand(e: Edition, w: &[u32], stand: Stand) -> Stand
         degree: stand.degree / k,
         table: stand.at,
         at: stand.at + stand.size / 2 + s + s + 2 + t,
-        reads: stand.reads + t * k,
     }
 }
 
@@ -219,12 +217,54 @@ fn final_at(
     )
 }
 
+// The reads with those of so many coins of the level, whose indices stand in the words from a number on: k for each different index.
+fn reads_with(e: Edition, w: &[u32], stand: Stand, reads: usize, at: usize, count: usize) -> usize
+    requires { ⌜ (Numbers (editionOf e) (sheetOf (editionOf e) (now w)) (now w) stand) × (reads ≤ 8192) ⌝ }
+    requires { ⌜ (at + count ≤ length (now w)) × ((count ≤ 48) × (All (λ j. j < 2048) (take count (drop at (now w))))) ⌝ }
+    ensures { λ r. ⌜ r ≡ readsWith (sheetOf (editionOf e) (now (w .entry))) stand reads (take count (drop at (now (w .entry)))) ⌝ }
+{
+    reads + places::count(lists::part(w, at, count)) * edition::fold(e, w, stand.level)
+}
+
+// The reads with those of the next round: all its shift coins are treated.
+fn round_reads(e: Edition, w: &[u32], stand: Stand, reads: usize) -> usize
+    requires { ⌜ (RoundInside (editionOf e) (sheetOf (editionOf e) (now w)) (now w) stand) × (reads ≤ 8192) ⌝ }
+    ensures { λ r. ⌜ r ≡ readsWith (sheetOf (editionOf e) (now (w .entry))) stand reads (shiftsOf (sheetOf (editionOf e) (now (w .entry))) (now (w .entry)) stand) ⌝ }
+{
+    let s = w[5] as usize;
+    reads_with(
+        e,
+        w,
+        stand,
+        reads,
+        stand.at + stand.size / 2 + s + s + 2,
+        w[6 + stand.level] as usize,
+    )
+}
+
+// The reads with those of so many of the final coins.
+fn final_reads(e: Edition, w: &[u32], stand: Stand, reads: usize, count: usize) -> usize
+    requires { ⌜ (FinalInside (editionOf e) (sheetOf (editionOf e) (now w)) (now w) stand) × (reads ≤ 8192) ⌝ }
+    requires { ⌜ count ≤ repetitionsOf (sheetOf (editionOf e) (now w)) stand ⌝ }
+    ensures { λ r. ⌜ r ≡ readsWith (sheetOf (editionOf e) (now (w .entry))) stand reads (take count (finalsOf (sheetOf (editionOf e) (now (w .entry))) (now (w .entry)) stand)) ⌝ }
+{
+    reads_with(
+        e,
+        w,
+        stand,
+        reads,
+        stand.at + stand.degree / edition::fold(e, w, stand.level),
+        count,
+    )
+}
+
 // The final comparison. All final coins are treated, or those up to and with the failing one.
 fn last(
     e: Edition,
     w: &[u32],
     pw: &[u32],
     stand: Stand,
+    reads: usize,
     r: u32,
     how: Function,
     ac: &[u32],
@@ -233,19 +273,19 @@ fn last(
     requires { ⌜ Standing (sheetOf (editionOf e) (now w)) (now w) (length (now pw)) (length (now ac)) (length (now vg)) stand how ⌝ }
     requires { ⌜ Served (sheetOf (editionOf e) (now w)) (now w) (now pw) (now ac) (now vg) stand how ⌝ }
     requires { ⌜ (stand .level ≡ roundsOf (sheetOf (editionOf e) (now w))) × (FinalInside (editionOf e) (sheetOf (editionOf e) (now w)) (now w) stand) ⌝ }
-    ensures { λ v. ⌜ Decided (sheetOf (editionOf e) (now (w .entry))) (now (w .entry)) (now (pw .entry)) (now (ac .entry)) (now (vg .entry)) stand r how (verdictOf v) ⌝ }
+    requires { ⌜ reads ≤ 768 * (stand .level) ⌝ }
+    ensures { λ v. ⌜ Decided (sheetOf (editionOf e) (now (w .entry))) (now (w .entry)) (now (pw .entry)) (now (ac .entry)) (now (vg .entry)) stand reads r how (verdictOf v) ⌝ }
 {
     let f = final_at(e, w, pw, stand, r, how, ac, vg);
-    let k = edition::fold(e, w, stand.level);
     if let Found::At(i) = f {
         return Verdict {
             outcome: Outcome::Refused(9, i),
-            reads: stand.reads + (i + 1) * k,
+            reads: final_reads(e, w, stand, reads, i + 1),
         };
     }
     Verdict {
         outcome: Outcome::Accepted,
-        reads: stand.reads + w[6 + stand.level] as usize * k,
+        reads: final_reads(e, w, stand, reads, w[6 + stand.level] as usize),
     }
 }
 
@@ -255,6 +295,7 @@ fn rest(
     w: &[u32],
     pw: &[u32],
     stand: Stand,
+    reads: usize,
     r: u32,
     how: Function,
     ac: &[u32],
@@ -263,19 +304,21 @@ fn rest(
     requires { ⌜ Written (editionOf e) (sheetOf (editionOf e) (now w)) (now w) ⌝ }
     requires { ⌜ Standing (sheetOf (editionOf e) (now w)) (now w) (length (now pw)) (length (now ac)) (length (now vg)) stand how ⌝ }
     requires { ⌜ Served (sheetOf (editionOf e) (now w)) (now w) (now pw) (now ac) (now vg) stand how ⌝ }
-    ensures { λ v. ⌜ Decided (sheetOf (editionOf e) (now (w .entry))) (now (w .entry)) (now (pw .entry)) (now (ac .entry)) (now (vg .entry)) stand r how (verdictOf v) ⌝ }
+    requires { ⌜ reads ≤ 768 * (stand .level) ⌝ }
+    ensures { λ v. ⌜ Decided (sheetOf (editionOf e) (now (w .entry))) (now (w .entry)) (now (pw .entry)) (now (ac .entry)) (now (vg .entry)) stand reads r how (verdictOf v) ⌝ }
 {
     if stand.level == w[4] as usize {
-        return last(e, w, pw, stand, r, how, ac, vg);
+        return last(e, w, pw, stand, reads, r, how, ac, vg);
     }
     let next = next_stand(e, w, stand);
+    let now = round_reads(e, w, stand, reads);
     let mut px = room();
     let mut py = room();
     let g = round_at(e, w, pw, stand, r, how, ac, vg, &mut px, &mut py);
     let Gathered::From(j) = g else {
         return Verdict {
             outcome: Outcome::Refused(8, next.level),
-            reads: next.reads,
+            reads: now,
         };
     };
     let mut pa = lists::places();
@@ -286,6 +329,7 @@ fn rest(
         w,
         pw,
         next,
+        now,
         next_coin(e, w, stand),
         next_function(e, w, stand, how.scale, words),
         &pa,
@@ -301,7 +345,7 @@ pub fn decide(e: Edition, w: &[u32], pw: &[u32]) -> Verdict
     requires { ⌜ (Powers (getD (now w) 0 0) (rootOfUnity (sheetOf (editionOf e) (now w))) (now pw)) × (length (now pw) ≡ getD (now w) 1 0) ⌝ }
     requires { ⌜ outTest (sheetOf (editionOf e) (now w)) (sheetLength (editionOf e)) (layout (sheetOf (editionOf e) (now w))) (now w) ≡ accepted ⌝ }
     ensures { λ v.
-        ⌜ verdictOf v ≡ decideBy (primeField ((sheetOf (editionOf e) (now (w .entry))) .prime)) (rootOfUnity (sheetOf (editionOf e) (now (w .entry)))) (firstLevel (sheetOf (editionOf e) (now (w .entry)))) (readTranscript (sheetOf (editionOf e) (now (w .entry))) (drop (sheetLength (editionOf e)) (now (w .entry)))) ⌝ }
+        ⌜ verdictOf v ≡ counted (decideBy (primeField ((sheetOf (editionOf e) (now (w .entry))) .prime)) (rootOfUnity (sheetOf (editionOf e) (now (w .entry)))) (firstLevel (sheetOf (editionOf e) (now (w .entry)))) (readTranscript (sheetOf (editionOf e) (now (w .entry))) (drop (sheetLength (editionOf e)) (now (w .entry))))) ⌝ }
 {
     let ac = lists::places();
     let vg = lists::double_places();
@@ -310,6 +354,7 @@ pub fn decide(e: Edition, w: &[u32], pw: &[u32]) -> Verdict
         w,
         pw,
         first_stand(e, w),
+        0,
         w[edition::sheet_words(e) + w[1] as usize],
         first_function(e, w),
         &ac,

@@ -1,16 +1,16 @@
--- Deciding: refusals 7, 14, 8 and 9, and the reads (01, Verify, prove, encode; 02, CR 6; 000, Construction 5.2, decision phase).
+-- Deciding: refusals 7, 14, 8 and 9, and the reads (01, Verify, prove, encode; 02, CR 6 and 8; 000, Construction 5.2, decision phase).
 use Prim.Native.Nat.{ℕ, suc}
-use mathlib.Core.Bool.{Bool, false, not, cond}
+use mathlib.Core.Bool.{Bool, false, not, cond, _&&_}
 use mathlib.Core.List.{List, [], _∷_, _++_, map, flatMap, zipWith}
 use mathlib.Core.Option.{Option, none, some}
 use lib.Dec.{eqb}
 use lib.ListN.{length, getD, take, drop}
-use Rattle.definition.specs.Lists.{firstTrue}
+use Rattle.definition.specs.Lists.{different, firstTrue}
 use Rattle.definition.specs.Field.{Field, primeField}
 use Rattle.definition.specs.Sheet.{Edition, Sheet, Level, sheetOf, sheetLength, firstLevel, rootOfUnity}
 use Rattle.definition.specs.Polynomial.{Sample, pair, evaluate, clash, distinct, correctedValue}
 use Rattle.definition.specs.Domain.{point, inDomain, shiftPoint, foldAt, rootNumbers}
-use Rattle.definition.specs.Transcript.{Round, RoundCoins, Rest, final, round, Transcript}
+use Rattle.definition.specs.Transcript.{Round, Rest, final, round, Transcript}
 use Rattle.definition.specs.Layout.{Kind, message, coin, out, index, layout, readTranscript}
 use Rattle.definition.specs.Verdict.{Outcome, refused, Verdict, refuseAt, _then_, thenVerdict}
 
@@ -73,14 +73,30 @@ pub record Function (A : Type 0) : Type 0 where
 unfoldable pub ownPlace : Level → ℕ → List Place
 ownPlace l j = record { table = l .number; number = j } ∷ []
 
--- the places that shift or final coins lead to: those of the k roots of each
-unfoldable pub placesOf : Level → (ℕ → List Place) → List ℕ → List Place
-placesOf l places js = flatMap (λ j. flatMap places (rootNumbers l j)) js
+-- the places that a shift or final coin leads to: those of its k roots
+unfoldable pub coinPlaces : Level → (ℕ → List Place) → ℕ → List Place
+coinPlaces l places j = flatMap places (rootNumbers l j)
 
--- the reads: table words used, repeats counted
--- In the literature: queries to the oracles.
+-- those of several coins, in their order
+unfoldable pub placesOf : Level → (ℕ → List Place) → List ℕ → List Place
+placesOf l places js = flatMap (coinPlaces l places) js
+
+unfoldable pub samePlace : Place → Place → Bool
+samePlace a b = eqb (a .table) (b .table) && eqb (a .number) (b .number)
+
+-- the reads: the different places among those used (02, CR 8)
+-- In the literature: the positions of the oracles that are opened.
 unfoldable pub readsOf : List Place → ℕ
-readsOf used = length used
+readsOf used = length (different samePlace used)
+
+-- What deciding comes to: an outcome, and the places used by the coins treated, in their order.
+pub record Decision : Type 0 where
+  pub outcome : Outcome
+  pub used : List Place
+
+-- its verdict: the places used are counted
+unfoldable pub counted : Decision → Verdict
+counted d = record { outcome = d .outcome; reads = readsOf (d .used) }
 
 -- the final coins treated: all, or up to and with the failing one
 unfoldable pub treated : List ℕ → Option ℕ → List ℕ
@@ -113,24 +129,24 @@ module _ {A : Type 0} (F : Field A) (ω : A) where
   differences b f r coefficients js = map (λ j. not (equal (evaluate F coefficients (shiftPoint F ω b j)) (foldAt F ω b f r j))) js
 
   -- 9: the final coefficient polynomial differs, at the position of the first such final index
-  unfoldable pub decideFinal : Level → Function A → A → List Place → List A → List ℕ → Verdict
+  unfoldable pub decideFinal : Level → Function A → A → List Place → List A → List ℕ → Decision
   decideFinal b f r used coefficients js =
       let fault = firstTrue 0 (differences b (f .value) r coefficients js) in
-      record { outcome = refuseAt 9 fault; reads = readsOf (used ++ placesOf b (f .places) (treated js fault)) }
+      record { outcome = refuseAt 9 fault; used = used ++ placesOf b (f .places) (treated js fault) }
 
   -- 8: in the first such round i, two equal points of G_i's list have different values; the place is i.
   -- After level b, with f on its domain, fold coin r and the places used so far.
-  unfoldable pub decideRest : Level → Function A → A → List Place → Rest A → Verdict
+  unfoldable pub decideRest : Level → Function A → A → List Place → Rest A → Decision
   decideRest b f r used (final coefficients js) = decideFinal b f r used coefficients js
   decideRest b f r used (round ρ rest) =
       let g = answers b (f .value) r ρ in
       let now = used ++ placesOf b (f .places) (ρ .coins .shifts) in
-      let clashed : Verdict = record { outcome = refused 8 (ρ .coins .level .number); reads = readsOf now } in
+      let clashed : Decision = record { outcome = refused 8 (ρ .coins .level .number); used = now } in
       let next = decideRest (ρ .coins .level) (nextFunction (distinct F g) ρ) (ρ .coins .fold) now rest in
       cond (clash F g) clashed next
 
   -- from table 0 on, nothing used yet
-  unfoldable pub decide : Level → Transcript A → Verdict
+  unfoldable pub decide : Level → Transcript A → Decision
   decide first τ = decideRest first (tableFunction first (τ .table)) (τ .fold) [] (τ .rest)
 
 -- Deciding, of a stream that passes reading.
@@ -138,4 +154,4 @@ unfoldable pub deciding : Edition → List ℕ → Verdict
 deciding e w =
     let h = sheetOf e w in
     thenVerdict (outTests h (sheetLength e) (layout h) w)
-    (decide (primeField (h .prime)) (rootOfUnity h) (firstLevel h) (readTranscript h (drop (sheetLength e) w)))
+    (counted (decide (primeField (h .prime)) (rootOfUnity h) (firstLevel h) (readTranscript h (drop (sheetLength e) w))))

@@ -1,13 +1,13 @@
--- Verify, accepted and refusals 7, 14, 8 and 9 (01, Verify, prove, encode; 02, CR 6): places, reads and the order of the tests, on whole files, by computation.
+-- Verify, accepted and refusals 7, 14, 8 and 9 (01, Verify, prove, encode; 02, CR 6 and 8): places, reads and the order of the tests, on whole files, by computation.
 use Prim.Native.Nat.{ℕ}
 use mathlib.Core.Path.{_≡_, refl}
 use mathlib.Core.List.{[], _∷_}
 use lib.ListN.{set}
 use Rattle.definition.specs.Block.{fileOf}
 use Rattle.definition.specs.Transcript.{Round}
-use Rattle.definition.specs.Deciding.{Place, placesOf, tableFunction, nextFunction}
+use Rattle.definition.specs.Deciding.{Place, placesOf, readsOf, tableFunction, nextFunction}
 use Rattle.definition.specs.Verify.{verify}
-use Rattle.definition.specs.WorkedTranscript.{F₁₇, level0, level1, stream, doubled, twoOuts, smallest, folded4, fourFinals, twoRounds, accept, refuse, definitions}
+use Rattle.definition.specs.WorkedTranscript.{F₁₇, level0, level1, stream, finalTwice, doubled, twoOuts, smallest, folded4, fourFinals, fourthWrong, twoRounds, accept, refuse, definitions}
 
 abbrev pub place : ℕ → ℕ → Place
 place table number = record { table = table; number = number }
@@ -18,11 +18,21 @@ round1 = record { coins = record { level = level1; outs = []; combination = 0; f
 
 -- `fileOf` makes the checks right.
 pub record DecidingCases : Type 0 where
-  -- accepted: the reads are k for each shift and each final coin; a repeated shift index is one point of G, and it is read twice,
-  -- as a repeated final index is
+  -- accepted: the reads are k for each different shift index and each different final index
   pub accepts : verify (fileOf doubled) ≡ accept 8
-  pub shift·repeated : verify (fileOf (set (set (set doubled 41 5) 43 2) 44 0)) ≡ accept 8
-  pub final·repeated : verify (fileOf (set doubled 46 1)) ≡ accept 8
+  -- a repeated index opens no place again: of the shift coins, of the final coins, of the transcript by hand with the final indices 1 1, of four final coins
+  pub shift·repeated : verify (fileOf (set (set (set doubled 41 5) 43 2) 44 0)) ≡ accept 6
+  pub final·repeated : verify (fileOf (set doubled 46 1)) ≡ accept 6
+  pub final·twice : verify (fileOf finalTwice) ≡ accept 4
+  pub finals·two·and·two : verify (fileOf (set (set fourFinals 35 0) 36 1)) ≡ accept 4
+  -- the same index in two rounds is two points: the shift index 0 of table 0 and the final index 0 of table 1
+  pub index·of·both·tables : verify (fileOf (set stream 44 0)) ≡ accept 4
+  -- repeats in a refusal: of the shift coins for 8; before the failing final coin for 9, and after it, where they are not treated
+  pub clash·of·repeated·shifts : verify (fileOf (set (set doubled 41 5) 37 4)) ≡ refuse 8 1 2
+  pub repeated·before·failing : verify (fileOf (set (set (set fourthWrong 34 0) 35 3) 36 1)) ≡ refuse 9 2 4
+  pub repeated·after·failing : verify (fileOf (set (set (set fourthWrong 34 3) 35 1) 36 1)) ≡ refuse 9 1 4
+  -- places are the same where table and number are
+  pub different·places : readsOf (place 0 1 ∷ place 1 1 ∷ place 0 2 ∷ place 0 1 ∷ place 1 1 ∷ []) ≡ 3
   pub two·outs : verify (fileOf twoOuts) ≡ accept 6
   -- the combination coin 12 makes cx = 1 at x = 10, which final coin 1 reads (P7); the combination coin 0
   pub cx·1 : verify (fileOf (set (set (set stream 39 12) 42 7) 43 6)) ≡ accept 4
@@ -36,7 +46,7 @@ pub record DecidingCases : Type 0 where
   pub k·4·second·wrong : verify (fileOf (set (set folded4 29 9) 30 4)) ≡ refuse 9 1 8
   -- four final coins; a final polynomial that differs at the fourth alone
   pub four·finals : verify (fileOf fourFinals) ≡ accept 8
-  pub fourth·final·wrong : verify (fileOf (set (set (set (set fourFinals 29 7) 30 11) 31 15) 32 14)) ≡ refuse 9 3 8
+  pub fourth·final·wrong : verify (fileOf fourthWrong) ≡ refuse 9 3 8
   -- 7: the last point of domain 1; the second of two out coins; a point of domain 0 alone and 0 are outside
   pub last·point : verify (fileOf (set stream 37 6)) ≡ refuse 7 37 0
   pub second·out·coin : verify (fileOf (set twoOuts 38 3)) ≡ refuse 7 38 0
@@ -92,6 +102,13 @@ decidingCases = record {
   accepts = refl;
   shift·repeated = refl;
   final·repeated = refl;
+  final·twice = refl;
+  finals·two·and·two = refl;
+  index·of·both·tables = refl;
+  clash·of·repeated·shifts = refl;
+  repeated·before·failing = refl;
+  repeated·after·failing = refl;
+  different·places = refl;
   two·outs = refl;
   cx·1 = refl;
   cx·1·wrong = refl;

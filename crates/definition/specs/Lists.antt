@@ -1,15 +1,14 @@
 -- Lists and tests: the few functions that the library lacks.
 use Prim.Native.Nat.{ℕ, zero, suc, _*_}
-use mathlib.Core.Bool.{Bool, true, false, _||_}
+use mathlib.Core.Bool.{Bool, true, false, cond, _||_}
 use mathlib.Core.List.{List, [], _∷_}
 use mathlib.Core.Option.{Option, none, some}
-use lib.Dec.{eqb}
 use lib.ListN.{take, drop}
 
--- is a number in a list?
-unfoldable pub member : ℕ → List ℕ → Bool
-member x [] = false
-member x (y ∷ ys) = eqb x y || member x ys
+-- is x in a list, by a test of equality?
+unfoldable pub member : {A : Type 0} → (A → A → Bool) → A → List A → Bool
+member same x [] = false
+member same x (y ∷ ys) = same x y || member same x ys
 
 -- from, from + 1, .., count numbers
 unfoldable pub range : ℕ → ℕ → List ℕ
@@ -38,3 +37,8 @@ firstOf (n ∷ ns) (false ∷ bs) = firstOf ns bs
 unfoldable pub productOf : List ℕ → ℕ
 productOf [] = 1
 productOf (x ∷ xs) = x * productOf xs
+
+-- a list without its repeats: of equal elements the last stays
+unfoldable pub different : {A : Type 0} → (A → A → Bool) → List A → List A
+different same [] = []
+different same (x ∷ xs) = cond (member same x xs) (different same xs) (x ∷ different same xs)

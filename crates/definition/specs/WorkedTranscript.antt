@@ -1,18 +1,18 @@
 -- For the cases: the transcript of 01, A transcript by hand, as words and as bytes, and one name that unfolds all definitions.
 use Prim.Native.Nat.{ℕ}
 use mathlib.Core.List.{List, [], _∷_, _++_, zipWith, flatMap}
-use lib.ListN.{take, replicate}
-use Rattle.definition.specs.Lists.{member, range, chunks, firstTrue, firstOf, productOf}
+use lib.ListN.{take, set, replicate}
+use Rattle.definition.specs.Lists.{member, range, chunks, firstTrue, firstOf, productOf, different}
 use Rattle.definition.specs.Field.{Field, digitsWithin, binaryDigits, squaring, powerMod, primeField, foundOr, power, reciprocal, answerFound, knownField, primeOf, generatorOf, fieldOf, inField, sum, difference, product, powerOf, powerTurnsOf, inverseOf}
 use Rattle.definition.specs.Polynomial.{points, pair, evaluate, scale, addPoly, subPoly, mulPoly, vanishing, interpolate, horner, divide, quotient, geometric, foldPoly, sampledAt, distinct, contradicts, clash, correctedValue, correctedPoly}
 use Rattle.definition.specs.Sheet.{Level, foldPlaces, foldWords, sheetOf, between, powerOfTwo, fieldRule, sizeRule, degreeRule, foldingNumber, foldRule, roundsRule, outCoinsRule, repetitionsRule, laterFoldRule, editionRule, laterRules, sheetRules, testOrder, levelsFrom, firstLevel, laterLevels, shiftCount, finalCount, rootOfUnity}
-use Rattle.definition.specs.Domain.{rootNumbers, point, domain, inList, inDomain, shiftPoint, foldAt}
+use Rattle.definition.specs.Domain.{rootNumbers, point, domain, inDomain, shiftPoint, foldAt}
 use Rattle.definition.specs.Transcript.{roundWords, restWords, transcriptWords}
 use Rattle.definition.specs.Layout.{roundLayout, restLayout, layout, wordsDue, coinKinds, limit, roundCoins, laterCount, readRest, readTranscript, readRounds, readFinals, readCoins}
 use Rattle.definition.specs.Block.{lowBytes, bytesOf, wordOf, weightedSum, checkWord, blockCount, blocksOf, sealFrom, fileOf, fileBlocks, streamOf, wrongChecks}
 use Rattle.definition.specs.Verdict.{Verdict, accepted, refused, refuseAt, refuseIf, _then_, thenVerdict}
 use Rattle.definition.specs.Reading.{lengthTest, checkTest, sheetTest, blocksTest, outOfRange, rangeTest, fillTest, bodyTests, streamTests, reading}
-use Rattle.definition.specs.Deciding.{outInDomain, outTest, sameAs, outBefore, outRepeated, repeatedOuts, equalTest, outTests, ownPlace, placesOf, readsOf, treated, answers, tableFunction, nextFunction, differences, decideFinal, decideRest, decide, deciding}
+use Rattle.definition.specs.Deciding.{outInDomain, outTest, sameAs, outBefore, outRepeated, repeatedOuts, equalTest, outTests, ownPlace, coinPlaces, placesOf, samePlace, readsOf, counted, treated, answers, tableFunction, nextFunction, differences, decideFinal, decideRest, decide, deciding}
 use Rattle.definition.specs.Verify.{verifyIn}
 use Rattle.definition.specs.Prover.{tableOf, samplesOf, honestRound, honestAnswers, nextPoly, honestRest, honest, honestStream}
 use Rattle.definition.specs.Prove.{Result, refusal, finish, sheetLengthTest, coefficientsTest, coinsTest, inputRangeTest, coinDomainTest, coinEqualTest, outputTest, proveTests, proveIn, encodeTests, encode}
@@ -41,6 +41,10 @@ stream =
     ∷ 3 ∷ 4 ∷ 0
     ∷ 14 ∷ 11
     ∷ 1 ∷ []
+
+-- the same with t_1 = 2 and the final indices 1 1 (02, CR 8): 46 words
+abbrev pub finalTwice : List ℕ
+finalTwice = set stream 7 2 ++ (1 ∷ [])
 
 -- the file, 512 bytes, four words in each line
 abbrev pub file : List ℕ
@@ -111,6 +115,10 @@ folded4 = 0 ∷ 16 ∷ 8 ∷ 4 ∷ 0 ∷ 1 ∷ 2 ∷ 0 ∷ 0 ∷ 0 ∷ 0 ∷ 0 �
 abbrev pub fourFinals : List ℕ
 fourFinals = 0 ∷ 16 ∷ 8 ∷ 2 ∷ 0 ∷ 1 ∷ 4 ∷ 0 ∷ 0 ∷ 0 ∷ 0 ∷ 0 ∷ (take 16 tables ++ (5 ∷ 11 ∷ 6 ∷ 1 ∷ 13 ∷ 0 ∷ 1 ∷ 2 ∷ 3 ∷ []))
 
+-- the same with a final polynomial that differs at final index 3 alone
+abbrev pub fourthWrong : List ℕ
+fourthWrong = set (set (set (set fourFinals 29 7) 30 11) 31 15) 32 14
+
 -- M = 2 in field 1, with t_0 = 2 and s = 2: 87 words, after the sheet all 0 but the second shift index of round 1 and the out coins 64 0 of
 -- round 1 and 0 64 of round 2; 64 is the shift point of index 0 in both.
 abbrev pub twoRounds : List ℕ
@@ -142,14 +150,14 @@ kept number place output = record { answer = refusal number place; output = outp
 -- all definitions, unfolded by this one name
 unfoldable pub definitions : Unit {0}
 unfolding
-    member range chunks firstTrue firstOf productOf digitsWithin binaryDigits squaring powerMod primeField foundOr power reciprocal answerFound knownField primeOf generatorOf fieldOf inField sum difference product powerOf powerTurnsOf inverseOf
+    member range chunks firstTrue firstOf productOf different digitsWithin binaryDigits squaring powerMod primeField foundOr power reciprocal answerFound knownField primeOf generatorOf fieldOf inField sum difference product powerOf powerTurnsOf inverseOf
     points pair evaluate scale addPoly subPoly mulPoly vanishing interpolate horner divide quotient geometric foldPoly sampledAt distinct
     contradicts clash correctedValue correctedPoly foldPlaces foldWords sheetOf between powerOfTwo fieldRule sizeRule degreeRule foldingNumber foldRule roundsRule
     outCoinsRule repetitionsRule laterFoldRule editionRule laterRules sheetRules testOrder levelsFrom firstLevel laterLevels shiftCount finalCount rootOfUnity rootNumbers point domain
-    inList inDomain shiftPoint foldAt roundWords restWords transcriptWords roundLayout restLayout layout wordsDue coinKinds limit
+    inDomain shiftPoint foldAt roundWords restWords transcriptWords roundLayout restLayout layout wordsDue coinKinds limit
     roundCoins laterCount readRest readTranscript readRounds readFinals readCoins lowBytes bytesOf wordOf weightedSum checkWord blockCount
     blocksOf sealFrom fileOf fileBlocks streamOf wrongChecks refuseAt refuseIf _then_ thenVerdict lengthTest checkTest sheetTest blocksTest
-    outOfRange rangeTest fillTest bodyTests streamTests reading outInDomain outTest sameAs outBefore outRepeated repeatedOuts equalTest outTests ownPlace placesOf readsOf treated answers tableFunction
+    outOfRange rangeTest fillTest bodyTests streamTests reading outInDomain outTest sameAs outBefore outRepeated repeatedOuts equalTest outTests ownPlace coinPlaces placesOf samePlace readsOf counted treated answers tableFunction
     nextFunction differences decideFinal decideRest decide deciding verifyIn tableOf samplesOf honestRound honestAnswers nextPoly honestRest
     honest honestStream finish sheetLengthTest coefficientsTest coinsTest inputRangeTest coinDomainTest coinEqualTest outputTest proveTests proveIn
     encodeTests encode spread bodyOf forward backward foldsTest convert toEdition1 toEdition2 zipWith flatMap

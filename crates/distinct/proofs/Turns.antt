@@ -4,11 +4,9 @@ use mathlib.Core.Bool.{Bool, true, false, cond}
 use mathlib.Core.List.{List, [], _∷_, map}
 use mathlib.Core.Path.{_≡_, refl, sym, ap, _∙_}
 use native.Mathlib.Nat.{le-refl}
-use native.Mathlib.Numerals.{add-one}
 use native.Mathlib.Omega.{arith}
+use lib.Dec.{eqb}
 use lib.ListN.{length, drop, getD, set, drop-of-length-le}
-use lib.Seq.{drop-cons}
-use borrow.Author.Tests.{eq-eqb, ne-eqb}
 use Rattle.definition.specs.Lists.{member}
 use Rattle.polynomial.specs.Backwards.{drop-back, drop-store}
 use Rattle.distinct.specs.Points.{InTable, keepPoint, keepPoints}
@@ -17,30 +15,16 @@ pub map-same : (xs : List ℕ) → map (λ x. x) xs ≡ xs
 map-same [] = refl
 map-same (x ∷ xs) = ap {B = List ℕ} (λ l. x ∷ l) (map-same xs)
 
--- ---- the search for a point
-
-pub here : (xs : List ℕ) (i x : ℕ) → i < length xs → x ≡ getD xs i 0 → true ≡ member x (drop i xs)
-unfolding member
-here xs i x h e = rw (drop-cons xs i 0 h) (simp (eq-eqb _ _ e))
-
-pub next : (xs : List ℕ) (i x : ℕ) → i < length xs → (x ≡ getD xs i 0 → ⊥) → member x (drop (i + 1) xs) ≡ member x (drop i xs)
-unfolding member
-next xs i x h e = rw (add-one, drop-cons xs i 0 h) (simp (ne-eqb _ _ e))
-
-pub nowhere : (xs : List ℕ) (i x : ℕ) → length xs ≤ i → false ≡ member x (drop i xs)
-unfolding member
-nowhere xs i x h = rw (drop-of-length-le xs h)
-
 -- ---- one point kept, and a list of points
 
 pub shift-inside : {points : ℕ} (scale : ℕ) (js : List ℕ) → InTable points scale js → (i : ℕ) {j : ℕ} → i < length js → j ≡ getD js i 0 → scale * j < points
 shift-inside scale js h i l e = rw e (h i l)
 
-pub keep-there : (xs : List ℕ) (k x : ℕ) → true ≡ member x (drop k xs) → drop k xs ≡ keepPoint x (drop k xs)
+pub keep-there : (xs : List ℕ) (k x : ℕ) → true ≡ member eqb x (drop k xs) → drop k xs ≡ keepPoint x (drop k xs)
 unfolding keepPoint
 keep-there xs k x e = ap (λ (b : Bool). cond b (drop k xs) (x ∷ drop k xs)) e
 
-pub keep-new : (xs : List ℕ) (k x : ℕ) → 0 < k → k ≤ length xs → false ≡ member x (drop k xs) →
+pub keep-new : (xs : List ℕ) (k x : ℕ) → 0 < k → k ≤ length xs → false ≡ member eqb x (drop k xs) →
     drop (k - 1) (set xs (k - 1) x) ≡ keepPoint x (drop k xs)
 unfolding keepPoint
 keep-new xs k x h l e = drop-store xs k x h l ∙ ap (λ (b : Bool). cond b (drop k xs) (x ∷ drop k xs)) e

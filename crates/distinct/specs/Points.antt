@@ -7,7 +7,7 @@ use lib.Dec.{eqb}
 use lib.ListN.{length, getD}
 use borrow.Author.Tests.{eqb-true}
 use Rattle.definition.specs.Field.{fieldOf, primeField}
-use Rattle.definition.specs.Lists.{member}
+use Rattle.definition.specs.Lists.{different, member}
 use Rattle.definition.specs.Polynomial.{Sample, distinct, points, sampledAt}
 use Rattle.definition.specs.Prover.{samplesOf}
 
@@ -17,15 +17,12 @@ InTable points scale js = (i : ℕ) → i < length js → scale * getD js i 0 < 
 
 -- a point in front of others, unless it is among them
 unfoldable pub keepPoint : ℕ → List ℕ → List ℕ
-keepPoint x kept = cond (member x kept) kept (x ∷ kept)
+keepPoint x kept = cond (member eqb x kept) kept (x ∷ kept)
 
 -- the points of a list in front of others, the last first
 unfoldable pub keepPoints : List ℕ → List ℕ → List ℕ
 keepPoints [] kept = kept
 keepPoints (x ∷ xs) kept = keepPoint x (keepPoints xs kept)
-
-abbrev pub differentPoints : List ℕ → List ℕ
-differentPoints xs = keepPoints xs []
 
 pub keep-append : (xs ys kept : List ℕ) → keepPoints (xs ++ ys) kept ≡ keepPoints xs (keepPoints ys kept)
 unfolding keepPoints
@@ -33,19 +30,25 @@ keep-append [] ys kept = refl
 keep-append (x ∷ xs) ys kept = ap (keepPoint x) (keep-append xs ys kept)
 
 -- what is kept has the points that are given
-member-kept : (x : ℕ) (xs : List ℕ) → member x (differentPoints xs) ≡ member x xs
-unfolding keepPoints keepPoint member
+member-kept : (x : ℕ) (xs : List ℕ) → member eqb x (different eqb xs) ≡ member eqb x xs
+unfolding different member
 member-kept x [] = refl
-member-kept x (y ∷ ys) = go (member y (differentPoints ys)) (eqb x y) refl refl (member-kept x ys)
+member-kept x (y ∷ ys) = go (member eqb y ys) (eqb x y) (member-kept y ys) refl (member-kept x ys)
   where
-    go : (b t : Bool) → member y (differentPoints ys) ≡ b → eqb x y ≡ t → member x (differentPoints ys) ≡ member x ys →
-        member x (cond b (differentPoints ys) (y ∷ differentPoints ys)) ≡ (t || member x ys)
-    go true true e q h = ap (λ (z : ℕ). member z (differentPoints ys)) (eqb-true x y q) ∙ e
+    go : (b t : Bool) → member eqb y (different eqb ys) ≡ b → eqb x y ≡ t → member eqb x (different eqb ys) ≡ member eqb x ys →
+        member eqb x (cond b (different eqb ys) (y ∷ different eqb ys)) ≡ (t || member eqb x ys)
+    go true true e q h = ap (λ (z : ℕ). member eqb z (different eqb ys)) (eqb-true x y q) ∙ e
     go true false e q h = h
     go false t e q h = λ i. q i || h i
 
+-- and so it is the list without its repeats
+pub kept-different : (xs : List ℕ) → keepPoints xs [] ≡ different eqb xs
+unfolding keepPoints keepPoint different
+kept-different [] = refl
+kept-different (x ∷ xs) = ap (keepPoint x) (kept-different xs) ∙ ap (λ (b : Bool). cond b (different eqb xs) (x ∷ different eqb xs)) (member-kept x xs)
+
 module _ (field ω : ℕ) (g : List ℕ) where
-  sampled-member : (x : ℕ) (xs : List ℕ) → sampledAt (fieldOf field) x (samplesOf (fieldOf field) ω g xs) ≡ member x xs
+  sampled-member : (x : ℕ) (xs : List ℕ) → sampledAt (fieldOf field) x (samplesOf (fieldOf field) ω g xs) ≡ member eqb x xs
   unfolding sampledAt samplesOf member fieldOf primeField
   sampled-member x [] = refl
   sampled-member x (y ∷ ys) = ap (λ (t : Bool). eqb x y || t) (sampled-member x ys)
@@ -57,8 +60,7 @@ module _ (field ω : ℕ) (g : List ℕ) where
   kept-points b false s kept xs e h = ap (λ (t : Bool). points (cond t kept (s ∷ kept))) e ∙ ap {B = List ℕ} (λ l. s .point ∷ l) h
 
   -- the points of the samples that `distinct` keeps
-  pub distinct-points : (xs : List ℕ) → points (distinct (fieldOf field) (samplesOf (fieldOf field) ω g xs)) ≡ differentPoints xs
-  unfolding points distinct samplesOf keepPoints keepPoint
+  pub distinct-points : (xs : List ℕ) → points (distinct (fieldOf field) (samplesOf (fieldOf field) ω g xs)) ≡ different eqb xs
+  unfolding points distinct samplesOf different
   distinct-points [] = refl
-  distinct-points (x ∷ xs) =
-      kept-points _ (member x (differentPoints xs)) _ _ (differentPoints xs) (sampled-member x xs ∙ sym (member-kept x xs)) (distinct-points xs)
+  distinct-points (x ∷ xs) = kept-points _ (member eqb x xs) _ _ (different eqb xs) (sampled-member x xs) (distinct-points xs)

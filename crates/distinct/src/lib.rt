@@ -1,26 +1,12 @@
 // The points of a round's samples, of equal ones the last: found, and put in front of those that are kept.
 ghost use mathlib.Core.Path.{_≡_};
-ghost use mathlib.Core.List.{_++_, map};
+ghost use mathlib.Core.List.{[], _++_, map};
 ghost use Prim.Native.Nat.{_+_, _≤_, _<_};
+ghost use lib.Dec.{eqb};
 ghost use lib.ListN.{length, drop};
-ghost use Rattle.definition.specs.Lists.{member};
+ghost use Rattle.definition.specs.Lists.{different};
 ghost use Rattle.folds.specs.PointsIn.{shiftIn};
-ghost use Rattle.distinct.specs.Points.{InTable, differentPoints, keepPoint, keepPoints};
-
-// Is x among the points from number `from` on?
-fn found(xs: &[u32], from: usize, x: u32) -> bool
-    requires { ⌜ from ≤ length (now xs) ⌝ }
-    ensures { λ r. ⌜ r ≡ member x (drop from (now (xs .entry))) ⌝ }
-{
-    let mut i = from;
-    while i < xs.len() {
-        if x == xs[i] {
-            return true;
-        }
-        i += 1;
-    }
-    false
-}
+ghost use Rattle.distinct.specs.Points.{InTable, keepPoint, keepPoints};
 
 // Puts a point in front of those from number `from` on, unless it is there. The answer is the number of the first point.
 fn keep(xs: &mut [u32], from: usize, x: u32) -> usize
@@ -28,7 +14,7 @@ fn keep(xs: &mut [u32], from: usize, x: u32) -> usize
     ensures { λ r. ⌜ drop r (now (xs .exit)) ≡ keepPoint x (drop from (now (xs .entry))) ⌝ }
     ensures { λ r. ⌜ (r ≤ from) × (from ≤ r + 1) ⌝ }
 {
-    if found(xs, from, x) {
+    if places::found(xs, from, x) {
         return from;
     }
     let at = from - 1;
@@ -40,7 +26,7 @@ fn keep(xs: &mut [u32], from: usize, x: u32) -> usize
 fn keep_shifts(pw: &[u32], scale: usize, k: usize, shifts: &[u32], xs: &mut [u32]) -> usize
     requires { ⌜ (0 < k) × ((k ≤ 16) × (length (now pw) ≤ 4096)) ⌝ }
     requires { ⌜ (InTable (length (now pw)) scale (now shifts)) × (length (now shifts) ≤ length (now xs)) ⌝ }
-    ensures { λ r. ⌜ drop r (now (xs .exit)) ≡ differentPoints (map (shiftIn (now (pw .entry)) scale k) (now (shifts .entry))) ⌝ }
+    ensures { λ r. ⌜ drop r (now (xs .exit)) ≡ keepPoints (map (shiftIn (now (pw .entry)) scale k) (now (shifts .entry))) [] ⌝ }
     ensures { λ r. ⌜ (r ≤ length (now (xs .entry))) × (length (now (xs .entry)) ≤ r + length (now (shifts .entry))) ⌝ }
 {
     let mut at = xs.len();
@@ -82,7 +68,7 @@ pub fn points(
 ) -> usize
     requires { ⌜ (0 < k) × ((k ≤ 16) × (length (now pw) ≤ 4096)) ⌝ }
     requires { ⌜ (InTable (length (now pw)) scale (now shifts)) × (length (now outs) + length (now shifts) ≤ length (now xs)) ⌝ }
-    ensures { λ r. ⌜ drop r (now (xs .exit)) ≡ differentPoints (now (outs .entry) ++ map (shiftIn (now (pw .entry)) scale k) (now (shifts .entry))) ⌝ }
+    ensures { λ r. ⌜ drop r (now (xs .exit)) ≡ different eqb (now (outs .entry) ++ map (shiftIn (now (pw .entry)) scale k) (now (shifts .entry))) ⌝ }
     ensures { λ r. ⌜ (r ≤ length (now (xs .entry))) × (length (now (xs .entry)) ≤ r + (length (now (outs .entry)) + length (now (shifts .entry)))) ⌝ }
 {
     let at = keep_shifts(pw, scale, k, shifts, xs);

@@ -9,14 +9,14 @@ use lib.Dec.{eqb}
 use lib.ListN.{length, getD}
 use Rattle.definition.specs.Lists.{range, member}
 use Rattle.definition.specs.Field.{primeField, fieldOf}
-use Rattle.definition.specs.Domain.{point, domain, inList, inDomain}
+use Rattle.definition.specs.Domain.{point, domain, inDomain}
 use Rattle.algebra.specs.ListFacts.{map-all, all-range}
 use Rattle.domain.specs.Powers.{Inside}
 use Rattle.domain.specs.Points.{place-below, point-at}
 
 -- is x among the entries at scale·from, scale·(from + 1), .., count of them?
 unfoldable pub among : List ℕ → ℕ → ℕ → ℕ → ℕ → Bool
-among pw scale x from count = member x (map (λ j. getD pw (scale * j) 0) (range from count))
+among pw scale x from count = member eqb x (map (λ j. getD pw (scale * j) 0) (range from count))
 
 module _ (pw : List ℕ) (scale x : ℕ) where
   among-next : (j count : ℕ) → among pw scale x j (suc count) ≡ (eqb x (getD pw (scale * j) 0) || among pw scale x (suc j) count)
@@ -48,8 +48,8 @@ module _ (pw : List ℕ) (scale x : ℕ) where
       ap (among pw scale x j) s ∙ among-none j
 
 -- the definition's test of an element is that of a number
-in-list : (field ω x : ℕ) (ys : List ℕ) → member x ys ≡ inList (fieldOf field) ω x ys
-unfolding member inList fieldOf primeField
+in-list : (field ω x : ℕ) (ys : List ℕ) → member eqb x ys ≡ member (fieldOf field .equal) x ys
+unfolding member fieldOf primeField
 in-list field ω x [] = refl
 in-list field ω x (y ∷ ys) = ap (λ (b : Bool). eqb x y || b) (in-list field ω x ys)
 
@@ -57,9 +57,9 @@ pub inside-is : (pw : List ℕ) (scale x : ℕ) {r : Bool} → 0 < scale → r �
 unfolding among inDomain domain
 inside-is pw scale x h e = λ field ω l w n s.
     e
-    ∙ ap (member x)
+    ∙ ap (member eqb x)
     (map-all (λ j. j < length pw / scale) (λ j. getD pw (scale * j) 0) (point (fieldOf field) ω l) (range 0 (length pw / scale))
     (all-range (λ j. j < length pw / scale) 0 (length pw / scale) (λ j _ u. omega arith))
     (λ j u. point-at field ω l pw scale j w n (place-below (length pw) scale j h u)))
-    ∙ ap (λ (m : ℕ). member x (map (point (fieldOf field) ω l) (range 0 m))) (sym s)
+    ∙ ap (λ (m : ℕ). member eqb x (map (point (fieldOf field) ω l) (range 0 m))) (sym s)
     ∙ in-list field ω x (map (point (fieldOf field) ω l) (range 0 (l .size)))

@@ -4,10 +4,12 @@ use native.Mathlib.Nat.{div-le-self, mul-le-mul-left}
 use native.Mathlib.Omega.{arith}
 use mathlib.Core.List.{List, [], _∷_, _++_, map}
 use mathlib.Core.Path.{_≡_, refl, sym, ap, _∙_, subst}
+use lib.Dec.{eqb}
 use lib.ListN.{length, getD, take, drop, length-drop}
 use lib.Seq.{getD-drop, getD-take, length-take-le}
 use Rattle.definition.specs.Domain.{shiftPoint}
 use Rattle.definition.specs.Field.{Field, fieldOf}
+use Rattle.definition.specs.Lists.{different}
 use Rattle.definition.specs.Sheet.{Edition, Sheet, sheetOf, shiftCount}
 use Rattle.algebra.specs.ListFacts.{All}
 use Rattle.completeness.specs.ByPlace.{at-place}
@@ -18,7 +20,7 @@ use Rattle.completeness.specs.Numbered.{degreeOf, levelOf, outsOf, roundsOf, sh
 use Rattle.correction.specs.Corrected.{Corrected}
 use Rattle.folds.specs.PointsIn.{shiftIn, shift-in}
 use Rattle.honest_words.specs.Levels.{shifts-are}
-use Rattle.distinct.specs.Points.{InTable, differentPoints, distinct-points}
+use Rattle.distinct.specs.Points.{InTable, distinct-points}
 use Rattle.honest_words.specs.Sizes.{Sizes, falls, field-word, next-place, numbers, sizes}
 use Rattle.domain.specs.Parts.{begun, front-stays}
 use Rattle.honest_words.specs.Standing.{RoundDealt, Standing, coinsNext, correctedFrom, foldAfter, foldFrom, foldOf, repetitionsOf, shiftsNext}
@@ -68,15 +70,15 @@ module _ {ed : Edition} {w pw : List ℕ} {i scale : ℕ} (st : Standing ed w pw
   -- the points of G by the table of points
   points-are : (g : List ℕ) →
       points (distinct (sheetField h) (honestAnswers (sheetField h) (sheetRoot h) (levelOf h i) g (coinsNext h i coins)))
-      ≡ differentPoints (take s coins ++ map (shiftIn pw scale k) js)
+      ≡ different eqb (take s coins ++ map (shiftIn pw scale k) js)
   unfolding honestAnswers coinsNext roundCoins laterCount
   points-are g =
       let z = sizes st in
       let S = shiftPoint (fieldOf (getD w 0 0)) (sheetRoot h) (levelOf h i) in
       ap (λ (F : Field ℕ). points (distinct F (honestAnswers F (sheetRoot h) (levelOf h i) g (coinsNext h i coins)))) (sym (field-word ed w))
       ∙ distinct-points (getD w 0 0) (sheetRoot h) g (take (outsOf h) coins ++ map S (drop 2 (take (2 + repetitionsOf h i) (drop (outsOf h) coins))))
-      ∙ (λ x. differentPoints (take (es x) coins ++ map S ((shifts-are h i coins ∙ sym (shifts-is dealt es et)) x)))
-      ∙ ap (λ (xs : List ℕ). differentPoints (take s coins ++ xs)) (map-agree S (shiftIn pw scale k) js
+      ∙ (λ x. different eqb (take (es x) coins ++ map S ((shifts-are h i coins ∙ sym (shifts-is dealt es et)) x)))
+      ∙ ap (λ (xs : List ℕ). different eqb (take s coins ++ xs)) (map-agree S (shiftIn pw scale k) js
       (λ j. sym (shift-in (st .powers) (levelOf h i) (st .scaled) {k = k} ek j (omega (arith, ek, numbers (st .place) .least-fold)) (z .some-points))))
 
   -- each shift point stands in it
@@ -86,7 +88,7 @@ module _ {ed : Edition} {w pw : List ℕ} {i scale : ℕ} (st : Standing ed w pw
       (shifts-inside h i scale (length pw) (shiftsNext h i coins) (sizes st) (dealt .below))
 
   pub corrected-is : (g xs out : List ℕ) →
-      xs ≡ differentPoints (take s coins ++ map (shiftIn pw scale k) (take (s + 2 + t - (s + 2)) (drop (s + 2) coins))) →
+      xs ≡ different eqb (take s coins ++ map (shiftIn pw scale k) (take (s + 2 + t - (s + 2)) (drop (s + 2) coins))) →
       Corrected (getD w 0 0) xs (getD coins s 0) g out → out ≡ correctedFrom (sheetOf ed w) i g coins
   unfolding correctedFrom nextPoly coinsNext roundCoins laterCount
   corrected-is g xs out e c =

@@ -1,6 +1,5 @@
 -- The lines of several runs, one after the other; a run's line is short.
 use Prim.Native.Nat.{ℕ, zero, suc, _+_, _-_, _*_, _^_, _≤_, _<_}
-use native.Mathlib.Nat.{mul-le-mul}
 use native.Mathlib.Omega.{arith}
 use mathlib.Core.List.{List, [], _∷_, _++_, append-assoc, append-nil, flatMap}
 use mathlib.Core.Path.{_≡_, refl, sym, ap, subst, _∙_}
@@ -8,14 +7,14 @@ use lib.ListN.{length, getD, length-append}
 use borrow.Author.Tests.{eq-eqb, ne-eqb}
 use Rattle.definition.specs.Block.{wordOf}
 use Rattle.definition.specs.Line.{decimal, lineOf, outcomeText}
-use Rattle.definition.specs.Load.{drawOrder, drawSheet, loadLines, loadRuns, orders, seedOf, verdictOn}
+use Rattle.definition.specs.Load.{drawOrder, loadLines, loadRuns, orders, seedOf, verdictOn}
+use Rattle.definition.specs.Reading.{sheetTest}
 use Rattle.definition.specs.Sheet.{edition1, sheetOf}
 use Rattle.definition.specs.Verdict.{Verdict, accepted, refused}
-use Rattle.completeness.specs.EditionOne.{reads-one}
-use Rattle.completeness.specs.Lawful.{lawful}
-use Rattle.completeness.specs.LoadAllowed.{draws-accepted, sheet-faultless}
-use Rattle.completeness.specs.Numbered.{readsDue, total}
-use Rattle.completeness.specs.SheetRules.{front-words}
+use Rattle.completeness.specs.DueSizes.{reads-most}
+use Rattle.completeness.specs.LoadAllowed.{draws-accepted, draws-allowed, sheet-faultless}
+use Rattle.completeness.specs.Numbered.{readsDue}
+use Rattle.completeness.specs.Reads.{reads-at-most}
 use Rattle.line.specs.Decimal.{long-64}
 use Rattle.load.specs.Runs.{linesFrom}
 
@@ -27,31 +26,24 @@ pub lines-next : (runs v : ℕ) → linesFrom (suc runs) v ≡ lineOf (verdictOn
 unfolding linesFrom orders flatMap
 lines-next runs v = refl
 
--- ---- the reads of a sheet are few
+-- ---- the reads of a run are few
 
-total-most : (most : ℕ) (xs : List ℕ) → ((i : ℕ) → i < length xs → getD xs i 0 ≤ most) → total xs ≤ length xs * most
-unfolding total
-total-most most [] h = omega arith
-total-most most (x ∷ xs) h = omega (arith, h 0 (omega arith), total-most most xs (λ i l. h (suc i) (omega arith)))
-
-reads-most : (v : ℕ) → readsDue (sheetOf edition1 (drawOrder v .value .sheet)) ≤ 4608
+drawn-faultless : (v : ℕ) → (length (drawOrder v .value .sheet) ≡ 12) × (sheetTest edition1 (drawOrder v .value .sheet) ≡ accepted)
 unfolding drawOrder
-reads-most v =
-    let w = drawSheet v .value in
-    let s = sheet-faultless v in
-    let long : 12 ≤ length w = omega (arith, s .0) in
-    let law = lawful edition1 w long (s .1) in
-    let times = sheetOf edition1 w .repetitions in
-    let few = total-most 48 times (λ i l. law .times i (omega (arith, law .paired .some, law .paired .same))) in
-    let most : total times ≤ 288 = omega (arith, few, law .most, law .paired .same) in
-    subst (λ (n : ℕ). n ≤ 4608) (sym (reads-one w long (s .1))) (mul-le-mul (front-words edition1 w (s .1) .3) most)
+drawn-faultless v = sheet-faultless v
+
+reads-few : (v : ℕ) → readsDue (sheetOf edition1 (drawOrder v .value .sheet)) (drawOrder v .value .coins) ≤ 4608
+reads-few v =
+    let o = drawOrder v .value in
+    let s = drawn-faultless v in
+    omega (arith, reads-at-most edition1 (o .sheet) (o .coefficients) (o .coins) (draws-allowed v), reads-most edition1 (o .sheet) (omega (arith, s .0)) (s .1))
 
 line-accepted : (v : Verdict) (reads : ℕ) → reads < 2 ^ 64 → v ≡ record { outcome = accepted; reads = reads } → length (lineOf v) ≤ 34
 unfolding lineOf outcomeText
 line-accepted v reads h e = rw e (omega (arith, length-append (decimal reads) (10 ∷ []), long-64 reads h))
 
 line-short : (v : ℕ) → length (lineOf (verdictOn (drawOrder v .value))) ≤ 34
-line-short v = line-accepted _ _ (omega (arith, reads-most v)) (draws-accepted v)
+line-short v = line-accepted _ _ (omega (arith, reads-few v)) (draws-accepted v)
 
 pub verdict-short : (v : ℕ) {verdict : Verdict} {long : ℕ} → verdict ≡ verdictOn (drawOrder v .value) → long ≡ length (lineOf verdict) → long ≤ 34
 verdict-short v e h = subst (λ (n : ℕ). n ≤ 34) (sym (h ∙ ap (λ (u : Verdict). length (lineOf u)) e)) (line-short v)

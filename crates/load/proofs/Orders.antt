@@ -72,8 +72,8 @@ module _
         if-false 11 _ _ (le-ltb (length output) (512 * blockCount (wordsDue edition1 (sheetOf edition1 w))) (omega (arith, blocks-most edition1 w (omega (arith, s .0)) (s .1))))
 
     pub drawn-verdict : (output : List ℕ) {answer : Answer} {verdict : Verdict} → length output ≡ 34304 → answer ≡ prove w f c output .answer →
-        ((count : ℕ) → answer ≡ done count → verdict ≡ record { outcome = accepted; reads = readsDue (sheetOf edition1 w) }) → verdict ≡ verdictOn (drawOrder v .value)
+        ((count : ℕ) → answer ≡ done count → verdict ≡ record { outcome = accepted; reads = readsDue (sheetOf edition1 w) c }) → verdict ≡ verdictOn (drawOrder v .value)
     drawn-verdict output {answer} size e given =
         given (blockCount (wordsDue edition1 (sheetOf edition1 w))) (e ∙ done-exactly edition1 w f c output .1 (drawn-allowed, has-room output size))
-        ∙ ap (λ (o : Order). record { outcome = accepted; reads = readsDue (sheetOf edition1 (o .sheet)) }) drawn-value
+        ∙ ap (λ (o : Order). record { outcome = accepted; reads = readsDue (sheetOf edition1 (o .sheet)) (o .coins) }) drawn-value
         ∙ sym (draws-accepted v)

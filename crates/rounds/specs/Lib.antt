@@ -1,4 +1,3 @@
 pub mod SamplesIn
 pub mod RoundLaws
 pub mod NextRound
-pub mod Reads

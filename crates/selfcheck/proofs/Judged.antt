@@ -32,7 +32,7 @@ module _ (ed : Edition) (w f coins output : List ℕ) where
 
   -- where prove answers done, the verdict on the blocks written is accepted with the due reads
   pub accepted-by : (a : Answer) {v : Verdict} → a ≡ proveIn ed w f coins output .answer → v ≡ verifyIn ed (take (512 * blocksOf a) (proveIn ed w f coins output .output)) →
-      (count : ℕ) → a ≡ done count → v ≡ record { outcome = accepted; reads = readsDue (sheetOf ed w) }
+      (count : ℕ) → a ≡ done count → v ≡ record { outcome = accepted; reads = readsDue (sheetOf ed w) coins }
   unfolding blocksOf
   accepted-by a e q count d =
       q ∙ ap (λ (b : Answer). verifyIn ed (take (512 * blocksOf b) (proveIn ed w f coins output .output))) d

@@ -42,7 +42,7 @@ fn prove_then_verify_in(
     ensures { λ r. ⌜ answerOf (r .answer) ≡ proveIn (editionOf e) (now (sheet .entry)) (now (coefficients .entry)) (now (coins .entry)) (now (output .entry)) .answer ⌝ }
     ensures { λ r. ⌜ now (output .exit) ≡ proveIn (editionOf e) (now (sheet .entry)) (now (coefficients .entry)) (now (coins .entry)) (now (output .entry)) .output ⌝ }
     ensures { λ r. ⌜ verdictOf (r .verdict) ≡ verifyIn (editionOf e) (take (512 * blocksOf (answerOf (r .answer))) (now (output .exit))) ⌝ }
-    ensures { λ r. ⌜ ((count : ℕ) → answerOf (r .answer) ≡ done count → verdictOf (r .verdict) ≡ record { outcome = accepted; reads = readsDue (sheetOf (editionOf e) (now (sheet .entry))) }) ⌝ }
+    ensures { λ r. ⌜ ((count : ℕ) → answerOf (r .answer) ≡ done count → verdictOf (r .verdict) ≡ record { outcome = accepted; reads = readsDue (sheetOf (editionOf e) (now (sheet .entry))) (now (coins .entry)) }) ⌝ }
 {
     let answer = prove::prove_in(e, sheet, coefficients, coins, output);
     let count = blocks(answer);
@@ -63,7 +63,7 @@ pub fn prove_then_verify(
     ensures { λ r. ⌜ answerOf (r .answer) ≡ prove (now (sheet .entry)) (now (coefficients .entry)) (now (coins .entry)) (now (output .entry)) .answer ⌝ }
     ensures { λ r. ⌜ now (output .exit) ≡ prove (now (sheet .entry)) (now (coefficients .entry)) (now (coins .entry)) (now (output .entry)) .output ⌝ }
     ensures { λ r. ⌜ verdictOf (r .verdict) ≡ verify (take (512 * blocksOf (answerOf (r .answer))) (now (output .exit))) ⌝ }
-    ensures { λ r. ⌜ ((count : ℕ) → answerOf (r .answer) ≡ done count → verdictOf (r .verdict) ≡ record { outcome = accepted; reads = readsDue (sheetOf edition1 (now (sheet .entry))) }) ⌝ }
+    ensures { λ r. ⌜ ((count : ℕ) → answerOf (r .answer) ≡ done count → verdictOf (r .verdict) ≡ record { outcome = accepted; reads = readsDue (sheetOf edition1 (now (sheet .entry))) (now (coins .entry)) }) ⌝ }
 {
     prove_then_verify_in(Edition::One, sheet, coefficients, coins, output)
 }
@@ -78,7 +78,7 @@ pub fn prove_then_verify_2(
     ensures { λ r. ⌜ answerOf (r .answer) ≡ proveIn edition2 (now (sheet .entry)) (now (coefficients .entry)) (now (coins .entry)) (now (output .entry)) .answer ⌝ }
     ensures { λ r. ⌜ now (output .exit) ≡ proveIn edition2 (now (sheet .entry)) (now (coefficients .entry)) (now (coins .entry)) (now (output .entry)) .output ⌝ }
     ensures { λ r. ⌜ verdictOf (r .verdict) ≡ verifyIn edition2 (take (512 * blocksOf (answerOf (r .answer))) (now (output .exit))) ⌝ }
-    ensures { λ r. ⌜ ((count : ℕ) → answerOf (r .answer) ≡ done count → verdictOf (r .verdict) ≡ record { outcome = accepted; reads = readsDue (sheetOf edition2 (now (sheet .entry))) }) ⌝ }
+    ensures { λ r. ⌜ ((count : ℕ) → answerOf (r .answer) ≡ done count → verdictOf (r .verdict) ≡ record { outcome = accepted; reads = readsDue (sheetOf edition2 (now (sheet .entry))) (now (coins .entry)) }) ⌝ }
 {
     prove_then_verify_in(Edition::Two, sheet, coefficients, coins, output)
 }

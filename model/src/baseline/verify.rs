@@ -11,6 +11,9 @@ pub(super) const MOST_COINS: usize = 48;
 pub(super) const MOST_SAMPLES: usize = MOST_COINS + 2;
 /// Most roots of a shift point.
 pub(super) const MOST_ROOTS: usize = 16;
+/// Most indices that a coin has to pick from, and so many that are compared in pairs.
+const MOST_INDICES: usize = 2048;
+const FEW_INDICES: usize = 8;
 
 /// A level's table, its domain and its folding number.
 pub struct Level<'a, const P: u64, const TUNED: bool> {
@@ -79,6 +82,18 @@ impl Samples {
             }
         }
     }
+}
+
+/// How many different ones there are among some indices. A few are compared in pairs,
+/// more are marked: both versions count by this, as the proved code does.
+fn different(indices: &[u32]) -> usize {
+    if indices.len() <= FEW_INDICES {
+        let last = |&i: &usize| !indices[i + 1..].contains(&indices[i]);
+        return (0..indices.len()).filter(last).count();
+    }
+    let mut marks = [false; MOST_INDICES];
+    let new = |&&j: &&u32| !std::mem::replace(&mut marks[j as usize], true);
+    indices.iter().filter(new).count()
 }
 
 /// What the samples of a round make of the next table.
@@ -160,7 +175,7 @@ fn decide<C: Correction<P, TUNED>, const P: u64, const TUNED: bool>(
         for (&x, &y) in words[outs..replies].iter().zip(&words[replies..later]) {
             agrees &= samples.push(x, y);
         }
-        reads += level.k * shifts.len();
+        reads += level.k * different(shifts);
         if !agrees {
             return refused(8, i, reads);
         }
@@ -176,11 +191,12 @@ fn decide<C: Correction<P, TUNED>, const P: u64, const TUNED: bool>(
     let indices = &words[finals..finals + sheet.t[sheet.rounds]];
     C::folds(correction.as_ref(), &level, indices, r, &mut folds);
     for (place, (&j, &fold)) in indices.iter().zip(&folds).enumerate() {
-        reads += level.k;
         if C::final_value(&level, coefficients, j as usize) != fold {
+            reads += level.k * different(&indices[..=place]);
             return refused(9, place, reads);
         }
     }
+    reads += level.k * different(indices);
     Verdict {
         outcome: Outcome::Accepted,
         reads: reads as u64,

@@ -16,6 +16,7 @@ use std::io::{self, BufWriter, Write};
 use std::process::ExitCode;
 use tevrolig_model::convert::convert_to;
 use tevrolig_model::generate::equal_outs::equal_coin_drawn;
+use tevrolig_model::generate::repeats::{fail_late, repeat};
 use tevrolig_model::generate::{
     aim, coefficients, coins, convert, damage, honest_file, sheet_over, Rng,
 };
@@ -64,7 +65,7 @@ fn hexadecimal(bytes: &[u8]) -> String {
 fn judged(edition: Edition, rng: &mut Rng, case: u64) -> String {
     let file = match case {
         0 => Vec::new(),
-        _ => small(edition, rng),
+        _ => small(edition, rng, case as usize),
     };
     let verdict = line(verify_in(edition, &file));
     format!("{} {verdict}", hexadecimal(&file))
@@ -76,7 +77,7 @@ fn in_one_step(rng: &mut Rng, case: u64) -> String {
         0 => (1, Edition::One),
         _ => (2, Edition::Two),
     };
-    let file = small(edition, rng);
+    let file = small(edition, rng, case as usize / 4);
     let (step, verdict) = match case / 2 % 2 {
         0 => {
             let outcome = read_in(edition, &file);
@@ -135,35 +136,61 @@ fn drawn_order(rng: &mut Rng, case: u64) -> String {
     }
 }
 
-/// A file of any field: about a third honest, the rest damaged, not empty. Most have
-/// rounds, and at most 6 final coins, so that a case is short to compute.
-fn small(edition: Edition, rng: &mut Rng) -> Vec<u8> {
+/// The faults of small files; those that leave more to compute are wanted more often, and
+/// 0 is any damage.
+const FAULTS: [u32; 16] = [1, 7, 9, 2, 14, 8, 3, 9, 4, 7, 5, 14, 9, 6, 8, 0];
+/// Those of files with repeated indices.
+const DECIDED: [u32; 8] = [8, 9, 9, 14, 8, 9, 9, 0];
+
+/// A file of any field: about a third honest, the rest damaged, not empty. In a third of
+/// them indices are repeated, and those mostly have several shift coins, and damage that
+/// deciding finds. Most have rounds, and at most 6 final coins, and none has final coins
+/// with more than 128 places, so that a case is short to compute.
+fn small(edition: Edition, rng: &mut Rng, case: usize) -> Vec<u8> {
     let field = rng.below(3) as u32;
+    let repeated = case.is_multiple_of(3);
+    let (shifts, tries) = if repeated { (2, 64) } else { (1, 8) };
     let mut sheet = sheet_over(edition, rng, field, 32);
-    while sheet[4] == 0 && !rng.one_in(8) {
+    while (sheet[4] == 0 || sheet[6] < shifts) && !rng.one_in(tries) {
         sheet = sheet_over(edition, rng, field, 32);
     }
-    let last = 6 + sheet[4] as usize;
-    if !rng.one_in(16) {
-        sheet[last] = sheet[last].min(1 + rng.below(6) as u32);
-    }
+    let last = sheet[4] as usize;
+    let fold = match edition {
+        Edition::Two if last > 0 => sheet[11 + last],
+        _ => sheet[3],
+    };
+    let most = match rng.below(16) {
+        0 => 128 / fold,
+        _ if repeated => 3 + rng.below(4) as u32,
+        _ => 1 + rng.below(6) as u32,
+    };
+    sheet[6 + last] = sheet[6 + last].min(most);
     let polynomial = coefficients(rng, &sheet);
     let hostile = rng.one_in(2);
-    let coins = coins(rng, &sheet, hostile);
+    let mut coins = coins(rng, &sheet, hostile);
+    if repeated {
+        repeat(rng, &sheet, &mut coins);
+    }
     let file = honest_file(&sheet, &polynomial, &coins);
     if rng.one_in(3) {
         return file;
     }
+    let faults: &[u32] = if repeated { &DECIDED } else { &FAULTS };
+    let mut number = faults[case % faults.len()];
     loop {
         let mut damaged = file.clone();
-        // The faults that leave more to compute are wanted more often.
-        let number = rng.pick(&[1, 2, 3, 4, 5, 6, 7, 7, 14, 14, 8, 8, 9, 9, 9, 0]);
         let hit = match number {
             0 => damage(edition, rng, &mut damaged).is_none(),
+            9 if repeated && rng.one_in(2) => {
+                fail_late(rng, &sheet, &mut damaged);
+                true
+            }
             _ => aim(edition, rng, &mut damaged, number),
         };
         if hit && !damaged.is_empty() && damaged.len() <= MOST_BYTES {
             return damaged;
         }
+        // The file has no place for that fault.
+        number = rng.pick(faults);
     }
 }

@@ -2,8 +2,11 @@
 //! the lines that the model says.
 
 use std::path::Path;
+use tevrolig_model::domain::Subgroup;
+use tevrolig_model::field::Field;
 use tevrolig_model::generate::{aim, coefficients, coins, honest_file, Rng, REFUSALS};
-use tevrolig_model::sheet::Edition;
+use tevrolig_model::layout::{Layout, Part};
+use tevrolig_model::sheet::{Edition, Sheet};
 use tevrolig_model::stream::{to_blocks, write_word};
 use tevrolig_model::{generate, line, verify};
 
@@ -60,6 +63,45 @@ fn files() -> Vec<(String, Vec<u8>)> {
             assert!(hit && refused, "{name}");
             files.push((name, damaged));
         }
+    }
+
+    // Repeated indices (document 02, CR 8): the worked transcript with t_1 = 2 and final indices 1 1, and a file of two rounds, honest, with a clash in the second and
+    // with a failing final coin that has repeats before and after it.
+    let sheet = [0, 16, 8, 2, 1, 1, 1, 2, 0, 0, 0, 0];
+    let given = [1, 2, 3, 4, 5, 0, 0, 0];
+    let file = honest_file(&sheet, &given, &[2, 0, 3, 4, 0, 1, 1]);
+    files.push(("final-repeated".into(), file));
+    let sheet = [1, 256, 128, 4, 2, 2, 10, 5, 9, 0, 0, 0];
+    let mut rng = Rng::new(3);
+    let given = coefficients(&mut rng, &sheet);
+    let mut drawn = coins(&mut rng, &sheet, false);
+    let layout = Layout::new(&Sheet::read(&sheet).expect("a sheet without fault"));
+    let lists: [(Part, &[u32]); 3] = [
+        (Part::ShiftIndices(1), &[60, 8, 60, 8, 8, 0, 63, 63, 60, 1]),
+        (Part::ShiftIndices(2), &[8, 0, 8, 31, 0]),
+        (Part::FinalIndices, &[8, 8, 3, 8, 3, 15, 8, 9, 15]),
+    ];
+    for (part, indices) in lists {
+        let at = layout.coin_position(layout.range(part).start);
+        drawn[at..at + indices.len()].copy_from_slice(indices);
+    }
+    let file = honest_file(&sheet, &given, &drawn);
+    let table = layout.range(Part::Table(2)).start;
+    let out = layout.range(Part::OutCoins(2)).start;
+    // The shift point of round 2's index 8, and the first place of final index 15.
+    let shift = Subgroup::new(Field::numbered(1).expect("field 1"), 256).shift_point(1, 4, 8);
+    let changes = [
+        ("repeated", None),
+        ("repeated-8", Some((out, shift as u32))),
+        ("repeated-9", Some((table + 15, 7))),
+    ];
+    for (name, change) in changes {
+        let mut file = file.clone();
+        if let Some((word, value)) = change {
+            write_word(&mut file, word, value);
+        }
+        generate::rewrite_checks(&mut file);
+        files.push((name.into(), file));
     }
 
     // Edges of the sheet: the smallest; n0 = 32 in field 0; t_0 + s = d_1; t = 65, and t = 48 and 49 (document 02, CR 1).

@@ -5,6 +5,7 @@ pub mod convert;
 mod damage;
 pub mod equal_outs;
 mod random;
+pub mod repeats;
 mod sheets;
 
 pub use crate::stream::write_checks as rewrite_checks;

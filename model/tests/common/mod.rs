@@ -3,6 +3,7 @@
 #![allow(dead_code)]
 
 use tevrolig_model::domain::Subgroup;
+use tevrolig_model::generate::repeats::reads_due;
 use tevrolig_model::generate::{self, rewrite_checks, Rng};
 use tevrolig_model::layout::Layout;
 use tevrolig_model::sheet::Sheet;
@@ -98,7 +99,7 @@ pub fn honest(rng: &mut Rng, sheet: &[u32], hostile: bool) -> Vec<u8> {
 /// The same, and tests that it is accepted with the reads due.
 pub fn accept(rng: &mut Rng, sheet: &[u32], hostile: bool) -> Vec<u8> {
     let file = honest(rng, sheet, hostile);
-    let expected = format!("accepted 0 0 {}", reads(sheet));
+    let expected = format!("accepted 0 0 {}", reads(sheet, &file));
     assert_eq!(judged(edition(sheet), &file), expected, "{sheet:?}");
     file
 }
@@ -115,12 +116,12 @@ pub fn fold(sheet: &[u32], i: usize) -> u32 {
     }
 }
 
-/// The table words that an accepted file uses: each t_i costs its own k_i.
-pub fn reads(sheet: &[u32]) -> u32 {
-    (0..6).map(|i| fold(sheet, i) * sheet[6 + i]).sum()
+/// The reads of an accepted file: k_i for each of the different indices of level i.
+pub fn reads(sheet: &[u32], file: &[u8]) -> u64 {
+    reads_due(sheet, file, Outcome::Accepted)
 }
 
-/// An honest file with coins that do not meet.
+/// An honest file with coins that do not meet and indices that do not repeat.
 pub struct Sample {
     pub edition: Edition,
     pub words: &'static [u32],

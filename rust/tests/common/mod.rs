@@ -3,6 +3,7 @@
 
 use std::ops::Range;
 use tevrolig::OrderRefusal;
+use tevrolig_model::generate::repeats::reads_due;
 use tevrolig_model::generate::{self, Rng};
 use tevrolig_model::layout::{Layout, Section};
 use tevrolig_model::prove::prove_in;
@@ -82,13 +83,9 @@ pub fn honest(rng: &mut Rng, sheet: &[u32], hostile: bool) -> Vec<u8> {
     generate::honest_file(sheet, &coefficients, &coins)
 }
 
-/// The table words that an accepted file uses: k_i for each of t_i.
-pub fn reads(sheet: &[u32]) -> u32 {
-    let fold = |i: usize| match edition(sheet) {
-        Two if i > 0 => sheet[11 + i],
-        _ => sheet[3],
-    };
-    (0..6).map(|i| fold(i) * sheet[6 + i]).sum()
+/// The reads of an accepted file: k_i for each of the different indices of level i.
+pub fn reads(sheet: &[u32], file: &[u8]) -> u64 {
+    reads_due(sheet, file, model::Outcome::Accepted)
 }
 
 /// The answer in the model's terms.
@@ -198,7 +195,7 @@ impl Order {
         );
         if let Answer::Done(blocks) = answer {
             let file = &output[..512 * blocks as usize];
-            let accepted = format!("accepted 0 0 {}", reads(&self.sheet));
+            let accepted = format!("accepted 0 0 {}", reads(&self.sheet, file));
             assert_eq!(judged(edition, file, what), accepted, "{what}");
         }
         answer

@@ -9,7 +9,7 @@ use Rattle.edition.specs.Meaning.{editionOf}
 use borrow.Author.Needs.{needs}
 use Rattle.outcome.specs.Meaning.{outcomeOf, verdictOf}
 use Rattle.deciding.specs.Inside.{final-inside, round-inside, scale-small}
-use Rattle.deciding.proofs.Ready.{apart-ready, clash-ready, level-next, next-decided, next-ready, not-last, room-in}
+use Rattle.deciding.proofs.Ready.{apart-ready, clash-ready, level-next, most-next, next-decided, next-ready, not-last, room-in}
 use borrow.Fn.Kinds.{In}
 use borrow.Fn.PlainCycle.{Measures, is, falls, and}
 use Rattle.deciding.proofs.rest.Reads as rest
@@ -19,6 +19,7 @@ use Rattle.deciding.proofs.last.Reads as last-reads
 use Rattle.deciding.proofs.next_coin.Reads as next-coin-reads
 use Rattle.deciding.proofs.next_function.Reads as next-function-reads
 use Rattle.deciding.proofs.next_stand.Reads as next-stand-reads
+use Rattle.deciding.proofs.round_reads.Reads as round-reads-reads
 use Rattle.deciding.proofs.room.Reads as room-reads
 use Rattle.deciding.proofs.round_at.Reads as round-at-reads
 use Rattle.deciding.proofs.correction.Reads as correction-reads
@@ -42,6 +43,8 @@ calls t = (
   last-reads.Learnt,
   next-stand-reads.Asked,
   next-stand-reads.Learnt,
+  round-reads-reads.Asked,
+  round-reads-reads.Learnt,
   room-reads.Asked,
   room-reads.Learnt,
   round-at-reads.Asked,
@@ -74,7 +77,7 @@ rest-last-requires t c κs =
     let v = s .pre .1 .0 in
     let ok = s .pre .1 .1 .0 in
     let end = c .if1 .taken ∙ v .rounds in
-    (ok, (s .pre .1 .1 .1, (end, final-inside (sheetOf (editionOf (a .e)) w) w (a .stand) (ok .place) end (editionOf (a .e)) v)))
+    (ok, (s .pre .1 .1 .1 .0, ((end, final-inside (sheetOf (editionOf (a .e)) w) w (a .stand) (ok .place) end (editionOf (a .e)) v), s .pre .1 .1 .1 .1)))
 
 rest-returns : (t : ℕ) → rest-lts.Need-returns (calls t) (rest-at t) rest.Post
 rest-returns t c = c .last .ensures
@@ -90,6 +93,17 @@ rest-next-stand-requires t c κs =
     let ok = s .pre .1 .1 .0 in
     round-inside h w st (ok .place) (not-last (st .level) (roundsOf h) (getD w 4 0) (v .rounds) (ok .place .level) (c .if1 .left)) (editionOf (a .e)) v
 
+rest-round-reads-requires : (t : ℕ) → rest-lts.Need-round-reads-requires (calls t) (rest-at t) rest.Post
+rest-round-reads-requires t c κs =
+    let s = c .before .before .before .before .before .before .before .before in
+    let a = s .args in
+    let w = a .w .now in
+    let h = sheetOf (editionOf (a .e)) w in
+    let st = a .stand in
+    let v = s .pre .1 .0 in
+    let ok = s .pre .1 .1 .0 in
+    (round-inside h w st (ok .place) (not-last (st .level) (roundsOf h) (getD w 4 0) (v .rounds) (ok .place .level) (c .before .if1 .left)) (editionOf (a .e)) v, omega (arith, s .pre .1 .1 .1 .1, ok .place .level, ok .place .sheet .rounds))
+
 rest-room-requires : (t : ℕ) → rest-lts.Need-room-requires (calls t) (rest-at t) rest.Post
 rest-room-requires t c κs = search needs
 
@@ -104,14 +118,14 @@ rest-slice-aggregate-round-at-2 t c = sym (c .before .before .room2 .ensures)
 
 rest-round-at-requires : (t : ℕ) → rest-lts.Need-round-at-requires (calls t) (rest-at t) rest.Post
 rest-round-at-requires t c κs =
-    let s = c .before .before .before .before .before .before .before .before .before .before .before .before in
+    let s = c .before .before .before .before .before .before .before .before .before .before .before .before .before in
     let a = s .args in
     let w = a .w .now in
     let h = sheetOf (editionOf (a .e)) w in
     let st = a .stand in
     let v = s .pre .1 .0 in
     let ok = s .pre .1 .1 .0 in
-    (ok, (round-inside h w st (ok .place) (not-last (st .level) (roundsOf h) (getD w 4 0) (v .rounds) (ok .place .level) (c .before .before .before .before .before .if1 .left)) (editionOf (a .e)) v, ((c .before .before .before .room .ensures, c .before .before .room2 .ensures), s .pre .1 .1 .1 .clear)))
+    (ok, (round-inside h w st (ok .place) (not-last (st .level) (roundsOf h) (getD w 4 0) (v .rounds) (ok .place .level) (c .before .before .before .before .before .before .if1 .left)) (editionOf (a .e)) v, ((c .before .before .before .room .ensures, c .before .before .room2 .ensures), s .pre .1 .1 .1 .0 .clear)))
 
 rest-enum-known-g : (t : ℕ) → rest-lts.Need-enum-known-g (calls t) (rest-at t) rest.Post
 rest-enum-known-g t c = search needs
@@ -123,18 +137,19 @@ rest-returns-2 : (t : ℕ) → rest-lts.Need-returns-2 (calls t) (rest-at t) res
 unfolding verdictOf outcomeOf
 rest-returns-2 t c =
     let r = c .before .before .before .before in
-    let s = r .before .before .before .before .before .before .before .before .before .before .before .before .before in
+    let s = r .before .before .before .before .before .before .before .before .before .before .before .before .before .before in
     let a = s .args in
     let w = a .w .now in
     let h = sheetOf (editionOf (a .e)) w in
     let st = a .stand in
     let v = s .pre .1 .0 in
     let ok = s .pre .1 .1 .0 in
-    let more = not-last (st .level) (roundsOf h) (getD w 4 0) (v .rounds) (ok .place .level) (r .before .before .before .before .before .before .if1 .left) in
-    let n = r .before .before .before .before .before .next-stand in
+    let more = not-last (st .level) (roundsOf h) (getD w 4 0) (v .rounds) (ok .place .level) (r .before .before .before .before .before .before .before .if1 .left) in
+    let n = r .before .before .before .before .before .before .next-stand in
+    let p = r .before .before .before .before .before .round-reads in
     let q = r .round-at in
-    clash-ready h w (a .pw .now) (a .ac .now) (a .vg .now) st (a .r) (a .how) ok more (n .result) (n .ensures) (q .result)
-    (q .last .1 .1 .1 .1 .1 .1 .1 .1 .0) (q .last .1 .1 .1 .1 .1 .1 .1 .1 .1 .0) (c .enum-told .given .1) (q .ensures .0)
+    clash-ready h w (a .pw .now) (a .ac .now) (a .vg .now) st (a .reads) (a .r) (a .how) ok more (n .result) (n .ensures) (q .result)
+    (q .last .1 .1 .1 .1 .1 .1 .1 .1 .0) (q .last .1 .1 .1 .1 .1 .1 .1 .1 .1 .0) (p .result) (p .ensures) (c .enum-told .given .1) (q .ensures .0)
 
 rest-places-requires : (t : ℕ) → rest-lts.Need-places-requires (calls t) (rest-at t) rest.Post
 rest-places-requires t c κs = search needs
@@ -160,23 +175,23 @@ rest-correction-requires t c κs =
     let q = r .round-at in
     let lx = q .kept .1 .1 .1 .1 .1 .1 .1 .1 .0 ∙ r .before .before .before .before .room .ensures in
     let ly = q .kept .1 .1 .1 .1 .1 .1 .1 .1 .1 .0 ∙ r .before .before .before .room2 .ensures in
-    let s = r .before .before .before .before .before .before .before .before .before .before .before .before .before in
+    let s = r .before .before .before .before .before .before .before .before .before .before .before .before .before .before in
     let a = s .args in
     let w = a .w .now in
     let h = sheetOf (editionOf (a .e)) w in
     let st = a .stand in
     let v = s .pre .1 .0 in
     let ok = s .pre .1 .1 .0 in
-    let more = not-last (st .level) (roundsOf h) (getD w 4 0) (v .rounds) (ok .place .level) (r .before .before .before .before .before .before .if1 .left) in
-    let n = r .before .before .before .before .before .next-stand in
+    let more = not-last (st .level) (roundsOf h) (getD w 4 0) (v .rounds) (ok .place .level) (r .before .before .before .before .before .before .before .if1 .left) in
+    let n = r .before .before .before .before .before .before .next-stand in
     let g = c .before .before .before .before .before .before .before .g .given in (
       round-inside h w st (ok .place) more (editionOf (a .e)) v,
       (
         (omega (arith, lx, room-in (q .result) (g .0 .0) (g .1) (q .ensures .1)), (lx, ly)),
         (
           (c .before .before .before .before .before .places .ensures, c .before .before .before .before .double-places .ensures),
-          apart-ready h w (a .pw .now) (a .ac .now) (a .vg .now) st (a .r) (a .how) ok more (n .result) (n .ensures) (q .result)
-              (q .last .1 .1 .1 .1 .1 .1 .1 .1 .0) (q .last .1 .1 .1 .1 .1 .1 .1 .1 .1 .0) (g .0 .0) (g .1) (q .ensures .0) (ly ∙ sym lx) (s .pre .1 .1 .1),
+          apart-ready h w (a .pw .now) (a .ac .now) (a .vg .now) st (a .reads) (a .r) (a .how) ok more (n .result) (n .ensures) (q .result)
+              (q .last .1 .1 .1 .1 .1 .1 .1 .1 .0) (q .last .1 .1 .1 .1 .1 .1 .1 .1 .1 .0) (g .0 .0) (g .1) (q .ensures .0) (ly ∙ sym lx) (s .pre .1 .1 .1 .0),
         ),
       ),
     )
@@ -184,27 +199,27 @@ rest-correction-requires t c κs =
 rest-next-coin-requires : (t : ℕ) → rest-lts.Need-next-coin-requires (calls t) (rest-at t) rest.Post
 rest-next-coin-requires t c κs =
     let r = c .before .before .before .before .before .before .before .before .before .before .before .before .before .before in
-    let s = r .before .before .before .before .before .before .before .before .before .before .before .before .before in
+    let s = r .before .before .before .before .before .before .before .before .before .before .before .before .before .before in
     let a = s .args in
     let w = a .w .now in
     let h = sheetOf (editionOf (a .e)) w in
     let st = a .stand in
     let v = s .pre .1 .0 in
     let ok = s .pre .1 .1 .0 in
-    let more = not-last (st .level) (roundsOf h) (getD w 4 0) (v .rounds) (ok .place .level) (r .before .before .before .before .before .before .if1 .left) in
+    let more = not-last (st .level) (roundsOf h) (getD w 4 0) (v .rounds) (ok .place .level) (r .before .before .before .before .before .before .before .if1 .left) in
     round-inside h w st (ok .place) more (editionOf (a .e)) v
 
 rest-next-function-requires : (t : ℕ) → rest-lts.Need-next-function-requires (calls t) (rest-at t) rest.Post
 rest-next-function-requires t c κs =
     let r = c .before .before .before .before .before .before .before .before .before .before .before .before .before .before .before in
-    let s = r .before .before .before .before .before .before .before .before .before .before .before .before .before in
+    let s = r .before .before .before .before .before .before .before .before .before .before .before .before .before .before in
     let a = s .args in
     let w = a .w .now in
     let h = sheetOf (editionOf (a .e)) w in
     let st = a .stand in
     let v = s .pre .1 .0 in
     let ok = s .pre .1 .1 .0 in
-    let more = not-last (st .level) (roundsOf h) (getD w 4 0) (v .rounds) (ok .place .level) (r .before .before .before .before .before .before .if1 .left) in
+    let more = not-last (st .level) (roundsOf h) (getD w 4 0) (v .rounds) (ok .place .level) (r .before .before .before .before .before .before .before .if1 .left) in
     (round-inside h w st (ok .place) more (editionOf (a .e)) v, omega (arith, scale-small h w st (ok .place) (a .how .scale) (ok .scale)))
 
 rest-slice-aggregate-rest : (t : ℕ) → rest-lts.Need-slice-aggregate-rest (calls t) (rest-at t) rest.Post
@@ -216,48 +231,47 @@ rest-slice-aggregate-rest-2 t c = sym (c .before .before .before .before .before
 rest-rest-requires : (t : ℕ) → rest-lts.Need-rest-requires (calls t) (rest-at t) rest.Post
 rest-rest-requires t c κs =
     let r = c .before .before .before .before .before .before .before .before .before .before .before .before .before .before .before .before .before .before in
+    let p = r .before .before .before .before .before .round-reads in
     let q = r .round-at in
     let lx = q .kept .1 .1 .1 .1 .1 .1 .1 .1 .0 ∙ r .before .before .before .before .room .ensures in
     let ly = q .kept .1 .1 .1 .1 .1 .1 .1 .1 .1 .0 ∙ r .before .before .before .room2 .ensures in
-    let s = r .before .before .before .before .before .before .before .before .before .before .before .before .before in
+    let s = r .before .before .before .before .before .before .before .before .before .before .before .before .before .before in
     let a = s .args in
     let w = a .w .now in
     let h = sheetOf (editionOf (a .e)) w in
     let st = a .stand in
     let v = s .pre .1 .0 in
     let ok = s .pre .1 .1 .0 in
-    let more = not-last (st .level) (roundsOf h) (getD w 4 0) (v .rounds) (ok .place .level) (r .before .before .before .before .before .before .if1 .left) in
-    let n = r .before .before .before .before .before .next-stand in
+    let more = not-last (st .level) (roundsOf h) (getD w 4 0) (v .rounds) (ok .place .level) (r .before .before .before .before .before .before .before .if1 .left) in
+    let n = r .before .before .before .before .before .before .next-stand in
     let px = q .last .1 .1 .1 .1 .1 .1 .1 .1 .0 in
     let py = q .last .1 .1 .1 .1 .1 .1 .1 .1 .1 .0 in
     let k = c .before .before .before .before .before .before .correction in
     let la = k .kept .1 .1 .1 .1 .1 .1 .0 ∙ c .before .before .before .before .before .before .before .before .before .before .before .before .places .ensures in
     let lv = k .kept .1 .1 .1 .1 .1 .1 .1 .0 ∙ c .before .before .before .before .before .before .before .before .before .before .before .double-places .ensures in
     let g = c .before .before .before .before .before .before .before .before .before .before .before .before .before .before .g .given in
-    let way = c .before .before .next-function in (
-      omega (arith, s .pre .0, level-next h st (n .result) (n .ensures), more, ok .place .sheet .rounds),
-      (
-        v,
-        next-ready h w (a .pw .now) (a .ac .now) (a .vg .now) st (a .r) (a .how) ok more (n .result) (n .ensures) (q .result) (g .0 .0) (k .result) (way .result) (way .ensures)
-            px py (k .last .1 .1 .1 .1 .1 .1 .0) (k .last .1 .1 .1 .1 .1 .1 .1 .0) (g .1) (q .ensures .0) la lv (k .ensures .0) (k .ensures .1) (ly ∙ sym lx) (s .pre .1 .1 .1),
-      ),
-    )
+    let way = c .before .before .next-function in
+    let ready = next-ready h w (a .pw .now) (a .ac .now) (a .vg .now) st (a .reads) (a .r) (a .how) ok more (n .result) (n .ensures) (q .result) (g .0 .0) (k .result) (way .result) (way .ensures)
+    px py (k .last .1 .1 .1 .1 .1 .1 .0) (k .last .1 .1 .1 .1 .1 .1 .1 .0) (g .1) (q .ensures .0) la lv (k .ensures .0) (k .ensures .1) (ly ∙ sym lx) (s .pre .1 .1 .1 .0) in
+    let most = most-next h w (a .pw .now) (a .ac .now) (a .vg .now) st (a .reads) (a .r) (a .how) ok more (n .result) (n .ensures) (q .result) (p .result) (p .ensures) (s .pre .1 .1 .1 .1) in
+    (omega (arith, s .pre .0, level-next h st (n .result) (n .ensures), more, ok .place .sheet .rounds), (v, (ready .0, (ready .1, most))))
 
 rest-returns-3 : (t : ℕ) → rest-lts.Need-returns-3 (calls t) (rest-at t) rest.Post
 rest-returns-3 t c =
     let r = c .before .before .before .before .before .before .before .before .before .before .before .before .before .before .before .before .before .before .before in
+    let p = r .before .before .before .before .before .round-reads in
     let q = r .round-at in
     let lx = q .kept .1 .1 .1 .1 .1 .1 .1 .1 .0 ∙ r .before .before .before .before .room .ensures in
     let ly = q .kept .1 .1 .1 .1 .1 .1 .1 .1 .1 .0 ∙ r .before .before .before .room2 .ensures in
-    let s = r .before .before .before .before .before .before .before .before .before .before .before .before .before in
+    let s = r .before .before .before .before .before .before .before .before .before .before .before .before .before .before in
     let a = s .args in
     let w = a .w .now in
     let h = sheetOf (editionOf (a .e)) w in
     let st = a .stand in
     let v = s .pre .1 .0 in
     let ok = s .pre .1 .1 .0 in
-    let more = not-last (st .level) (roundsOf h) (getD w 4 0) (v .rounds) (ok .place .level) (r .before .before .before .before .before .before .if1 .left) in
-    let n = r .before .before .before .before .before .next-stand in
+    let more = not-last (st .level) (roundsOf h) (getD w 4 0) (v .rounds) (ok .place .level) (r .before .before .before .before .before .before .before .if1 .left) in
+    let n = r .before .before .before .before .before .before .next-stand in
     let px = q .last .1 .1 .1 .1 .1 .1 .1 .1 .0 in
     let py = q .last .1 .1 .1 .1 .1 .1 .1 .1 .1 .0 in
     let k = c .before .before .before .before .before .before .before .correction in
@@ -265,8 +279,8 @@ rest-returns-3 t c =
     let lv = k .kept .1 .1 .1 .1 .1 .1 .1 .0 ∙ c .before .before .before .before .before .before .before .before .before .before .before .before .double-places .ensures in
     let g = c .before .before .before .before .before .before .before .before .before .before .before .before .before .before .before .g .given in
     let way = c .before .before .before .next-function in
-    next-decided h w (a .pw .now) (a .ac .now) (a .vg .now) st (a .r) (a .how) ok more (n .result) (n .ensures) (q .result) (g .0 .0) (k .result) (way .result) (way .ensures)
-    px py (k .last .1 .1 .1 .1 .1 .1 .0) (k .last .1 .1 .1 .1 .1 .1 .1 .0) (g .1) (q .ensures .0) la lv (k .ensures .0) (k .ensures .1) (c .before .before .before .before .next-coin .ensures) (c .rest .ensures)
+    next-decided h w (a .pw .now) (a .ac .now) (a .vg .now) st (a .reads) (a .r) (a .how) ok more (n .result) (n .ensures) (q .result) (g .0 .0) (k .result) (way .result) (way .ensures)
+    px py (k .last .1 .1 .1 .1 .1 .1 .0) (k .last .1 .1 .1 .1 .1 .1 .1 .0) (g .1) (q .ensures .0) la lv (k .ensures .0) (k .ensures .1) (p .ensures) (c .before .before .before .before .next-coin .ensures) (c .rest .ensures)
 
 pub +rest-spec : {M : Type 1} → statement M
 +rest-spec = close μ-rest λ t. rest-lts.spec (calls t)
@@ -277,6 +291,7 @@ pub +rest-spec : {M : Type 1} → statement M
     (rest-last-requires t)
     (rest-returns t)
     (rest-next-stand-requires t)
+    (rest-round-reads-requires t)
     (rest-room-requires t)
     (rest-room-requires-2 t)
     (rest-slice-aggregate-round-at t)

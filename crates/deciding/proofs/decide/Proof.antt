@@ -73,11 +73,10 @@ rest-requires c κs =
     let ac = c .before .before .before .before .before .before .before .before .places in
     let vg = c .before .before .before .before .before .before .before .double-places in
     let st = c .before .before .before .before .before .before .first-stand in
-    let how = c .before .before .first-function in (
-      sheet-written (editionOf (a .e)) (a .w .now) (s .pre .0 .0) (s .pre .1 .0),
-      first-ready (editionOf (a .e)) (a .w .now) (s .pre .0 .0) (s .pre .1 .0) (a .pw .now) (ac .result) (vg .result) (s .pre .0 .1) (s .pre .1 .1 .0 .0) (s .pre .1 .1 .0 .1) (s .pre .1 .1 .1)
-          (st .result) (st .ensures) (how .result) (how .ensures) (ac .ensures) (vg .ensures),
-    )
+    let how = c .before .before .first-function in
+    let ready = first-ready (editionOf (a .e)) (a .w .now) (s .pre .0 .0) (s .pre .1 .0) (a .pw .now) (ac .result) (vg .result) (s .pre .0 .1) (s .pre .1 .1 .0 .0) (s .pre .1 .1 .0 .1) (s .pre .1 .1 .1)
+    (st .result) (st .ensures) (how .result) (how .ensures) (ac .ensures) (vg .ensures) in
+    (sheet-written (editionOf (a .e)) (a .w .now) (s .pre .0 .0) (s .pre .1 .0), (ready .0, (ready .1, omega arith)))
 
 returns : tie.Need-returns
 returns c =

@@ -1,10 +1,7 @@
 -- `deciding::next_stand` meets its contract. Assumes nothing.
 use borrow.Author.Needs.{needs}
-use native.Mathlib.Omega.{arith}
 use mathlib.Core.Path.{_∙_}
-use Rattle.definition.specs.Sheet.{sheetOf}
-use Rattle.edition.specs.Meaning.{editionOf}
-use Rattle.deciding.proofs.Made.{level-reads, next-place}
+use Rattle.deciding.proofs.Made.{next-place}
 use Rattle.deciding.proofs.next_stand.Statement.{statement}
 use Rattle.deciding.proofs.next_stand.Tie as tie
 
@@ -50,25 +47,11 @@ add-t17 c = search needs
 add-t18 : tie.Need-add-t18
 add-t18 c = search needs
 
-mul-t19 : tie.Need-mul-t19
-mul-t19 c =
-    let s = c .before .before .before .before .before .before .before .before .before .before in
-    let i = s .pre .numbers in
-    let k = c .before .before .before .before .before .before .before .before .fold .ensures .0 ∙ i .fold in
-    omega (arith, level-reads (sheetOf (editionOf (s .args .e)) (s .args .w .now)) (s .args .stand) k (i .times), i .fewer, i .reads)
-
-add-t20 : tie.Need-add-t20
-add-t20 c =
-    let s = c .before .before .before .before .before .before .before .before .before .before .before in
-    let i = s .pre .numbers in
-    let k = c .before .before .before .before .before .before .before .before .before .fold .ensures .0 ∙ i .fold in
-    omega (arith, level-reads (sheetOf (editionOf (s .args .e)) (s .args .w .now)) (s .args .stand) k (i .times), i .fewer, i .reads)
-
 returns : tie.Need-returns
 returns c =
-    let s = c .before .before .before .before .before .before .before .before .before .before .before in
+    let s = c .before .before .before .before .before .before .before .before .before .before in
     let i = s .pre .numbers in
-    next-place _ (s .args .stand) (c .before .before .before .before .before .before .before .before .before .fold .ensures .0 ∙ i .fold) (i .outs) (i .times)
+    next-place _ (s .args .stand) (c .before .before .before .before .before .before .before .before .fold .ensures .0 ∙ i .fold) (i .outs) (i .times)
 
 pub next-stand-spec : {M : Type 1} → statement M
 next-stand-spec =
@@ -88,6 +71,4 @@ next-stand-spec =
     add-t16
     add-t17
     add-t18
-    mul-t19
-    add-t20
     returns)

@@ -6,7 +6,7 @@ use mathlib.Core.Path.{_≡_, _∙_, refl, ap}
 use mathlib.Core.List.{[], map}
 use lib.ListN.{length, drop, drop-of-length-le}
 use Rattle.folds.specs.PointsIn.{shiftIn}
-use Rattle.distinct.specs.Points.{differentPoints}
+use Rattle.distinct.specs.Points.{keepPoints}
 use Rattle.distinct.proofs.Turns.{keep-start, keep-turn, keep-end, shift-inside}
 use Rattle.distinct.proofs.keep_shifts.Statement.{statement}
 use Rattle.distinct.proofs.keep_shifts.Tie as tie
@@ -17,7 +17,7 @@ Inv-loop pw scale k shifts xs₀ at₀ i₀ xs at i =
     × ((at ≤ length xs₀)
     × ((length xs₀ ≤ at + (length shifts - i))
     × ((length xs ≡ length xs₀)
-    × (drop at xs ≡ differentPoints (map (shiftIn pw scale k) (drop i shifts))))))
+    × (drop at xs ≡ keepPoints (map (shiftIn pw scale k) (drop i shifts)) []))))
 
 abbrev μ-loop : tie.MeasureT-loop
 μ-loop pw scale k shifts xs₀ at₀ i₀ xs at i = i

@@ -3,7 +3,7 @@ use native.Mathlib.Omega.{arith}
 use mathlib.Core.List.{[], map}
 use mathlib.Core.Path.{_∙_, sym, ap}
 use Rattle.folds.specs.PointsIn.{shiftIn}
-use Rattle.distinct.specs.Points.{keepPoints, keep-append}
+use Rattle.distinct.specs.Points.{keepPoints, keep-append, kept-different}
 use borrow.Author.Needs.{needs}
 use Rattle.distinct.proofs.points.Statement.{statement}
 use Rattle.distinct.proofs.points.Tie as tie
@@ -23,7 +23,7 @@ returns c =
     let k = c .before .before .before .before .before .before .keep-shifts in
     let q = c .before .before .keep-all in
     let whole = keep-append (a .outs .now) (map (shiftIn (a .pw .now) (a .scale) (a .k)) (a .shifts .now)) [] in
-    (q .ensures .0 ∙ ap (keepPoints (a .outs .now)) (k .ensures .0) ∙ sym whole, (omega arith, omega arith))
+    (q .ensures .0 ∙ ap (keepPoints (a .outs .now)) (k .ensures .0) ∙ sym whole ∙ kept-different _, (omega arith, omega arith))
 
 pub points-spec : {M : Type 1} → statement M
 points-spec = tie.close (tie.spec keep-shifts-requires keep-all-requires same-length returns)

@@ -1,15 +1,16 @@
--- `distinct::found` meets its contract: the search among the points from number i on is the whole search. Assumes nothing.
+-- `places::found` meets its contract: the search among the words from number i on is the whole search. Assumes nothing.
 use Prim.Native.Nat.{_-_, _≤_}
 use native.Mathlib.Omega.{arith}
 use mathlib.Core.Path.{_≡_, _∙_, refl}
+use lib.Dec.{eqb}
 use lib.ListN.{length, drop}
 use Rattle.definition.specs.Lists.{member}
-use Rattle.distinct.proofs.Turns.{here, next, nowhere}
-use Rattle.distinct.proofs.found.Statement.{statement}
-use Rattle.distinct.proofs.found.Tie as tie
+use Rattle.places.proofs.Search.{here, next, nowhere}
+use Rattle.places.proofs.found.Statement.{statement}
+use Rattle.places.proofs.found.Tie as tie
 
 abbrev Inv-loop : tie.InvT-loop
-Inv-loop xs from x i₀ i = (i ≤ length xs) × (member x (drop i xs) ≡ member x (drop from xs))
+Inv-loop xs from x i₀ i = (i ≤ length xs) × (member eqb x (drop i xs) ≡ member eqb x (drop from xs))
 
 abbrev μ-loop : tie.MeasureT-loop
 μ-loop xs from x i₀ i = length xs - i
