@@ -5,26 +5,20 @@ use native.Mathlib.Nat.{pow-suc, zero-mod}
 use native.Mathlib.Omega.{arith}
 use mathlib.Core.Bool.{Bool, true, false, cond, true≢false}
 use mathlib.Core.List.{List}
-use mathlib.Core.Option.{Option, none, some}
+use mathlib.Core.Option.{none, some}
 use mathlib.Core.Path.{_≡_, refl, sym, ap, _∙_}
 use lib.Dec.{eqb}
 use borrow.Author.Tests.{eqb-true}
 use Rattle.definition.specs.Field.{Field, powerMod, primeField, foundOr, reciprocal}
 use Rattle.definition.specs.Polynomial.{evaluate, vanishing}
+use Rattle.list_laws.specs.Booleans.{some≢none}
 use Rattle.algebra.specs.Different.{Differ}
 use Rattle.algebra.specs.Division.{vanishing-nonzero}
 use Rattle.algebra.specs.Evaluation.{reduce-evaluate}
 use Rattle.algebra.specs.Laws.{FieldLaws}
-use Rattle.algebra.specs.ListFacts.{All}
+use Rattle.list_laws.specs.All.{All}
 use Rattle.algebra.specs.ModularArithmetic.{pow-mod}
 use Rattle.algebra.specs.PowerBySquaring.{powerMod-is}
-
-pub some≢none : {A : Type 0} (x : A) → _≡_ {A = Option A} (some x) none → ⊥
-some≢none {A} x e = let z : _≡_ {A = Bool} true false = ap there e in true≢false z
-  where
-    there : Option A → Bool
-    there none = false
-    there (some y) = true
 
 module _ {A : Type 0} (F : Field A) (L : FieldLaws F) where
   open Field F using (𝟘, inverse, equal)

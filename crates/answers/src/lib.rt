@@ -1,6 +1,6 @@
 // G of a round, and the first final index at which the final polynomial differs, with places of their own for the values at the roots and for the fractions. A
 // small round is spared the clearing of many places.
-use fractions::Function;
+use fractions::Oracle;
 use outcome::Found;
 use samples::Gathered;
 ghost use mathlib.Core.Path.{_≡_};
@@ -38,7 +38,7 @@ fn answer_in(
     table: &[u32],
     ac: &[u32],
     vg: &[u32],
-    how: Function,
+    oracle: Oracle,
     k: usize,
     r: u32,
     shifts: &[u32],
@@ -50,12 +50,12 @@ fn answer_in(
     px: &mut [u32],
     py: &mut [u32],
 ) -> Gathered
-    requires { ⌜ (length (now ac) ≡ 66) × ((length (now vg) ≡ 132) × (Clear field (now pw) (length (now table)) (now vg) how)) ⌝ }
-    requires { ⌜ Fits (length (now pw)) (length (now table)) how k ⌝ }
-    requires { ⌜ Below (how .step) (now shifts) ⌝ }
+    requires { ⌜ (length (now ac) ≡ 66) × ((length (now vg) ≡ 132) × (Clear field (now pw) (length (now table)) (now vg) oracle)) ⌝ }
+    requires { ⌜ Fits (length (now pw)) (length (now table)) oracle k ⌝ }
+    requires { ⌜ Below (oracle .step) (now shifts) ⌝ }
     requires { ⌜ (length (now py) ≡ length (now px)) × ((length (now replies) ≡ length (now outs)) × (length (now outs) + length (now shifts) ≤ length (now px))) ⌝ }
     requires { ⌜ (length (now shifts) * k ≤ length (now tops)) × ((length (now shifts) * k ≤ length (now bottoms)) × ((length (now shifts) * k ≤ length (now behind)) × (length (now shifts) ≤ 4096))) ⌝ }
-    ensures { λ v. ⌜ Answered field (now (pw .entry)) (now (table .entry)) (now (ac .entry)) (now (vg .entry)) how k r (now (shifts .entry)) (now (outs .entry)) (now (replies .entry)) (kept v (now (px .exit)) (now (py .exit))) ⌝ }
+    ensures { λ v. ⌜ Answered field (now (pw .entry)) (now (table .entry)) (now (ac .entry)) (now (vg .entry)) oracle k r (now (shifts .entry)) (now (outs .entry)) (now (replies .entry)) (kept v (now (px .exit)) (now (py .exit))) ⌝ }
     ensures { λ v. ⌜ Room (length (now (px .entry))) (length (now (outs .entry)) + length (now (shifts .entry))) v ⌝ }
 {
     let mut values = roots();
@@ -65,7 +65,7 @@ fn answer_in(
         table,
         ac,
         vg,
-        how,
+        oracle,
         r,
         shifts,
         outs,
@@ -86,7 +86,7 @@ pub fn answer(
     table: &[u32],
     ac: &[u32],
     vg: &[u32],
-    how: Function,
+    oracle: Oracle,
     k: usize,
     r: u32,
     shifts: &[u32],
@@ -95,12 +95,12 @@ pub fn answer(
     px: &mut [u32],
     py: &mut [u32],
 ) -> Gathered
-    requires { ⌜ (length (now ac) ≡ 66) × ((length (now vg) ≡ 132) × (Clear field (now pw) (length (now table)) (now vg) how)) ⌝ }
-    requires { ⌜ Fits (length (now pw)) (length (now table)) how k ⌝ }
-    requires { ⌜ Below (how .step) (now shifts) ⌝ }
+    requires { ⌜ (length (now ac) ≡ 66) × ((length (now vg) ≡ 132) × (Clear field (now pw) (length (now table)) (now vg) oracle)) ⌝ }
+    requires { ⌜ Fits (length (now pw)) (length (now table)) oracle k ⌝ }
+    requires { ⌜ Below (oracle .step) (now shifts) ⌝ }
     requires { ⌜ (length (now py) ≡ length (now px)) × ((length (now replies) ≡ length (now outs)) × (length (now outs) + length (now shifts) ≤ length (now px))) ⌝ }
     requires { ⌜ length (now px) ≤ 50 ⌝ }
-    ensures { λ v. ⌜ Answered field (now (pw .entry)) (now (table .entry)) (now (ac .entry)) (now (vg .entry)) how k r (now (shifts .entry)) (now (outs .entry)) (now (replies .entry)) (kept v (now (px .exit)) (now (py .exit))) ⌝ }
+    ensures { λ v. ⌜ Answered field (now (pw .entry)) (now (table .entry)) (now (ac .entry)) (now (vg .entry)) oracle k r (now (shifts .entry)) (now (outs .entry)) (now (replies .entry)) (kept v (now (px .exit)) (now (py .exit))) ⌝ }
     ensures { λ v. ⌜ Room (length (now (px .entry))) (length (now (outs .entry)) + length (now (shifts .entry))) v ⌝ }
 {
     if shifts.len() * k <= 64 {
@@ -113,7 +113,7 @@ pub fn answer(
             table,
             ac,
             vg,
-            how,
+            oracle,
             k,
             r,
             shifts,
@@ -135,7 +135,7 @@ pub fn answer(
         table,
         ac,
         vg,
-        how,
+        oracle,
         k,
         r,
         shifts,
@@ -156,7 +156,7 @@ fn difference_in(
     table: &[u32],
     ac: &[u32],
     vg: &[u32],
-    how: Function,
+    oracle: Oracle,
     k: usize,
     r: u32,
     coefficients: &[u32],
@@ -165,11 +165,11 @@ fn difference_in(
     bottoms: &mut [u32],
     behind: &mut [u32],
 ) -> Found
-    requires { ⌜ (length (now ac) ≡ 66) × ((length (now vg) ≡ 132) × (Clear field (now pw) (length (now table)) (now vg) how)) ⌝ }
-    requires { ⌜ Fits (length (now pw)) (length (now table)) how k ⌝ }
-    requires { ⌜ Below (how .step) (now finals) ⌝ }
+    requires { ⌜ (length (now ac) ≡ 66) × ((length (now vg) ≡ 132) × (Clear field (now pw) (length (now table)) (now vg) oracle)) ⌝ }
+    requires { ⌜ Fits (length (now pw)) (length (now table)) oracle k ⌝ }
+    requires { ⌜ Below (oracle .step) (now finals) ⌝ }
     requires { ⌜ (length (now finals) * k ≤ length (now tops)) × ((length (now finals) * k ≤ length (now bottoms)) × ((length (now finals) * k ≤ length (now behind)) × (length (now finals) ≤ 4096))) ⌝ }
-    ensures { λ v. ⌜ Compared field (now (pw .entry)) (now (table .entry)) (now (ac .entry)) (now (vg .entry)) how k r (now (coefficients .entry)) (now (finals .entry)) (placeOf v) ⌝ }
+    ensures { λ v. ⌜ Compared field (now (pw .entry)) (now (table .entry)) (now (ac .entry)) (now (vg .entry)) oracle k r (now (coefficients .entry)) (now (finals .entry)) (placeOf v) ⌝ }
 {
     let mut values = roots();
     comparison::first_difference(
@@ -178,7 +178,7 @@ fn difference_in(
         table,
         ac,
         vg,
-        how,
+        oracle,
         r,
         coefficients,
         finals,
@@ -196,16 +196,16 @@ pub fn difference(
     table: &[u32],
     ac: &[u32],
     vg: &[u32],
-    how: Function,
+    oracle: Oracle,
     k: usize,
     r: u32,
     coefficients: &[u32],
     finals: &[u32],
 ) -> Found
-    requires { ⌜ (length (now ac) ≡ 66) × ((length (now vg) ≡ 132) × (Clear field (now pw) (length (now table)) (now vg) how)) ⌝ }
-    requires { ⌜ Fits (length (now pw)) (length (now table)) how k ⌝ }
-    requires { ⌜ (Below (how .step) (now finals)) × (length (now finals) ≤ 50) ⌝ }
-    ensures { λ v. ⌜ Compared field (now (pw .entry)) (now (table .entry)) (now (ac .entry)) (now (vg .entry)) how k r (now (coefficients .entry)) (now (finals .entry)) (placeOf v) ⌝ }
+    requires { ⌜ (length (now ac) ≡ 66) × ((length (now vg) ≡ 132) × (Clear field (now pw) (length (now table)) (now vg) oracle)) ⌝ }
+    requires { ⌜ Fits (length (now pw)) (length (now table)) oracle k ⌝ }
+    requires { ⌜ (Below (oracle .step) (now finals)) × (length (now finals) ≤ 50) ⌝ }
+    ensures { λ v. ⌜ Compared field (now (pw .entry)) (now (table .entry)) (now (ac .entry)) (now (vg .entry)) oracle k r (now (coefficients .entry)) (now (finals .entry)) (placeOf v) ⌝ }
 {
     if finals.len() * k <= 64 {
         let mut tops = few();
@@ -217,7 +217,7 @@ pub fn difference(
             table,
             ac,
             vg,
-            how,
+            oracle,
             k,
             r,
             coefficients,
@@ -236,7 +236,7 @@ pub fn difference(
         table,
         ac,
         vg,
-        how,
+        oracle,
         k,
         r,
         coefficients,

@@ -16,7 +16,7 @@ use Rattle.algebra.specs.PrimeField.{laws}
 use Rattle.domain.specs.Powers.{Powers}
 use Rattle.sums.specs.Sums.{products, products-powers}
 use Rattle.folds.specs.PointsIn.{shiftIn, shift-power}
-use Rattle.fractions.specs.declared.Function.{Function}
+use Rattle.fractions.specs.declared.Oracle.{Oracle}
 use Rattle.fractions.specs.Values.{Fits, Below, ShiftPowers, rootIn}
 use Rattle.root_values.specs.Places.{Prepared}
 use Rattle.rounds.specs.RoundLaws.{Compared, compared, differsIn}
@@ -24,18 +24,18 @@ use Rattle.rounds.specs.SamplesIn.{foldBy, numbered, sampleBy, sampleIn}
 use Rattle.rounds.proofs.Shifts.{numbered-front, numbered-map, sample-same}
 
 -- the final polynomial's value v at the shift point, beside the fold y there
-module _ (field : ℕ) (pw roots : List ℕ) (how : Function) (k r i : ℕ) (coefficients : List ℕ) {v y k′ k″ j j′ : ℕ} (value : v ≡ evaluate (fieldOf field) coefficients (shiftIn pw (how .scale) k″ j))
-    (fold : y ≡ foldBy field pw roots how k′ r i j) (length″ : k″ ≡ k) (length′ : k′ ≡ k) (index : j ≡ j′) where
-  tested : not (eqb v y) ≡ differsIn field coefficients (sampleBy field pw roots how k r i j′)
+module _ (field : ℕ) (pw roots : List ℕ) (oracle : Oracle) (k r i : ℕ) (coefficients : List ℕ) {v y k′ k″ j j′ : ℕ} (value : v ≡ evaluate (fieldOf field) coefficients (shiftIn pw (oracle .scale) k″ j))
+    (fold : y ≡ foldBy field pw roots oracle k′ r i j) (length″ : k″ ≡ k) (length′ : k′ ≡ k) (index : j ≡ j′) where
+  tested : not (eqb v y) ≡ differsIn field coefficients (sampleBy field pw roots oracle k r i j′)
   unfolding differsIn sampleBy
   tested =
       (λ z. not (eqb (value z) (fold z)))
-      ∙ (λ z. not (eqb (evaluate (fieldOf field) coefficients (shiftIn pw (how .scale) (length″ z) (index z))) (foldBy field pw roots how (length′ z) r i (index z))))
+      ∙ (λ z. not (eqb (evaluate (fieldOf field) coefficients (shiftIn pw (oracle .scale) (length″ z) (index z))) (foldBy field pw roots oracle (length′ z) r i (index z))))
 
-  pub differs : (v ≡ y → ⊥) → differsIn field coefficients (sampleBy field pw roots how k r i j′) ≡ true
+  pub differs : (v ≡ y → ⊥) → differsIn field coefficients (sampleBy field pw roots oracle k r i j′) ≡ true
   differs h = sym tested ∙ ap not (ne-eqb v y h)
 
-  pub agrees : v ≡ y → differsIn field coefficients (sampleBy field pw roots how k r i j′) ≡ false
+  pub agrees : v ≡ y → differsIn field coefficients (sampleBy field pw roots oracle k r i j′) ≡ false
   agrees h = sym tested ∙ ap not (eq-eqb v y h)
 
 -- the final polynomial by the powers of a shift point, which has no more coefficients than there are powers
@@ -49,13 +49,13 @@ final-is field ω pw scale k j coefficients powers w pos long list more ev =
     ∙ ap (evaluate F coefficients) (sym (shift-power pw scale k j pos long field ω w))
 
 -- the comparison by the values at the roots
-pub comparison-is : (field : ℕ) (pw table ac vg : List ℕ) (how : Function) (k r : ℕ) (js roots : List ℕ) → Fits (length pw) (length table) how k →
-    Prepared k (rootIn field pw table ac vg how) js roots → (coefficients : List ℕ) {v : Option ℕ} → Below (how .step) js →
-    v ≡ firstTrue 0 (numbered (λ i j. differsIn field coefficients (sampleBy field pw roots how k r i j)) 0 js) → Compared field pw table ac vg how k r coefficients js v
-comparison-is field pw table ac vg how k r js roots fits ready coefficients below e =
-    compared field pw table ac vg how k r fits coefficients js below
-    (e ∙ ap (firstTrue 0) (numbered-map (λ i j. differsIn field coefficients (sampleBy field pw roots how k r i j)) (λ j. differsIn field coefficients (sampleIn field pw table ac vg how k r j)) js
-    (λ i l. ap (differsIn field coefficients) (sample-same field pw table ac vg how k r js roots fits ready i l))))
+pub comparison-is : (field : ℕ) (pw table ac vg : List ℕ) (oracle : Oracle) (k r : ℕ) (js roots : List ℕ) → Fits (length pw) (length table) oracle k →
+    Prepared k (rootIn field pw table ac vg oracle) js roots → (coefficients : List ℕ) {v : Option ℕ} → Below (oracle .step) js →
+    v ≡ firstTrue 0 (numbered (λ i j. differsIn field coefficients (sampleBy field pw roots oracle k r i j)) 0 js) → Compared field pw table ac vg oracle k r coefficients js v
+comparison-is field pw table ac vg oracle k r js roots fits ready coefficients below e =
+    compared field pw table ac vg oracle k r fits coefficients js below
+    (e ∙ ap (firstTrue 0) (numbered-map (λ i j. differsIn field coefficients (sampleBy field pw roots oracle k r i j)) (λ j. differsIn field coefficients (sampleIn field pw table ac vg oracle k r j)) js
+    (λ i l. ap (differsIn field coefficients) (sample-same field pw table ac vg oracle k r js roots fits ready i l))))
 
 -- ---- comparing, from the first index to the last
 

@@ -1,7 +1,7 @@
 // The final comparison: of the final polynomial with the folds at the shift points of the final indices.
 //
 // The caller lends the words, as for the samples of a round.
-use fractions::Function;
+use fractions::Oracle;
 use outcome::Found;
 ghost use mathlib.Core.Path.{_≡_};
 ghost use Prim.Native.Nat.{ℕ, _+_, _*_, _≤_, _<_};
@@ -46,23 +46,23 @@ fn compare(
     field: u32,
     pw: &[u32],
     roots: &[u32],
-    how: Function,
+    oracle: Oracle,
     r: u32,
     coefficients: &[u32],
     finals: &[u32],
     values: &mut [u32],
 ) -> Found
     requires { ⌜ length (now finals) * length (now values) ≤ length (now roots) ⌝ }
-    requires { ⌜ Fits (length (now pw)) (length (now values) * how .step) how (length (now values)) ⌝ }
-    requires { ⌜ Below (how .step) (now finals) ⌝ }
+    requires { ⌜ Fits (length (now pw)) (length (now values) * oracle .step) oracle (length (now values)) ⌝ }
+    requires { ⌜ Below (oracle .step) (now finals) ⌝ }
     requires { ⌜ PowerTable field (now pw) ⌝ }
-    ensures { λ v. ⌜ placeOf v ≡ firstTrue 0 (numbered (λ i j. differsIn field (now (coefficients .entry)) (sampleBy field (now (pw .entry)) (now (roots .entry)) how (length (now (values .entry))) r i j)) 0 (now (finals .entry))) ⌝ }
+    ensures { λ v. ⌜ placeOf v ≡ firstTrue 0 (numbered (λ i j. differsIn field (now (coefficients .entry)) (sampleBy field (now (pw .entry)) (now (roots .entry)) oracle (length (now (values .entry))) r i j)) 0 (now (finals .entry))) ⌝ }
 {
     let mut i = 0;
     while i < finals.len() {
         let j = folds::wide(finals[i]);
-        let y = rounds::fold_at(field, pw, roots, how, i, j, r, values);
-        let value = final_value(field, pw, how.scale, j, values.len(), coefficients);
+        let y = rounds::fold_at(field, pw, roots, oracle, i, j, r, values);
+        let value = final_value(field, pw, oracle.scale, j, values.len(), coefficients);
         if value != y {
             return Found::At(i);
         }
@@ -78,7 +78,7 @@ pub fn first_difference(
     table: &[u32],
     ac: &[u32],
     vg: &[u32],
-    how: Function,
+    oracle: Oracle,
     r: u32,
     coefficients: &[u32],
     finals: &[u32],
@@ -87,11 +87,11 @@ pub fn first_difference(
     bottoms: &mut [u32],
     behind: &mut [u32],
 ) -> Found
-    requires { ⌜ (length (now ac) ≡ 66) × ((length (now vg) ≡ 132) × (Clear field (now pw) (length (now table)) (now vg) how)) ⌝ }
-    requires { ⌜ Fits (length (now pw)) (length (now table)) how (length (now values)) ⌝ }
-    requires { ⌜ Below (how .step) (now finals) ⌝ }
+    requires { ⌜ (length (now ac) ≡ 66) × ((length (now vg) ≡ 132) × (Clear field (now pw) (length (now table)) (now vg) oracle)) ⌝ }
+    requires { ⌜ Fits (length (now pw)) (length (now table)) oracle (length (now values)) ⌝ }
+    requires { ⌜ Below (oracle .step) (now finals) ⌝ }
     requires { ⌜ (length (now finals) * length (now values) ≤ length (now tops)) × ((length (now finals) * length (now values) ≤ length (now bottoms)) × ((length (now finals) * length (now values) ≤ length (now behind)) × (length (now finals) ≤ 4096))) ⌝ }
-    ensures { λ v. ⌜ Compared field (now (pw .entry)) (now (table .entry)) (now (ac .entry)) (now (vg .entry)) how (length (now (values .entry))) r (now (coefficients .entry)) (now (finals .entry)) (placeOf v) ⌝ }
+    ensures { λ v. ⌜ Compared field (now (pw .entry)) (now (table .entry)) (now (ac .entry)) (now (vg .entry)) oracle (length (now (values .entry))) r (now (coefficients .entry)) (now (finals .entry)) (placeOf v) ⌝ }
 {
     let k = values.len();
     root_values::prepare(
@@ -100,12 +100,12 @@ pub fn first_difference(
         table,
         ac,
         vg,
-        how,
+        oracle,
         k,
         finals,
         tops,
         bottoms,
         behind,
     );
-    compare(field, pw, tops, how, r, coefficients, finals, values)
+    compare(field, pw, tops, oracle, r, coefficients, finals, values)
 }

@@ -12,7 +12,7 @@ use borrow.Author.Tests.{eq-eqb, ne-eqb}
 use Rattle.definition.specs.Convert.{foldsTest}
 use Rattle.definition.specs.Sheet.{edition2, foldWords, sheetOf}
 use Rattle.definition.specs.Verdict.{refuseAt}
-use Rattle.completeness.specs.SheetRules.{fold-count}
+use Rattle.layouts.specs.SheetRules.{fold-count}
 use Rattle.ranges.proofs.FirstFrom.{firstFrom, true-here, false-here, none-left}
 
 -- k_0 to k_M, and which of them is not k_0

@@ -10,8 +10,8 @@ use Rattle.definition.specs.Convert.{backward, bodyOf, forward, spread}
 use Rattle.definition.specs.Layout.{layout, wordsDue}
 use Rattle.definition.specs.Sheet.{edition1, edition2, sheetOf}
 use Rattle.completeness.specs.Conversion.{spread-words}
-use Rattle.completeness.specs.ListLaws.{drop-take}
-use Rattle.stream.specs.Overwriting.{overwrite, overwrite-before, overwrite-join, overwrite-store}
+use Rattle.list_laws.specs.Lists.{drop-take}
+use Rattle.list_laws.specs.Overwriting.{overwrite, overwrite-before, overwrite-join, overwrite-store}
 
 -- ---- a copy within a list
 

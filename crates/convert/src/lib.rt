@@ -15,7 +15,7 @@ ghost use Rattle.definition.specs.Reading.{reading};
 ghost use Rattle.definition.specs.Sheet.{edition1, edition2, sheetOf};
 ghost use Rattle.definition.specs.Verdict.{_then_, refuseAt};
 ghost use Rattle.outcome.specs.Meaning.{answerOf, placeOf};
-ghost use Rattle.stream.specs.Overwriting.{overwrite};
+ghost use Rattle.list_laws.specs.Overwriting.{overwrite};
 ghost use Rattle.convert.specs.Sheets.{laterFolds};
 ghost use Rattle.convert.specs.Stages.{Sized, Tested, outputFor};
 
@@ -152,7 +152,7 @@ fn write(words: &[u32], count: usize, output: &mut [u8]) -> Answer
     ensures { λ r. ⌜ answerOf r ≡ done (blockCount count) ⌝ }
     ensures { λ _. ⌜ now (output .exit) ≡ fileOf (take count (now (words .entry))) ++ drop (length (fileOf (take count (now (words .entry))))) (now (output .entry)) ⌝ }
 {
-    stream::seal(words, count, output);
+    stream::write_file(words, count, output);
     Answer::Done((count + 126) / 127)
 }
 

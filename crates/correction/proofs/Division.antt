@@ -18,18 +18,18 @@ module _ (F : Field ℕ) where
   infixl 70 _⊗_
   open Field F using (𝟘, _⊕_, _⊗_)
 
-  abbrev pub noughts : ℕ → List ℕ
-  noughts m = replicate m 𝟘
+  abbrev pub zeros : ℕ → List ℕ
+  zeros m = replicate m 𝟘
 
   -- noughts behind a list leave its head
-  first : (l : List ℕ) (m : ℕ) → getD (l ++ noughts m) 0 𝟘 ≡ getD l 0 𝟘
+  first : (l : List ℕ) (m : ℕ) → getD (l ++ zeros m) 0 𝟘 ≡ getD l 0 𝟘
   first [] zero = refl
   first [] (suc m) = refl
   first (x ∷ l) m = refl
 
   -- Horner's scheme of the coefficients passed, and a nought behind it: its head is at hand, and the rest stands in their places
   unfoldable pub scheme : ℕ → List ℕ → List ℕ
-  scheme a f = horner F a f ++ noughts 1
+  scheme a f = horner F a f ++ zeros 1
 
   scheme-head : (a : ℕ) (f : List ℕ) → getD (horner F a f) 0 𝟘 ∷ tail (scheme a f) ≡ scheme a f
   unfolding scheme horner
@@ -54,15 +54,15 @@ module _ (F : Field ℕ) where
       let h = getD (horner F a f) 0 𝟘 in
       ap (λ (l : List ℕ). (x ⊕ a ⊗ h) ∷ schemes ps l) (sym (scheme-head a f)) ∙ ap (λ (l : List ℕ). (x ⊕ a ⊗ h) ∷ l) (schemes-cons ps h (tail (scheme a f)))
 
-  schemes-nil : (ps : List ℕ) → noughts (length ps) ≡ schemes ps []
+  schemes-nil : (ps : List ℕ) → zeros (length ps) ≡ schemes ps []
   unfolding schemes scheme horner
   schemes-nil [] = refl
   schemes-nil (a ∷ ps) = ap (λ (l : List ℕ). 𝟘 ∷ l) (schemes-nil ps)
 
-  pub schemes-start : (ps f₀ f : List ℕ) (n : ℕ) → noughts (length ps) ++ take (n - n) (drop n f) ≡ schemes ps (take (n - n) (drop n f₀))
+  pub schemes-start : (ps f₀ f : List ℕ) (n : ℕ) → zeros (length ps) ++ take (n - n) (drop n f) ≡ schemes ps (take (n - n) (drop n f₀))
   schemes-start ps f₀ f n =
       let z : n - n ≡ 0 = omega arith in
-      rw z (append-nil (noughts (length ps)) ∙ schemes-nil ps)
+      rw z (append-nil (zeros (length ps)) ∙ schemes-nil ps)
 
   schemes-turn : (ps l f₀ f : List ℕ) (n i : ℕ) → 0 < i → i ≤ n → n ≤ length f₀ → getD f (i - 1) 0 ≡ getD f₀ (i - 1) 0 →
       l ≡ schemes ps (take (n - i) (drop i f₀)) → fed (getD f (i - 1) 0) ps l ≡ schemes ps (take (n - (i - 1)) (drop (i - 1) f₀))
@@ -118,31 +118,31 @@ module _ (F : Field ℕ) (L : FieldLaws F) where
   open FieldLaws L using (mul-zero, add-zero, reduce-zero)
 
   -- noughts behind the coefficients are noughts behind the scheme
-  horner-noughts : (a m : ℕ) → horner F a (noughts F m) ≡ noughts F m
+  horner-zeros : (a m : ℕ) → horner F a (zeros F m) ≡ zeros F m
   unfolding horner
-  horner-noughts a zero = refl
-  horner-noughts a (suc m) =
-      let head : getD (horner F a (noughts F m)) 0 𝟘 ≡ 𝟘 = ap (λ (l : List ℕ). getD l 0 𝟘) (horner-noughts a m) ∙ first F [] m in
-      let nought : 𝟘 ⊕ a ⊗ 𝟘 ≡ 𝟘 = rw (mul-zero a, add-zero 𝟘) reduce-zero in
-      λ i. (ap (λ (t : ℕ). 𝟘 ⊕ a ⊗ t) head ∙ nought) i ∷ horner-noughts a m i
+  horner-zeros a zero = refl
+  horner-zeros a (suc m) =
+      let head : getD (horner F a (zeros F m)) 0 𝟘 ≡ 𝟘 = ap (λ (l : List ℕ). getD l 0 𝟘) (horner-zeros a m) ∙ first F [] m in
+      let zero-word : 𝟘 ⊕ a ⊗ 𝟘 ≡ 𝟘 = rw (mul-zero a, add-zero 𝟘) reduce-zero in
+      λ i. (ap (λ (t : ℕ). 𝟘 ⊕ a ⊗ t) head ∙ zero-word) i ∷ horner-zeros a m i
 
-  horner-behind : (a : ℕ) (f : List ℕ) (m : ℕ) → horner F a (f ++ noughts F m) ≡ horner F a f ++ noughts F m
+  horner-behind : (a : ℕ) (f : List ℕ) (m : ℕ) → horner F a (f ++ zeros F m) ≡ horner F a f ++ zeros F m
   unfolding horner
-  horner-behind a [] m = horner-noughts a m
+  horner-behind a [] m = horner-zeros a m
   horner-behind a (x ∷ f) m =
       let head = ap (λ (l : List ℕ). getD l 0 𝟘) (horner-behind a f m) ∙ first F (horner F a f) m in
       λ i. (x ⊕ a ⊗ head i) ∷ horner-behind a f m i
 
-  scheme-behind : (a : ℕ) (f : List ℕ) (m : ℕ) → scheme F a (f ++ noughts F m) ≡ horner F a f ++ noughts F (suc m)
+  scheme-behind : (a : ℕ) (f : List ℕ) (m : ℕ) → scheme F a (f ++ zeros F m) ≡ horner F a f ++ zeros F (suc m)
   unfolding scheme
   scheme-behind a f m =
-      ap (λ (l : List ℕ). l ++ noughts F 1) (horner-behind a f m) ∙ append-assoc (horner F a f) (noughts F m) (noughts F 1)
-      ∙ ap (λ (l : List ℕ). horner F a f ++ l) (replicate-append-replicate m 1 𝟘 ∙ ap (noughts F) (add-one m))
+      ap (λ (l : List ℕ). l ++ zeros F 1) (horner-behind a f m) ∙ append-assoc (horner F a f) (zeros F m) (zeros F 1)
+      ∙ ap (λ (l : List ℕ). horner F a f ++ l) (replicate-append-replicate m 1 𝟘 ∙ ap (zeros F) (add-one m))
 
   -- the places of the last scheme are those of the quotient
-  schemes-places : (ps f : List ℕ) (m : ℕ) → take (length f - length ps) (drop (length ps) (schemes F ps (f ++ noughts F m))) ≡ quotient F f ps
+  schemes-places : (ps f : List ℕ) (m : ℕ) → take (length f - length ps) (drop (length ps) (schemes F ps (f ++ zeros F m))) ≡ quotient F f ps
   unfolding schemes scheme horner divide quotient
-  schemes-places [] f m = take-at f (noughts F m) (length f - 0) (omega arith)
+  schemes-places [] f m = take-at f (zeros F m) (length f - 0) (omega arith)
   schemes-places (a ∷ ps) [] m =
       let z : 0 - length (a ∷ ps) ≡ 0 = omega arith in
       rw z (sym (quotient-none F [] (a ∷ ps) (omega arith)))
@@ -157,6 +157,6 @@ module _ (F : Field ℕ) (L : FieldLaws F) where
       let b : n - 0 ≡ n = omega arith in
       let whole : heads ++ take n f ≡ schemes F ps (take n f₀) = rw (z, b) at e in
       let m : length (take n f₀) ≡ n = length-take-le n f₀ l in
-      let none : take n f₀ ++ noughts F 0 ≡ take n f₀ = append-nil (take n f₀) in
+      let none : take n f₀ ++ zeros F 0 ≡ take n f₀ = append-nil (take n f₀) in
       let places : take n f ≡ drop (length ps) (schemes F ps (take n f₀)) = sym (drop-at heads (take n f) (length ps) s) ∙ ap (drop (length ps)) whole in
       sym (take-take (n - length ps) n f (omega arith)) ∙ ap (take (n - length ps)) places ∙ (rw (none, m) at (schemes-places ps (take n f₀) 0))

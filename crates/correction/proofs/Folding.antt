@@ -9,7 +9,7 @@ use lib.Seq.{drop-drop, drop-length}
 use Rattle.definition.specs.Lists.{chunks}
 use Rattle.definition.specs.Field.{Field}
 use Rattle.definition.specs.Polynomial.{evaluate, foldPoly}
-use Rattle.polynomial.specs.Backwards.{drop-store}
+use Rattle.list_laws.specs.Backwards.{drop-store}
 use Rattle.division.specs.BackToFront.{one-more}
 
 -- chunk j - 1 ends where chunk j begins, and lies inside

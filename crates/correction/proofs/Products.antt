@@ -4,24 +4,22 @@ use mathlib.Core.Path.{_≡_, sym, _∙_}
 use mathlib.Core.List.{List, [], _∷_, _++_}
 use native.Mathlib.Numerals.{add-one}
 use native.Mathlib.Omega.{arith}
-use lib.ListN.{length, take, drop, getD, set, replicate, length-drop, length-replicate, getD-replicate, List·getD-append}
-use lib.Seq.{take-suc, take-suc-set, take-all, getD-append-add}
+use lib.ListN.{length, take, drop, getD, set, replicate, length-drop}
+use lib.Seq.{take-suc, take-suc-set, take-all}
 use Rattle.definition.specs.Field.{Field, power}
 use Rattle.definition.specs.Polynomial.{Sample, points, mulPoly, quotient, geometric, correctedPoly}
+use Rattle.list_laws.specs.Lists.{getD-after-run, getD-run}
 use Rattle.algebra.specs.Laws.{FieldLaws}
 use Rattle.algebra.specs.Lengths.{length-geometric, length-mul-pos}
 use Rattle.correction.specs.Corrected.{corrected-is}
 use Rattle.correction.proofs.Recurrence.{at, shifted, recurrence}
 
 -- a list behind n noughts, at a place among these and at one behind them
-pub among-noughts : (l : List ℕ) (n i : ℕ) → i < n → getD (replicate n 0 ++ l) i 0 ≡ 0
-among-noughts l n i h = List·getD-append (replicate n 0) l 0 i (rw length-replicate h) ∙ getD-replicate n i 0 0 h
+pub among-zeros : (l : List ℕ) (n i : ℕ) → i < n → getD (replicate n 0 ++ l) i 0 ≡ 0
+among-zeros l n i h = getD-run 0 n 0 l i h
 
-pub behind-noughts : (l : List ℕ) (n i : ℕ) → n ≤ i → getD (replicate n 0 ++ l) i 0 ≡ getD l (i - n) 0
-behind-noughts l n i h =
-    let noughts : List ℕ = replicate n 0 in
-    let e : length noughts + (i - n) ≡ i = omega (arith, length-replicate {A = ℕ} n 0) in
-    rw e at (getD-append-add noughts l (i - n) 0)
+pub behind-zeros : (l : List ℕ) (n i : ℕ) → n ≤ i → getD (replicate n 0 ++ l) i 0 ≡ getD l (i - n) 0
+behind-zeros l n i h = let e : n + (i - n) ≡ i = omega arith in rw e at (getD-after-run 0 n 0 l (i - n))
 
 pub take-end : (l m : List ℕ) (i : ℕ) → length l ≤ i → length m ≤ i → take i l ≡ take i m → l ≡ m
 take-end l m i hl hm e = sym (take-all i l hl) ∙ e ∙ take-all i m hm

@@ -20,26 +20,26 @@ use Rattle.algebra.specs.Different.{Apart, Differ}
 use Rattle.algebra.specs.Division.{vanishing-nonzero}
 use Rattle.algebra.specs.Evaluation.{reduce-evaluate}
 use Rattle.algebra.specs.Laws.{FieldLaws}
-use Rattle.algebra.specs.ListFacts.{All, all-append, all-map, all-map₂, all-of-map, everywhere}
+use Rattle.list_laws.specs.All.{All, all-append, all-map, all-map₂, all-of-map, everywhere}
 use Rattle.algebra.specs.PrimeField.{laws}
 use Rattle.algebra.specs.RootsOfUnity.{odd-even-differ, power-mul}
 use Rattle.completeness.specs.Divisors as completeness
-use Rattle.completeness.specs.FairCoins.{outside-differs, reduced}
-use Rattle.completeness.specs.Numbered.{roundsOf}
+use Rattle.completeness.specs.AdmissibleCoins.{outside-differs, reduced}
+use Rattle.layouts.specs.Levels.{roundsOf}
 use Rattle.domain.specs.OutCoins.{firstInside, orElse}
 use Rattle.lists.specs.Correcting.{Correcting}
 use Rattle.polynomial.specs.Pairs.{points-pair}
-use Rattle.samples.specs.SampleLaws.{sifted-some}
-use Rattle.fractions.specs.declared.Function.{Function}
+use Rattle.samples.specs.SampleLaws.{some-distinct}
+use Rattle.fractions.specs.declared.Oracle.{Oracle}
 use Rattle.folds.specs.PointsIn.{pointIn, point-in}
 use Rattle.fractions.specs.Values.{Clear, point-room}
 use Rattle.rounds.specs.RoundLaws.{opposite-signs}
-use Rattle.deciding.specs.declared.Stand.{Stand}
-use Rattle.deciding.specs.Begins.{begins-after, begins-front, begins-run}
+use Rattle.deciding.specs.declared.State.{State}
+use Rattle.deciding.specs.PrefixInRange.{prefix-after, prefix-front, prefix-run}
 use Rattle.deciding.specs.Inside.{whole, words-there}
 use Rattle.deciding.specs.Outs.{outs-next}
-use Rattle.deciding.specs.Stand.{foldOf, kindsOf, levelOf, nextFunction, nextSize, nextStand, outsAt, outsFrom, outsOf, roundOf, shiftsOf}
-use Rattle.deciding.specs.Standing.{Served, Sifted, Standing}
+use Rattle.deciding.specs.State.{currentFold, kindsOf, currentLevel, nextOracle, nextSize, nextState, outsAt, outsFrom, nextOuts, nextRound, nextShifts}
+use Rattle.deciding.specs.Invariant.{Represented, NextSamples, Invariant}
 
 -- ---- test 7 found nothing
 
@@ -64,8 +64,8 @@ none-inside field ω l w at (suc count) h e =
 
 -- ---- a round from a place
 
-module _ (h : Sheet) (w pw ac vg : List ℕ) (st : Stand) (how : Function) (ok : Standing h w (length pw) (length ac) (length vg) st how) (more : st .level < roundsOf h)
-    (s : Served h w pw ac vg st how) where
+module _ (h : Sheet) (w pw ac vg : List ℕ) (st : State) (oracle : Oracle) (ok : Invariant h w (length pw) (length ac) (length vg) st oracle) (more : st .level < roundsOf h)
+    (s : Represented h w pw ac vg st oracle) where
   abbrev field : ℕ
   field = getD w 0 0
 
@@ -76,44 +76,44 @@ module _ (h : Sheet) (w pw ac vg : List ℕ) (st : Stand) (how : Function) (ok :
   L = laws field
 
   abbrev b : Level
-  b = levelOf h st
+  b = currentLevel h st
 
   abbrev l : Level
-  l = levelOf h (nextStand h st)
+  l = currentLevel h (nextState h st)
 
-  both : (firstInside field (rootOfUnity h) l w (outsAt st) (h .outCoins) ≡ none) × (outsFrom h w (nextStand h st) ≡ none)
+  both : (firstInside field (rootOfUnity h) l w (outsAt st) (h .outCoins) ≡ none) × (outsFrom h w (nextState h st) ≡ none)
   both = or-else-none _ _ (sym (outs-next h w st (ok .place) (s .prime) more) ∙ s .outside)
 
   -- no out coin still to come lies in its domain
-  pub outside-next : outsFrom h w (nextStand h st) ≡ none
+  pub outside-next : outsFrom h w (nextState h st) ≡ none
   outside-next = both .1
 
-  out-words : All (λ x. x < primeOf field) (outsOf h w st)
-  unfolding outsOf roundLayout limit levelOf nextStand
+  out-words : All (λ x. x < primeOf field) (nextOuts h w st)
+  unfolding nextOuts roundLayout limit currentLevel nextState
   out-words =
       let p = h .prime in
       let n = nextSize st in
       let c = h .outCoins in
-      subst (λ (q : ℕ). All (λ x. x < q) (outsOf h w st)) (s .prime)
+      subst (λ (q : ℕ). All (λ x. x < q) (nextOuts h w st)) (s .prime)
       (subst (λ (t : List ℕ). All (λ x. x < p) (take c t)) (drop-drop n (st .at) w)
-      (begins-run p c (out l) (drop n (drop (st .at) w))
-      (begins-front p (replicate c (out l)) _ (drop n (drop (st .at) w))
-      (begins-after p n (replicate n message) _ (drop (st .at) w) (length-replicate n message)
-      (begins-front p (roundLayout c b l) (kindsOf h (nextStand h st)) (drop (st .at) w) (whole h w st (ok .place) more))))))
+      (prefix-run p c (out l) (drop n (drop (st .at) w))
+      (prefix-front p (replicate c (out l)) _ (drop n (drop (st .at) w))
+      (prefix-after p n (replicate n message) _ (drop (st .at) w) (length-replicate n message)
+      (prefix-front p (roundLayout c b l) (kindsOf h (nextState h st)) (drop (st .at) w) (whole h w st (ok .place) more))))))
 
-  out-elements : All (λ x. L .reduce x ≡ x) (outsOf h w st)
+  out-elements : All (λ x. L .reduce x ≡ x) (nextOuts h w st)
   unfolding fieldOf
-  out-elements = all-map (outsOf h w st) out-words (λ x below. reduced (primeOf field) L x below)
+  out-elements = all-map (nextOuts h w st) out-words (λ x below. reduced (primeOf field) L x below)
 
-  outs-outside : All (λ x. inDomain F (s .ω) l x ≡ false) (outsOf h w st)
-  unfolding outsOf
+  outs-outside : All (λ x. inDomain F (s .ω) l x ≡ false) (nextOuts h w st)
+  unfolding nextOuts
   outs-outside =
       subst (λ (ω : ℕ). All (λ x. inDomain F ω l x ≡ false) (take (h .outCoins) (drop (outsAt st) w))) (sym (s .root))
       (none-inside field (rootOfUnity h) l w (outsAt st) (h .outCoins) (omega (arith, words-there h w st (ok .place) more)) (both .0))
 
   -- a shift point is an even power of ω, a point of the next domain an odd one (000, Remark 5.3)
   shift-off : (m j : ℕ) → Differ F (point F (s .ω) l m) (shiftPoint F (s .ω) b j)
-  unfolding point shiftPoint levelOf nextStand
+  unfolding point shiftPoint currentLevel nextState
   shift-off m j =
       let ω = s .ω in
       let k = ok .place .sheet .folds (st .level) (ok .place .level) in
@@ -122,46 +122,46 @@ module _ (h : Sheet) (w pw ac vg : List ℕ) (st : Stand) (how : Function) (ok :
       let d = 2 ^ st .level * m in
       let two : 2 ^ (st .level + 1) ≡ 2 ^ st .level * 2 = ap (λ (n : ℕ). 2 ^ n) (add-one (st .level)) ∙ pow-suc 2 (st .level) in
       let odd : 1 + 2 ^ (st .level + 1) * m ≡ suc (d + d) = ap (λ (n : ℕ). 1 + n * m) two ∙ omega arith in
-      let even : a * foldOf h st ≡ q + q = ap (λ (n : ℕ). a * n) (k .two ∙ pow-suc 2 (k .log)) ∙ omega arith in
-      subst (λ (x : ℕ). Differ F (power F ω (1 + 2 ^ (st .level + 1) * m)) x) (sym (power-mul F L ω a (foldOf h st) ∙ ap (power F ω) even))
+      let even : a * currentFold h st ≡ q + q = ap (λ (n : ℕ). a * n) (k .two ∙ pow-suc 2 (k .log)) ∙ omega arith in
+      subst (λ (x : ℕ). Differ F (power F ω (1 + 2 ^ (st .level + 1) * m)) x) (sym (power-mul F L ω a (currentFold h st) ∙ ap (power F ω) even))
       (subst (λ (n : ℕ). Differ F (power F ω n) (power F ω (q + q))) (sym odd)
-      (odd-even-differ F L (opposite-signs field) ω (length pw / 2) d q (s .serves .powers .half)))
+      (odd-even-differ F L (opposite-signs field) ω (length pw / 2) d q (s .represents .powers .half)))
 
   -- no point of the next domain is an out coin or a shift point of the round
-  coins-off : (m : ℕ) → m < l .size → All (λ a. Differ F (point F (s .ω) l m) a) (outsOf h w st ++ map (shiftPoint F (s .ω) b) (shiftsOf h w st))
+  coins-off : (m : ℕ) → m < l .size → All (λ a. Differ F (point F (s .ω) l m) a) (nextOuts h w st ++ map (shiftPoint F (s .ω) b) (nextShifts h w st))
   coins-off m within =
-      all-append _ (outsOf h w st) _ (all-map₂ (outsOf h w st) out-elements outs-outside (λ x e o. outside-differs F L (s .ω) l x e o m within))
-      (all-of-map _ (shiftPoint F (s .ω) b) (shiftsOf h w st) (everywhere (shiftsOf h w st) (λ j. shift-off m j)))
+      all-append _ (nextOuts h w st) _ (all-map₂ (nextOuts h w st) out-elements outs-outside (λ x e o. outside-differs F L (s .ω) l x e o m within))
+      (all-of-map _ (shiftPoint F (s .ω) b) (nextShifts h w st) (everywhere (nextShifts h w st) (λ j. shift-off m j)))
 
-  module _ (r : ℕ) (px py : List ℕ) (j : ℕ) (long : length py ≡ length px) (a : Sifted h w pw ac vg st r how (some (pair (drop j px) (drop j py)))) where
-    kept-is : pair (drop j px) (drop j py) ≡ distinct F (answers F (s .ω) b (s .f) r (roundOf h w st))
-    unfolding roundOf
-    kept-is = sifted-some field (answers F (s .ω) b (s .f) r (roundOf h w st)) (pair (drop j px) (drop j py)) (a (s .ω) b (s .f) (roundOf h w st) refl refl refl (s .serves)) .1
+  module _ (r : ℕ) (px py : List ℕ) (j : ℕ) (long : length py ≡ length px) (a : NextSamples h w pw ac vg st r oracle (some (pair (drop j px) (drop j py)))) where
+    kept-is : pair (drop j px) (drop j py) ≡ distinct F (answers F (s .ω) b (s .f) r (nextRound h w st))
+    unfolding nextRound
+    kept-is = some-distinct field (answers F (s .ω) b (s .f) r (nextRound h w st)) (pair (drop j px) (drop j py)) (a (s .ω) b (s .f) (nextRound h w st) refl refl refl (s .represents)) .1
 
-    points-are : points (distinct F (answers F (s .ω) b (s .f) r (roundOf h w st))) ≡ drop j px
+    points-are : points (distinct F (answers F (s .ω) b (s .f) r (nextRound h w st))) ≡ drop j px
     points-are = ap (λ (g : List (Sample ℕ)). points g) (sym kept-is) ∙ points-pair (drop j px) (drop j py) (omega (arith, length-drop j px, length-drop j py))
 
     -- interpolation: the points of the samples are different
     pub samples-apart : Apart F (drop j px)
-    unfolding roundOf
-    samples-apart = subst (Apart F) points-are (completeness.samples-apart F L (s .ω) b (s .f) r (roundOf h w st) out-elements)
+    unfolding nextRound
+    samples-apart = subst (Apart F) points-are (completeness.samples-apart F L (s .ω) b (s .f) r (nextRound h w st) out-elements)
 
     -- quotient: no point of the next domain is one of them
     points-off : (m : ℕ) → m < l .size → All (λ a. Differ F (point F (s .ω) l m) a) (points (pair (drop j px) (drop j py)))
-    unfolding roundOf
+    unfolding nextRound
     points-off m within =
-        let off = completeness.samples-off F L (s .ω) b (s .f) r (roundOf h w st) (point F (s .ω) l m) (coins-off m within) in
+        let off = completeness.samples-off F L (s .ω) b (s .f) r (nextRound h w st) (point F (s .ω) l m) (coins-off m within) in
         subst (λ (g : List (Sample ℕ)). All (λ a. Differ F (point F (s .ω) l m) a) (points g)) (sym kept-is) off
 
-    pub clear-next : (c words : ℕ) (pa pv : List ℕ) → Standing h w (length pw) (length pa) (length pv) (nextStand h st) (nextFunction h st (how .scale) words) →
-        Correcting field (pair (drop j px) (drop j py)) c words pa pv → Clear field pw (nextStand h st .size) pv (nextFunction h st (how .scale) words)
-    unfolding pointIn levelOf nextFunction
+    pub clear-next : (c words : ℕ) (pa pv : List ℕ) → Invariant h w (length pw) (length pa) (length pv) (nextState h st) (nextOracle h st (oracle .scale) words) →
+        Correcting field (pair (drop j px) (drop j py)) c words pa pv → Clear field pw (nextState h st .size) pv (nextOracle h st (oracle .scale) words)
+    unfolding pointIn currentLevel nextOracle
     clear-next c words pa pv next given = record {
       ω = s .ω;
-      powers = s .serves .powers;
+      powers = s .represents .powers;
       nonzero = λ m within some z.
-          let x = getD pw (2 * how .scale * m) 0 in
-          let at : x ≡ point F (s .ω) l m = point-in (s .serves .powers) l (next .scale) m (point-room (next .fits) m within) in
+          let x = getD pw (2 * oracle .scale * m) 0 in
+          let at : x ≡ point F (s .ω) l m = point-in (s .represents .powers) l (next .scale) m (point-room (next .fits) m within) in
           vanishing-nonzero F L (points (pair (drop j px) (drop j py))) x
           (subst (λ (y : ℕ). All (λ a. Differ F y a) (points (pair (drop j px) (drop j py)))) (sym at) (points-off m within))
           (sym (given .vanish x) ∙ sym (reduce-evaluate F L _ x) ∙ z);

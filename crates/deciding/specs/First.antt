@@ -6,11 +6,11 @@ use mathlib.Core.List.{List, [], _∷_, zipWith, tail}
 use mathlib.Core.Option.{none}
 use lib.ListN.{length, getD, take, drop, replicate, length-append, length-drop, length-replicate}
 use lib.Seq.{drop-drop, getD-drop, getD-take}
-use Rattle.completeness.specs.Lawful.{lawful, rounds-word, times-word}
-use Rattle.completeness.specs.LevelsByNumber.{undivided}
-use Rattle.completeness.specs.Numbered.{roundsOf}
-use Rattle.completeness.specs.SheetRules.{fold-words, folding-large, folding-log, folding-small, long-enough, rounds-most}
-use Rattle.completeness.specs.Tests.{at-none, at-passes}
+use Rattle.layouts.specs.Lawful.{lawful, rounds-word, times-word}
+use Rattle.layouts.specs.LevelsByNumber.{undivided}
+use Rattle.layouts.specs.Levels.{roundsOf}
+use Rattle.layouts.specs.SheetRules.{fold-words, folding-large, folding-log, folding-small, long-enough, rounds-most}
+use Rattle.layouts.specs.Tests.{at-none, at-passes}
 use Rattle.definition.specs.Deciding.{counted, decide, decideRest, readsOf, tableFunction}
 use Rattle.definition.specs.Field.{Field, fieldOf, primeField, primeOf}
 use Rattle.definition.specs.Layout.{Kind, coin, layout, message, readRest, readTranscript, restLayout, wordsDue}
@@ -19,14 +19,14 @@ use Rattle.definition.specs.Reading.{outOfRange, rangeTest, sheetTest}
 use Rattle.definition.specs.Sheet.{Edition, Level, Sheet, firstLevel, foldWords, laterLevels, rootOfUnity, sheetLength, sheetOf, shiftCount}
 use Rattle.definition.specs.Verdict.{Verdict, accepted}
 use Rattle.domain.specs.Powers.{Powers}
-use Rattle.rounds.specs.NextRound.{serves-first}
+use Rattle.rounds.specs.NextRound.{represents-first}
 use Rattle.fractions.specs.Values.{Fits}
-use Rattle.rounds.specs.RoundLaws.{Serves}
-use Rattle.deciding.specs.declared.Stand.{Stand}
-use Rattle.deciding.specs.Begins.{Begins, begins-tested, tested-after}
+use Rattle.rounds.specs.RoundLaws.{Represents}
+use Rattle.deciding.specs.declared.State.{State}
+use Rattle.deciding.specs.PrefixInRange.{PrefixInRange, prefix-tested, tested-after}
 use Rattle.deciding.specs.Inside.{divided}
-use Rattle.deciding.specs.Stand.{afterFold, firstFunction, firstStand, foldOf, kindsAfterFold, kindsOf, levelOf, levelsOf, outsFrom, restOf, tableOf}
-use Rattle.deciding.specs.Standing.{Decided, Folding, Placed, Served, Shaped, Standing, Written}
+use Rattle.deciding.specs.State.{afterFold, firstOracle, firstState, currentFold, kindsAfterFold, kindsOf, currentLevel, laterLevelsAt, outsFrom, restOf, currentTable}
+use Rattle.deciding.specs.Invariant.{Decided, Folding, Placed, Represented, Shaped, Invariant, Written}
 
 -- ---- the sheet of given words
 
@@ -77,15 +77,15 @@ tail-drop (x ∷ l) = refl
 -- the words after the sheet begin at a number
 module _ (from : ℕ) (h : Sheet) where
   -- the sheet's levels are those of the first place
-  pub first-level : firstLevel h ≡ levelOf h (firstStand from h)
-  unfolding firstLevel levelOf firstStand
+  pub first-level : firstLevel h ≡ currentLevel h (firstState from h)
+  unfolding firstLevel currentLevel firstState
   first-level = refl
 
-  pub later-levels : laterLevels h ≡ levelsOf h (firstStand from h)
-  unfolding laterLevels levelsOf firstStand
+  pub later-levels : laterLevels h ≡ laterLevelsAt h (firstState from h)
+  unfolding laterLevels laterLevelsAt firstState
   later-levels = rw (tail-drop (h .folds), tail-drop (h .repetitions))
 
-  pub first-kinds : kindsAfterFold h ≡ kindsOf h (firstStand from h)
+  pub first-kinds : kindsAfterFold h ≡ kindsOf h (firstState from h)
   first-kinds = λ i. restLayout (h .outCoins) (first-level i) (later-levels i)
 
   module _ (w : List ℕ) where
@@ -117,26 +117,26 @@ module _ (from : ℕ) (h : Sheet) where
           (at-passes 5 (firstTrue from (zipWith test (layout h) (drop from w))) e)))
 
       module _ (x : Shaped h) (ranged : rangeTest h (afterFold from h) (kindsAfterFold h) w ≡ accepted) where
-        first-begins : Begins (h .prime) (kindsOf h (firstStand from h)) (drop (afterFold from h) w)
+        first-prefix : PrefixInRange (h .prime) (kindsOf h (firstState from h)) (drop (afterFold from h) w)
         unfolding rangeTest
-        first-begins =
-            subst (λ (ks : List Kind). Begins (h .prime) ks (drop (afterFold from h) w)) first-kinds
-            (begins-tested h (afterFold from h) (kindsAfterFold h) (drop (afterFold from h) w) (omega (arith, kinds-there, length-drop (afterFold from h) w))
+        first-prefix =
+            subst (λ (ks : List Kind). PrefixInRange (h .prime) ks (drop (afterFold from h) w)) first-kinds
+            (prefix-tested h (afterFold from h) (kindsAfterFold h) (drop (afterFold from h) w) (omega (arith, kinds-there, length-drop (afterFold from h) w))
             (at-passes 5 (firstTrue (afterFold from h) (zipWith (outOfRange h) (kindsAfterFold h) (drop (afterFold from h) w))) ranged))
 
-        pub placed-first : Placed h w (firstStand from h)
-        unfolding firstStand
+        pub placed-first : Placed h w (firstState from h)
+        unfolding firstState
         placed-first = record {
           sheet = x;
           level = omega arith;
           table = omega (arith, first-room);
           here = first-room;
-          words = first-begins;
+          words = first-prefix;
           points = x .law .small;
         }
 
-        first-fits : Fits (h .size) (h .size) (firstFunction h) (getD (h .folds) 0 0)
-        unfolding firstFunction
+        first-fits : Fits (h .size) (h .size) (firstOracle h) (getD (h .folds) 0 0)
+        unfolding firstOracle
         first-fits =
             let k = x .folds 0 (omega arith) in
             record {
@@ -152,13 +152,13 @@ module _ (from : ℕ) (h : Sheet) where
               used = omega arith;
             }
 
-        pub standing-first : (points answers factors : ℕ) → points ≡ h .size → answers ≡ 66 → factors ≡ 132 →
-            Standing h w points answers factors (firstStand from h) (firstFunction h)
-        unfolding firstStand firstFunction
-        standing-first points answers factors e a g = record {
+        pub invariant-first : (points answers factors : ℕ) → points ≡ h .size → answers ≡ 66 → factors ≡ 132 →
+            Invariant h w points answers factors (firstState from h) (firstOracle h)
+        unfolding firstState firstOracle
+        invariant-first points answers factors e a g = record {
           place = placed-first;
           size = sym (undivided (h .size));
-          fits = subst (λ (n : ℕ). Fits n (h .size) (firstFunction h) (getD (h .folds) 0 0)) (sym e) first-fits;
+          fits = subst (λ (n : ℕ). Fits n (h .size) (firstOracle h) (getD (h .folds) 0 0)) (sym e) first-fits;
           in-answers = a;
           in-factors = g;
           scale = refl;
@@ -166,35 +166,35 @@ module _ (from : ℕ) (h : Sheet) where
         }
 
     module _ (pw ac vg : List ℕ) (points : Powers (getD w 0 0) (rootOfUnity h) pw) where
-      first-serves : Serves (getD w 0 0) (rootOfUnity h) (levelOf h (firstStand from h))
-          (tableFunction (fieldOf (getD w 0 0)) (rootOfUnity h) (levelOf h (firstStand from h)) (tableOf w (firstStand from h)) .value) pw (tableOf w (firstStand from h)) ac vg (firstFunction h)
-          (foldOf h (firstStand from h))
-      unfolding firstFunction firstStand levelOf shiftCount
-      first-serves =
-          serves-first (getD w 0 0) (rootOfUnity h) (levelOf h (firstStand from h)) pw (tableOf w (firstStand from h)) ac vg (firstFunction h) (getD (h .folds) 0 0) points refl refl refl refl
+      first-represents : Represents (getD w 0 0) (rootOfUnity h) (currentLevel h (firstState from h))
+          (tableFunction (fieldOf (getD w 0 0)) (rootOfUnity h) (currentLevel h (firstState from h)) (currentTable w (firstState from h)) .value) pw (currentTable w (firstState from h)) ac vg (firstOracle h)
+          (currentFold h (firstState from h))
+      unfolding firstOracle firstState currentLevel shiftCount
+      first-represents =
+          represents-first (getD w 0 0) (rootOfUnity h) (currentLevel h (firstState from h)) pw (currentTable w (firstState from h)) ac vg (firstOracle h) (getD (h .folds) 0 0) points refl refl refl refl
 
-      pub served-first : h .prime ≡ primeOf (getD w 0 0) → outsFrom h w (firstStand from h) ≡ none → Served h w pw ac vg (firstStand from h) (firstFunction h)
-      unfolding firstFunction
-      served-first prime outside = record {
+      pub represented-first : h .prime ≡ primeOf (getD w 0 0) → outsFrom h w (firstState from h) ≡ none → Represented h w pw ac vg (firstState from h) (firstOracle h)
+      unfolding firstOracle
+      represented-first prime outside = record {
         ω = _;
         f = _;
         prime = prime;
-        serves = first-serves;
+        represents = first-represents;
         root = refl;
         clear = record { ω = _; powers = points; nonzero = λ m l some. absurd (omega arith) };
         outside = outside;
       }
 
       -- the definition's deciding is that from the first place on, with fold coin 0
-      pub first-step : {v : Verdict} → h .prime ≡ primeOf (getD w 0 0) → Decided h w pw ac vg (firstStand from h) 0 (getD w (from + h .size) 0) (firstFunction h) v →
+      pub first-step : {v : Verdict} → h .prime ≡ primeOf (getD w 0 0) → Decided h w pw ac vg (firstState from h) 0 (getD w (from + h .size) 0) (firstOracle h) v →
           v ≡ counted (decide (primeField (h .prime)) (rootOfUnity h) (firstLevel h) (readTranscript h (drop from w)))
-      unfolding decide readTranscript fieldOf tableFunction restOf firstStand tableOf readsOf different
+      unfolding decide readTranscript fieldOf tableFunction restOf firstState currentTable readsOf different
       first-step prime d =
           let ω = rootOfUnity h in
           let F = fieldOf (getD w 0 0) in
           let n = h .size in
-          let first : Stand = firstStand from h in
-          d ω _ [] first-serves refl tt
+          let first : State = firstState from h in
+          d ω _ [] first-represents refl tt
           ∙ (λ i. counted (decideRest F ω (sym first-level i) (tableFunction F ω (sym first-level i) (take n (drop from w))) (sym first-fold i) []
           (readRest (h .outCoins) (sym first-level i) (sym later-levels i) (sym first-words i))))
           ∙ (λ i. counted (decide (primeField (sym prime i)) ω (firstLevel h) (readTranscript h (drop from w))))

@@ -1,7 +1,7 @@
-pub mod Begins
-pub mod Stand
+pub mod PrefixInRange
+pub mod State
 pub mod Words
-pub mod Standing
+pub mod Invariant
 pub mod Inside
 pub mod Reads
 pub mod Divisors

@@ -5,54 +5,54 @@ use mathlib.Core.Path.{_≡_, refl, sym, ap, _∙_}
 use mathlib.Core.Bool.{false}
 use mathlib.Core.List.{List, [], _∷_, _++_, zipWith, append-assoc}
 use lib.ListN.{length, getD, drop, replicate, length-append, length-replicate}
-use Rattle.algebra.specs.ListFacts.{all-append}
-use Rattle.completeness.specs.Numbered.{roundsOf}
+use Rattle.list_laws.specs.All.{all-append}
+use Rattle.layouts.specs.Levels.{roundsOf}
 use Rattle.definition.specs.Deciding.{outInDomain}
 use Rattle.definition.specs.Field.{fieldOf, primeField, primeOf}
 use Rattle.definition.specs.Layout.{Kind, coin, index, layout, message, out, restLayout, roundLayout}
 use Rattle.definition.specs.Lists.{firstTrue}
 use Rattle.definition.specs.Sheet.{Level, Sheet, rootOfUnity, shiftCount}
-use Rattle.domain.specs.OutCoins.{coin-quiet, firstInside, indices-quiet, messages-quiet, orElse, outs-run, quiet}
-use Rattle.deciding.specs.declared.Stand.{Stand}
+use Rattle.domain.specs.OutCoins.{coin-not-out, firstInside, indices-not-outs, messages-not-outs, orElse, outs-run, passed-over}
+use Rattle.deciding.specs.declared.State.{State}
 use Rattle.deciding.specs.First.{first-kinds, first-room}
 use Rattle.deciding.specs.Inside.{words-there}
-use Rattle.deciding.specs.Stand.{afterFold, firstStand, kindsAfterFold, kindsOf, levelOf, nextSize, nextStand, outsAt, outsFrom, repetitionsOf, repliesAt}
-use Rattle.deciding.specs.Standing.{Placed}
+use Rattle.deciding.specs.State.{afterFold, firstState, kindsAfterFold, kindsOf, currentLevel, nextSize, nextState, outsAt, outsFrom, currentRepetitions, repliesAt}
+use Rattle.deciding.specs.Invariant.{Placed}
 use Rattle.deciding.specs.Words.{levels-next}
 
-module _ (h : Sheet) (w : List ℕ) (st : Stand) (ok : Placed h w st) where
+module _ (h : Sheet) (w : List ℕ) (st : State) (ok : Placed h w st) where
   regroup : (m o p r : List Kind) → (m ++ (o ++ p)) ++ r ≡ m ++ (o ++ (p ++ r))
   regroup m o p r = append-assoc m (o ++ p) r ∙ ap {B = List Kind} (λ x. m ++ x) (append-assoc o p r)
 
   pub outs-next : h .prime ≡ primeOf (getD w 0 0) → st .level < roundsOf h →
-      outsFrom h w st ≡ orElse (firstInside (getD w 0 0) (rootOfUnity h) (levelOf h (nextStand h st)) w (outsAt st) (h .outCoins)) (outsFrom h w (nextStand h st))
-  unfolding outsFrom restLayout roundLayout levelOf nextStand fieldOf
+      outsFrom h w st ≡ orElse (firstInside (getD w 0 0) (rootOfUnity h) (currentLevel h (nextState h st)) w (outsAt st) (h .outCoins)) (outsFrom h w (nextState h st))
+  unfolding outsFrom restLayout roundLayout currentLevel nextState fieldOf
   outs-next prime more =
       let test = outInDomain h in
-      let b = levelOf h st in
-      let l = levelOf h (nextStand h st) in
+      let b = currentLevel h st in
+      let l = currentLevel h (nextState h st) in
       let n = nextSize st in
       let s = h .outCoins in
-      let t = repetitionsOf h st in
+      let t = currentRepetitions h st in
       let there = words-there h w st ok more in
       let q = replicate t (index (shiftCount b)) in
       let tail = replicate s message ++ (coin ∷ coin ∷ q) in
-      let rest = kindsOf h (nextStand h st) in
-      let e : repliesAt h st + (s + (2 + t)) ≡ nextStand h st .at = omega arith in
+      let rest = kindsOf h (nextState h st) in
+      let e : repliesAt h st + (s + (2 + t)) ≡ nextState h st .at = omega arith in
       ap (λ (ls : List Level). firstTrue (st .at) (zipWith test (restLayout s b ls) (drop (st .at) w))) (levels-next h st (ok .sheet .law .paired) more)
       ∙ ap (λ (ks : List Kind). firstTrue (st .at) (zipWith test ks (drop (st .at) w))) (regroup (replicate n message) (replicate s (out l)) tail rest)
-      ∙ quiet test (replicate n message) (replicate s (out l) ++ (tail ++ rest)) w (st .at) n (length-replicate n message) (messages-quiet h n) (omega arith)
+      ∙ passed-over test (replicate n message) (replicate s (out l) ++ (tail ++ rest)) w (st .at) n (length-replicate n message) (messages-not-outs h n) (omega arith)
       ∙ outs-run h (getD w 0 0) (ap primeField prime) l (tail ++ rest) w s (outsAt st) (omega arith)
       ∙ ap (orElse (firstInside (getD w 0 0) (rootOfUnity h) l w (outsAt st) s))
-      (quiet test tail rest w (repliesAt h st) (s + (2 + t))
+      (passed-over test tail rest w (repliesAt h st) (s + (2 + t))
       (length-append (replicate s message) (coin ∷ coin ∷ q) ∙ omega (arith, length-replicate s message, length-replicate t (index (shiftCount b))))
-      (all-append (λ k. (x : ℕ) → test k x ≡ false) (replicate s message) (coin ∷ coin ∷ q) (messages-quiet h s) (coin-quiet h, (coin-quiet h, indices-quiet h t (shiftCount b)))) (omega arith)
+      (all-append (λ k. (x : ℕ) → test k x ≡ false) (replicate s message) (coin ∷ coin ∷ q) (messages-not-outs h s) (coin-not-out h, (coin-not-out h, indices-not-outs h t (shiftCount b)))) (omega arith)
       ∙ ap (λ (m : ℕ). firstTrue m (zipWith test rest (drop m w))) e)
 
 -- table 0 and fold coin 0 are no out coins
 module _ (from : ℕ) (h : Sheet) (w : List ℕ) (due : from + length (layout h) ≤ length w) where
-  outs-rest : outsFrom h w (firstStand from h) ≡ firstTrue (afterFold from h) (zipWith (outInDomain h) (kindsAfterFold h) (drop (afterFold from h) w))
-  unfolding outsFrom firstStand
+  outs-rest : outsFrom h w (firstState from h) ≡ firstTrue (afterFold from h) (zipWith (outInDomain h) (kindsAfterFold h) (drop (afterFold from h) w))
+  unfolding outsFrom firstState
   outs-rest = ap (λ (ks : List Kind). firstTrue (afterFold from h) (zipWith (outInDomain h) ks (drop (afterFold from h) w))) (sym (first-kinds from h))
 
   outs-all : firstTrue from (zipWith (outInDomain h) (layout h) (drop from w)) ≡ firstTrue (afterFold from h) (zipWith (outInDomain h) (kindsAfterFold h) (drop (afterFold from h) w))
@@ -61,8 +61,8 @@ module _ (from : ℕ) (h : Sheet) (w : List ℕ) (due : from + length (layout h)
       let test = outInDomain h in
       let n = h .size in
       let room = first-room from h w due in
-      quiet test (replicate n message) (coin ∷ kindsAfterFold h) w from n (length-replicate n message) (messages-quiet h n) (omega (arith, room))
-      ∙ quiet test (coin ∷ []) (kindsAfterFold h) w (from + n) 1 refl (coin-quiet h, tt) (omega (arith, room))
+      passed-over test (replicate n message) (coin ∷ kindsAfterFold h) w from n (length-replicate n message) (messages-not-outs h n) (omega (arith, room))
+      ∙ passed-over test (coin ∷ []) (kindsAfterFold h) w (from + n) 1 refl (coin-not-out h, tt) (omega (arith, room))
 
-  pub outs-first : outsFrom h w (firstStand from h) ≡ firstTrue from (zipWith (outInDomain h) (layout h) (drop from w))
+  pub outs-first : outsFrom h w (firstState from h) ≡ firstTrue from (zipWith (outInDomain h) (layout h) (drop from w))
   outs-first = outs-rest ∙ sym outs-all

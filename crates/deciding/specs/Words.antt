@@ -5,14 +5,14 @@ use mathlib.Core.Path.{_≡_, ap, _∙_}
 use mathlib.Core.List.{List, [], _∷_}
 use lib.ListN.{getD, take, drop, drop-of-length-le}
 use lib.Seq.{drop-cons, drop-drop, getD-take, getD-drop}
-use Rattle.completeness.specs.LevelsByNumber.{Paired}
-use Rattle.completeness.specs.ListLaws.{drop-take}
-use Rattle.completeness.specs.Numbered.{roundsOf}
+use Rattle.layouts.specs.LevelsByNumber.{Paired}
+use Rattle.list_laws.specs.Lists.{drop-take}
+use Rattle.layouts.specs.Levels.{roundsOf}
 use Rattle.definition.specs.Layout.{laterCount, readRest, roundCoins}
 use Rattle.definition.specs.Sheet.{Level, Sheet, finalCount, levelsFrom}
 use Rattle.definition.specs.Transcript.{final, round}
-use Rattle.deciding.specs.declared.Stand.{Stand}
-use Rattle.deciding.specs.Stand.{coefficientsOf, finalsOf, levelOf, levelsOf, nextDegree, nextFold, nextSize, nextStand, outsOf, repliesOf, repetitionsOf, restOf, roundOf, shiftsOf, tableOf}
+use Rattle.deciding.specs.declared.State.{State}
+use Rattle.deciding.specs.State.{coefficientsOf, finalsOf, currentLevel, laterLevelsAt, nextDegree, nextFold, nextSize, nextState, nextOuts, nextReplies, currentRepetitions, restOf, nextRound, nextShifts, currentTable}
 
 -- a round read from word number `at` on: n words of the table, s out coins, s replies, two coins, t shift indices
 module _ (w : List ℕ) (at n s t : ℕ) where
@@ -46,46 +46,46 @@ module _ (w : List ℕ) (at n s t : ℕ) where
       drop-take 2 t (drop s (drop s (drop n (drop at w))))
       ∙ ap (λ (l : List ℕ). take t (drop 2 l)) third-drop ∙ ap (take t) (drop-drop 2 (at + n + s + s) w)
 
-module _ (h : Sheet) (st : Stand) where
+module _ (h : Sheet) (st : State) where
   -- the levels after this one begin with that of the next round
-  pub levels-next : Paired h → st .level < roundsOf h → levelsOf h st ≡ levelOf h (nextStand h st) ∷ levelsOf h (nextStand h st)
-  unfolding levelsOf levelOf nextStand levelsFrom
+  pub levels-next : Paired h → st .level < roundsOf h → laterLevelsAt h st ≡ currentLevel h (nextState h st) ∷ laterLevelsAt h (nextState h st)
+  unfolding laterLevelsAt currentLevel nextState levelsFrom
   levels-next p more =
       let n = st .level + 1 in
       let number : suc n ≡ n + 1 = omega arith in
       (λ i. levelsFrom n (nextSize st) (nextDegree h st) (drop-cons (h .folds) n 0 (omega (arith, p .some)) i) (drop-cons (h .repetitions) n 0 (omega (arith, p .some, p .same)) i))
-      ∙ (λ i. levelOf h (nextStand h st) ∷ levelsFrom (number i) (nextSize st / 2) (nextDegree h st / nextFold h st) (drop (number i) (h .folds)) (drop (number i) (h .repetitions)))
+      ∙ (λ i. currentLevel h (nextState h st) ∷ levelsFrom (number i) (nextSize st / 2) (nextDegree h st / nextFold h st) (drop (number i) (h .folds)) (drop (number i) (h .repetitions)))
 
-  pub levels-end : Paired h → st .level ≡ roundsOf h → levelsOf h st ≡ []
-  unfolding levelsOf levelsFrom
+  pub levels-end : Paired h → st .level ≡ roundsOf h → laterLevelsAt h st ≡ []
+  unfolding laterLevelsAt levelsFrom
   levels-end p e = rw (drop-of-length-le (h .folds) {i = st .level + 1} (omega (arith, p .some)))
 
-module _ (h : Sheet) (w : List ℕ) (st : Stand) (p : Paired h) where
-  round-read : readRest (h .outCoins) (levelOf h st) (levelOf h (nextStand h st) ∷ levelsOf h (nextStand h st)) (drop (st .at) w) ≡ round (roundOf h w st) (restOf h w (nextStand h st))
-  unfolding readRest roundOf restOf levelOf nextStand roundCoins laterCount outsOf repliesOf shiftsOf tableOf
+module _ (h : Sheet) (w : List ℕ) (st : State) (p : Paired h) where
+  round-read : readRest (h .outCoins) (currentLevel h st) (currentLevel h (nextState h st) ∷ laterLevelsAt h (nextState h st)) (drop (st .at) w) ≡ round (nextRound h w st) (restOf h w (nextState h st))
+  unfolding readRest nextRound restOf currentLevel nextState roundCoins laterCount nextOuts nextReplies nextShifts currentTable
   round-read =
       let at = st .at in
       let n = nextSize st in
       let s = h .outCoins in
-      let t = repetitionsOf h st in
+      let t = currentRepetitions h st in
       λ i. round (record {
         table = take n (drop at w);
         coins = record {
-          level = levelOf h (nextStand h st);
+          level = currentLevel h (nextState h st);
           outs = take s (first-drop w at n s t i);
           combination = first-coin w at n s t i;
           fold = second-coin w at n s t i;
           shifts = indices w at n s t i;
         };
         replies = take s (second-drop w at n s t i);
-      }) (readRest s (levelOf h (nextStand h st)) (levelsOf h (nextStand h st)) (last-drop w at n s t i))
+      }) (readRest s (currentLevel h (nextState h st)) (laterLevelsAt h (nextState h st)) (last-drop w at n s t i))
 
-  pub rest-next : st .level < roundsOf h → restOf h w st ≡ round (roundOf h w st) (restOf h w (nextStand h st))
+  pub rest-next : st .level < roundsOf h → restOf h w st ≡ round (nextRound h w st) (restOf h w (nextState h st))
   unfolding restOf
-  rest-next more = ap (λ (ls : List Level). readRest (h .outCoins) (levelOf h st) ls (drop (st .at) w)) (levels-next h st p more) ∙ round-read
+  rest-next more = ap (λ (ls : List Level). readRest (h .outCoins) (currentLevel h st) ls (drop (st .at) w)) (levels-next h st p more) ∙ round-read
 
   pub rest-end : st .level ≡ roundsOf h → restOf h w st ≡ final (coefficientsOf h w st) (finalsOf h w st)
-  unfolding restOf readRest coefficientsOf finalsOf levelOf finalCount
+  unfolding restOf readRest coefficientsOf finalsOf currentLevel finalCount
   rest-end e =
-      ap (λ (ls : List Level). readRest (h .outCoins) (levelOf h st) ls (drop (st .at) w)) (levels-end h st p e)
-      ∙ ap (λ (l : List ℕ). final (take (nextDegree h st) (drop (st .at) w)) (take (repetitionsOf h st) l)) (drop-drop (nextDegree h st) (st .at) w)
+      ap (λ (ls : List Level). readRest (h .outCoins) (currentLevel h st) ls (drop (st .at) w)) (levels-end h st p e)
+      ∙ ap (λ (l : List ℕ). final (take (nextDegree h st) (drop (st .at) w)) (take (currentRepetitions h st) l)) (drop-drop (nextDegree h st) (st .at) w)

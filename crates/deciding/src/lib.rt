@@ -1,6 +1,6 @@
 // Deciding, of the words w of a stream of edition e that passes reading: refusals 7, 14, 8 and 9, and the reads. pw is the table of the points of domain 0.
 use edition::Edition;
-use fractions::Function;
+use fractions::Oracle;
 use outcome::Found;
 use outcome::Outcome;
 use outcome::Verdict;
@@ -12,8 +12,8 @@ ghost use Rattle.definition.specs.Deciding.{counted, decide as decideBy, decidi
 ghost use Rattle.definition.specs.Field.{primeField, fieldOf};
 ghost use Rattle.definition.specs.Polynomial.{pair};
 ghost use Rattle.algebra.specs.Different.{Apart};
-ghost use Rattle.algebra.specs.ListFacts.{All};
-ghost use Rattle.completeness.specs.Numbered.{roundsOf};
+ghost use Rattle.list_laws.specs.All.{All};
+ghost use Rattle.layouts.specs.Levels.{roundsOf};
 ghost use Rattle.lists.specs.Correcting.{Columned, Correcting};
 ghost use Rattle.definition.specs.Layout.{layout, readTranscript, wordsDue};
 ghost use Rattle.definition.specs.Reading.{rangeTest, sheetTest};
@@ -24,12 +24,12 @@ ghost use Rattle.edition.specs.Meaning.{editionOf};
 ghost use Rattle.outcome.specs.Meaning.{placeOf, verdictOf};
 ghost use Rattle.fractions.specs.Values.{Clear};
 ghost use Rattle.samples.specs.Samples.{kept, Room};
-ghost use Rattle.deciding.specs.Stand.{afterFold, combinationOf, finalsOf, firstFunction, firstStand, foldCoinOf, kindsAfterFold, nextFold, nextFunction, nextStand, readsWith, repetitionsOf, shiftsOf};
-ghost use Rattle.deciding.specs.Standing.{Decided, Differing, FinalInside, Numbers, RoundInside, Served, Shaped, Sifted, Standing, Written};
+ghost use Rattle.deciding.specs.State.{afterFold, nextCombination, finalsOf, firstOracle, firstState, nextFoldCoin, kindsAfterFold, nextFold, nextOracle, nextState, readsAfter, currentRepetitions, nextShifts};
+ghost use Rattle.deciding.specs.Invariant.{Decided, Differing, FinalInside, Numbers, RoundInside, Represented, Shaped, NextSamples, Invariant, Written};
 
 // A place: the level's number, domain size and degree bound, and where its table and the words after its fold coin begin. It holds no element: the level's
 // fold coin is handed on beside it, and so are the reads so far.
-pub struct Stand {
+pub struct State {
     pub level: usize,
     pub size: usize,
     pub degree: usize,
@@ -45,13 +45,13 @@ fn room() -> [u32; 50]
 }
 
 // The first place: at level 0, after fold coin 0.
-fn first_stand(e: Edition, w: &[u32]) -> Stand
+fn first_state(e: Edition, w: &[u32]) -> State
     requires { ⌜ (Written (editionOf e) (sheetOf (editionOf e) (now w)) (now w)) × (Shaped (sheetOf (editionOf e) (now w))) ⌝ }
-    ensures { λ r. ⌜ r ≡ firstStand (sheetLength (editionOf e)) (sheetOf (editionOf e) (now (w .entry))) ⌝ }
+    ensures { λ r. ⌜ r ≡ firstState (sheetLength (editionOf e)) (sheetOf (editionOf e) (now (w .entry))) ⌝ }
 {
     let from = edition::sheet_words(e);
     let size = w[1] as usize;
-    Stand {
+    State {
         level: 0,
         size: size,
         degree: w[2] as usize,
@@ -61,11 +61,11 @@ fn first_stand(e: Edition, w: &[u32]) -> Stand
 }
 
 // How table 0 is read: as it is, with no samples.
-fn first_function(e: Edition, w: &[u32]) -> Function
+fn first_oracle(e: Edition, w: &[u32]) -> Oracle
     requires { ⌜ (Written (editionOf e) (sheetOf (editionOf e) (now w)) (now w)) × (Shaped (sheetOf (editionOf e) (now w))) ⌝ }
-    ensures { λ r. ⌜ r ≡ firstFunction (sheetOf (editionOf e) (now (w .entry))) ⌝ }
+    ensures { λ r. ⌜ r ≡ firstOracle (sheetOf (editionOf e) (now (w .entry))) ⌝ }
 {
-    Function {
+    Oracle {
         scale: 1,
         step: w[1] as usize / edition::fold(e, w, 0),
         words: 0,
@@ -73,39 +73,39 @@ fn first_function(e: Edition, w: &[u32]) -> Function
 }
 
 // The place after the next round: table, out coins, replies, combination coin, fold coin and shift indices are behind it.
-fn next_stand(e: Edition, w: &[u32], stand: Stand) -> Stand
-    requires { ⌜ RoundInside (editionOf e) (sheetOf (editionOf e) (now w)) (now w) stand ⌝ }
-    ensures { λ r. ⌜ r ≡ nextStand (sheetOf (editionOf e) (now (w .entry))) stand ⌝ }
+fn next_state(e: Edition, w: &[u32], state: State) -> State
+    requires { ⌜ RoundInside (editionOf e) (sheetOf (editionOf e) (now w)) (now w) state ⌝ }
+    ensures { λ r. ⌜ r ≡ nextState (sheetOf (editionOf e) (now (w .entry))) state ⌝ }
 {
-    let k = edition::fold(e, w, stand.level);
+    let k = edition::fold(e, w, state.level);
     let s = w[5] as usize;
-    let t = w[6 + stand.level] as usize;
-    Stand {
-        level: stand.level + 1,
-        size: stand.size / 2,
-        degree: stand.degree / k,
-        table: stand.at,
-        at: stand.at + stand.size / 2 + s + s + 2 + t,
+    let t = w[6 + state.level] as usize;
+    State {
+        level: state.level + 1,
+        size: state.size / 2,
+        degree: state.degree / k,
+        table: state.at,
+        at: state.at + state.size / 2 + s + s + 2 + t,
     }
 }
 
 // The fold coin of the next round.
-fn next_coin(e: Edition, w: &[u32], stand: Stand) -> u32
-    requires { ⌜ RoundInside (editionOf e) (sheetOf (editionOf e) (now w)) (now w) stand ⌝ }
-    ensures { λ r. ⌜ r ≡ foldCoinOf (sheetOf (editionOf e) (now (w .entry))) (now (w .entry)) stand ⌝ }
+fn next_coin(e: Edition, w: &[u32], state: State) -> u32
+    requires { ⌜ RoundInside (editionOf e) (sheetOf (editionOf e) (now w)) (now w) state ⌝ }
+    ensures { λ r. ⌜ r ≡ nextFoldCoin (sheetOf (editionOf e) (now (w .entry))) (now (w .entry)) state ⌝ }
 {
     let s = w[5] as usize;
-    w[stand.at + stand.size / 2 + s + s + 1]
+    w[state.at + state.size / 2 + s + s + 1]
 }
 
 // How the function of the next level is worked out, with so many words of coefficients.
-fn next_function(e: Edition, w: &[u32], stand: Stand, scale: usize, words: usize) -> Function
-    requires { ⌜ (RoundInside (editionOf e) (sheetOf (editionOf e) (now w)) (now w) stand) × (scale ≤ 4096) ⌝ }
-    ensures { λ r. ⌜ r ≡ nextFunction (sheetOf (editionOf e) (now (w .entry))) stand scale words ⌝ }
+fn next_oracle(e: Edition, w: &[u32], state: State, scale: usize, words: usize) -> Oracle
+    requires { ⌜ (RoundInside (editionOf e) (sheetOf (editionOf e) (now w)) (now w) state) × (scale ≤ 4096) ⌝ }
+    ensures { λ r. ⌜ r ≡ nextOracle (sheetOf (editionOf e) (now (w .entry))) state scale words ⌝ }
 {
-    Function {
+    Oracle {
         scale: 2 * scale,
-        step: stand.size / 2 / edition::fold(e, w, stand.level + 1),
+        step: state.size / 2 / edition::fold(e, w, state.level + 1),
         words: words,
     }
 }
@@ -115,26 +115,26 @@ fn next_function(e: Edition, w: &[u32], stand: Stand, scale: usize, words: usize
 fn correction(
     e: Edition,
     w: &[u32],
-    stand: Stand,
+    state: State,
     px: &[u32],
     py: &[u32],
     from: usize,
     ac: &mut [u32],
     vg: &mut [u32],
 ) -> usize
-    requires { ⌜ RoundInside (editionOf e) (sheetOf (editionOf e) (now w)) (now w) stand ⌝ }
+    requires { ⌜ RoundInside (editionOf e) (sheetOf (editionOf e) (now w)) (now w) state ⌝ }
     requires { ⌜ (from ≤ length (now px)) × ((length (now px) ≡ 50) × (length (now py) ≡ 50)) ⌝ }
     requires { ⌜ (length (now ac) ≡ 66) × (length (now vg) ≡ 132) ⌝ }
     requires { ⌜ Apart (fieldOf (getD (now w) 0 0)) (drop from (now px)) ⌝ }
-    ensures { λ n. ⌜ Columned (nextFold (sheetOf (editionOf e) (now (w .entry))) stand) n ⌝ }
-    ensures { λ n. ⌜ Correcting (getD (now (w .entry)) 0 0) (pair (drop from (now (px .entry))) (drop from (now (py .entry)))) (combinationOf (sheetOf (editionOf e) (now (w .entry))) (now (w .entry)) stand) n (now (ac .exit)) (now (vg .exit)) ⌝ }
+    ensures { λ n. ⌜ Columned (nextFold (sheetOf (editionOf e) (now (w .entry))) state) n ⌝ }
+    ensures { λ n. ⌜ Correcting (getD (now (w .entry)) 0 0) (pair (drop from (now (px .entry))) (drop from (now (py .entry)))) (nextCombination (sheetOf (editionOf e) (now (w .entry))) (now (w .entry)) state) n (now (ac .exit)) (now (vg .exit)) ⌝ }
 {
-    let k = edition::fold(e, w, stand.level + 1);
+    let k = edition::fold(e, w, state.level + 1);
     let s = w[5] as usize;
     lists::correction(
         w[0],
         k,
-        w[stand.at + stand.size / 2 + s + s],
+        w[state.at + state.size / 2 + s + s],
         px,
         py,
         from,
@@ -144,37 +144,37 @@ fn correction(
 }
 
 // G of the next round, from the words, with the level's fold coin.
-fn round_at(
+fn next_samples(
     e: Edition,
     w: &[u32],
     pw: &[u32],
-    stand: Stand,
+    state: State,
     r: u32,
-    how: Function,
+    oracle: Oracle,
     ac: &[u32],
     vg: &[u32],
     px: &mut [u32],
     py: &mut [u32],
 ) -> Gathered
-    requires { ⌜ Standing (sheetOf (editionOf e) (now w)) (now w) (length (now pw)) (length (now ac)) (length (now vg)) stand how ⌝ }
-    requires { ⌜ RoundInside (editionOf e) (sheetOf (editionOf e) (now w)) (now w) stand ⌝ }
+    requires { ⌜ Invariant (sheetOf (editionOf e) (now w)) (now w) (length (now pw)) (length (now ac)) (length (now vg)) state oracle ⌝ }
+    requires { ⌜ RoundInside (editionOf e) (sheetOf (editionOf e) (now w)) (now w) state ⌝ }
     requires { ⌜ (length (now px) ≡ 50) × (length (now py) ≡ 50) ⌝ }
-    requires { ⌜ Clear (getD (now w) 0 0) (now pw) (stand .size) (now vg) how ⌝ }
-    ensures { λ v. ⌜ Sifted (sheetOf (editionOf e) (now (w .entry))) (now (w .entry)) (now (pw .entry)) (now (ac .entry)) (now (vg .entry)) stand r how (kept v (now (px .exit)) (now (py .exit))) ⌝ }
+    requires { ⌜ Clear (getD (now w) 0 0) (now pw) (state .size) (now vg) oracle ⌝ }
+    ensures { λ v. ⌜ NextSamples (sheetOf (editionOf e) (now (w .entry))) (now (w .entry)) (now (pw .entry)) (now (ac .entry)) (now (vg .entry)) state r oracle (kept v (now (px .exit)) (now (py .exit))) ⌝ }
     ensures { λ v. ⌜ Room 50 50 v ⌝ }
 {
     let s = w[5] as usize;
-    let t = w[6 + stand.level] as usize;
-    let outs = stand.at + stand.size / 2;
+    let t = w[6 + state.level] as usize;
+    let outs = state.at + state.size / 2;
     let replies = outs + s;
     answers::answer(
         w[0],
         pw,
-        lists::part(w, stand.table, stand.size),
+        lists::part(w, state.table, state.size),
         ac,
         vg,
-        how,
-        edition::fold(e, w, stand.level),
+        oracle,
+        edition::fold(e, w, state.level),
         r,
         lists::part(w, replies + s + 2, t),
         lists::part(w, outs, s),
@@ -185,136 +185,136 @@ fn round_at(
 }
 
 // The first final index at which the final polynomial differs, from the words.
-fn final_at(
+fn final_difference(
     e: Edition,
     w: &[u32],
     pw: &[u32],
-    stand: Stand,
+    state: State,
     r: u32,
-    how: Function,
+    oracle: Oracle,
     ac: &[u32],
     vg: &[u32],
 ) -> Found
-    requires { ⌜ Standing (sheetOf (editionOf e) (now w)) (now w) (length (now pw)) (length (now ac)) (length (now vg)) stand how ⌝ }
-    requires { ⌜ FinalInside (editionOf e) (sheetOf (editionOf e) (now w)) (now w) stand ⌝ }
-    requires { ⌜ Clear (getD (now w) 0 0) (now pw) (stand .size) (now vg) how ⌝ }
-    ensures { λ v. ⌜ Differing (sheetOf (editionOf e) (now (w .entry))) (now (w .entry)) (now (pw .entry)) (now (ac .entry)) (now (vg .entry)) stand r how (placeOf v) ⌝ }
+    requires { ⌜ Invariant (sheetOf (editionOf e) (now w)) (now w) (length (now pw)) (length (now ac)) (length (now vg)) state oracle ⌝ }
+    requires { ⌜ FinalInside (editionOf e) (sheetOf (editionOf e) (now w)) (now w) state ⌝ }
+    requires { ⌜ Clear (getD (now w) 0 0) (now pw) (state .size) (now vg) oracle ⌝ }
+    ensures { λ v. ⌜ Differing (sheetOf (editionOf e) (now (w .entry))) (now (w .entry)) (now (pw .entry)) (now (ac .entry)) (now (vg .entry)) state r oracle (placeOf v) ⌝ }
 {
-    let k = edition::fold(e, w, stand.level);
-    let t = w[6 + stand.level] as usize;
-    let d = stand.degree / k;
+    let k = edition::fold(e, w, state.level);
+    let t = w[6 + state.level] as usize;
+    let d = state.degree / k;
     answers::difference(
         w[0],
         pw,
-        lists::part(w, stand.table, stand.size),
+        lists::part(w, state.table, state.size),
         ac,
         vg,
-        how,
+        oracle,
         k,
         r,
-        lists::part(w, stand.at, d),
-        lists::part(w, stand.at + d, t),
+        lists::part(w, state.at, d),
+        lists::part(w, state.at + d, t),
     )
 }
 
-// The reads with those of so many coins of the level, whose indices stand in the words from a number on: k for each different index.
-fn reads_with(e: Edition, w: &[u32], stand: Stand, reads: usize, at: usize, count: usize) -> usize
-    requires { ⌜ (Numbers (editionOf e) (sheetOf (editionOf e) (now w)) (now w) stand) × (reads ≤ 8192) ⌝ }
+// The reads after so many coins of the level, whose indices stand in the words from a number on: k more for each different index.
+fn reads_after(e: Edition, w: &[u32], state: State, reads: usize, at: usize, count: usize) -> usize
+    requires { ⌜ (Numbers (editionOf e) (sheetOf (editionOf e) (now w)) (now w) state) × (reads ≤ 8192) ⌝ }
     requires { ⌜ (at + count ≤ length (now w)) × ((count ≤ 48) × (All (λ j. j < 2048) (take count (drop at (now w))))) ⌝ }
-    ensures { λ r. ⌜ r ≡ readsWith (sheetOf (editionOf e) (now (w .entry))) stand reads (take count (drop at (now (w .entry)))) ⌝ }
+    ensures { λ r. ⌜ r ≡ readsAfter (sheetOf (editionOf e) (now (w .entry))) state reads (take count (drop at (now (w .entry)))) ⌝ }
 {
-    reads + places::count(lists::part(w, at, count)) * edition::fold(e, w, stand.level)
+    reads + places::count(lists::part(w, at, count)) * edition::fold(e, w, state.level)
 }
 
-// The reads with those of the next round: all its shift coins are treated.
-fn round_reads(e: Edition, w: &[u32], stand: Stand, reads: usize) -> usize
-    requires { ⌜ (RoundInside (editionOf e) (sheetOf (editionOf e) (now w)) (now w) stand) × (reads ≤ 8192) ⌝ }
-    ensures { λ r. ⌜ r ≡ readsWith (sheetOf (editionOf e) (now (w .entry))) stand reads (shiftsOf (sheetOf (editionOf e) (now (w .entry))) (now (w .entry)) stand) ⌝ }
+// The reads after the next round: all its shift coins are treated.
+fn round_reads(e: Edition, w: &[u32], state: State, reads: usize) -> usize
+    requires { ⌜ (RoundInside (editionOf e) (sheetOf (editionOf e) (now w)) (now w) state) × (reads ≤ 8192) ⌝ }
+    ensures { λ r. ⌜ r ≡ readsAfter (sheetOf (editionOf e) (now (w .entry))) state reads (nextShifts (sheetOf (editionOf e) (now (w .entry))) (now (w .entry)) state) ⌝ }
 {
     let s = w[5] as usize;
-    reads_with(
+    reads_after(
         e,
         w,
-        stand,
+        state,
         reads,
-        stand.at + stand.size / 2 + s + s + 2,
-        w[6 + stand.level] as usize,
+        state.at + state.size / 2 + s + s + 2,
+        w[6 + state.level] as usize,
     )
 }
 
-// The reads with those of so many of the final coins.
-fn final_reads(e: Edition, w: &[u32], stand: Stand, reads: usize, count: usize) -> usize
-    requires { ⌜ (FinalInside (editionOf e) (sheetOf (editionOf e) (now w)) (now w) stand) × (reads ≤ 8192) ⌝ }
-    requires { ⌜ count ≤ repetitionsOf (sheetOf (editionOf e) (now w)) stand ⌝ }
-    ensures { λ r. ⌜ r ≡ readsWith (sheetOf (editionOf e) (now (w .entry))) stand reads (take count (finalsOf (sheetOf (editionOf e) (now (w .entry))) (now (w .entry)) stand)) ⌝ }
+// The reads after so many of the final coins.
+fn final_reads(e: Edition, w: &[u32], state: State, reads: usize, count: usize) -> usize
+    requires { ⌜ (FinalInside (editionOf e) (sheetOf (editionOf e) (now w)) (now w) state) × (reads ≤ 8192) ⌝ }
+    requires { ⌜ count ≤ currentRepetitions (sheetOf (editionOf e) (now w)) state ⌝ }
+    ensures { λ r. ⌜ r ≡ readsAfter (sheetOf (editionOf e) (now (w .entry))) state reads (take count (finalsOf (sheetOf (editionOf e) (now (w .entry))) (now (w .entry)) state)) ⌝ }
 {
-    reads_with(
+    reads_after(
         e,
         w,
-        stand,
+        state,
         reads,
-        stand.at + stand.degree / edition::fold(e, w, stand.level),
+        state.at + state.degree / edition::fold(e, w, state.level),
         count,
     )
 }
 
 // The final comparison. All final coins are treated, or those up to and with the failing one.
-fn last(
+fn decide_final(
     e: Edition,
     w: &[u32],
     pw: &[u32],
-    stand: Stand,
+    state: State,
     reads: usize,
     r: u32,
-    how: Function,
+    oracle: Oracle,
     ac: &[u32],
     vg: &[u32],
 ) -> Verdict
-    requires { ⌜ Standing (sheetOf (editionOf e) (now w)) (now w) (length (now pw)) (length (now ac)) (length (now vg)) stand how ⌝ }
-    requires { ⌜ Served (sheetOf (editionOf e) (now w)) (now w) (now pw) (now ac) (now vg) stand how ⌝ }
-    requires { ⌜ (stand .level ≡ roundsOf (sheetOf (editionOf e) (now w))) × (FinalInside (editionOf e) (sheetOf (editionOf e) (now w)) (now w) stand) ⌝ }
-    requires { ⌜ reads ≤ 768 * (stand .level) ⌝ }
-    ensures { λ v. ⌜ Decided (sheetOf (editionOf e) (now (w .entry))) (now (w .entry)) (now (pw .entry)) (now (ac .entry)) (now (vg .entry)) stand reads r how (verdictOf v) ⌝ }
+    requires { ⌜ Invariant (sheetOf (editionOf e) (now w)) (now w) (length (now pw)) (length (now ac)) (length (now vg)) state oracle ⌝ }
+    requires { ⌜ Represented (sheetOf (editionOf e) (now w)) (now w) (now pw) (now ac) (now vg) state oracle ⌝ }
+    requires { ⌜ (state .level ≡ roundsOf (sheetOf (editionOf e) (now w))) × (FinalInside (editionOf e) (sheetOf (editionOf e) (now w)) (now w) state) ⌝ }
+    requires { ⌜ reads ≤ 768 * (state .level) ⌝ }
+    ensures { λ v. ⌜ Decided (sheetOf (editionOf e) (now (w .entry))) (now (w .entry)) (now (pw .entry)) (now (ac .entry)) (now (vg .entry)) state reads r oracle (verdictOf v) ⌝ }
 {
-    let f = final_at(e, w, pw, stand, r, how, ac, vg);
+    let f = final_difference(e, w, pw, state, r, oracle, ac, vg);
     if let Found::At(i) = f {
         return Verdict {
             outcome: Outcome::Refused(9, i),
-            reads: final_reads(e, w, stand, reads, i + 1),
+            reads: final_reads(e, w, state, reads, i + 1),
         };
     }
     Verdict {
         outcome: Outcome::Accepted,
-        reads: final_reads(e, w, stand, reads, w[6 + stand.level] as usize),
+        reads: final_reads(e, w, state, reads, w[6 + state.level] as usize),
     }
 }
 
 // The rounds after a place and the final comparison. The first round whose samples clash refuses.
-fn rest(
+fn decide_rest(
     e: Edition,
     w: &[u32],
     pw: &[u32],
-    stand: Stand,
+    state: State,
     reads: usize,
     r: u32,
-    how: Function,
+    oracle: Oracle,
     ac: &[u32],
     vg: &[u32],
 ) -> Verdict
     requires { ⌜ Written (editionOf e) (sheetOf (editionOf e) (now w)) (now w) ⌝ }
-    requires { ⌜ Standing (sheetOf (editionOf e) (now w)) (now w) (length (now pw)) (length (now ac)) (length (now vg)) stand how ⌝ }
-    requires { ⌜ Served (sheetOf (editionOf e) (now w)) (now w) (now pw) (now ac) (now vg) stand how ⌝ }
-    requires { ⌜ reads ≤ 768 * (stand .level) ⌝ }
-    ensures { λ v. ⌜ Decided (sheetOf (editionOf e) (now (w .entry))) (now (w .entry)) (now (pw .entry)) (now (ac .entry)) (now (vg .entry)) stand reads r how (verdictOf v) ⌝ }
+    requires { ⌜ Invariant (sheetOf (editionOf e) (now w)) (now w) (length (now pw)) (length (now ac)) (length (now vg)) state oracle ⌝ }
+    requires { ⌜ Represented (sheetOf (editionOf e) (now w)) (now w) (now pw) (now ac) (now vg) state oracle ⌝ }
+    requires { ⌜ reads ≤ 768 * (state .level) ⌝ }
+    ensures { λ v. ⌜ Decided (sheetOf (editionOf e) (now (w .entry))) (now (w .entry)) (now (pw .entry)) (now (ac .entry)) (now (vg .entry)) state reads r oracle (verdictOf v) ⌝ }
 {
-    if stand.level == w[4] as usize {
-        return last(e, w, pw, stand, reads, r, how, ac, vg);
+    if state.level == w[4] as usize {
+        return decide_final(e, w, pw, state, reads, r, oracle, ac, vg);
     }
-    let next = next_stand(e, w, stand);
-    let now = round_reads(e, w, stand, reads);
+    let next = next_state(e, w, state);
+    let now = round_reads(e, w, state, reads);
     let mut px = room();
     let mut py = room();
-    let g = round_at(e, w, pw, stand, r, how, ac, vg, &mut px, &mut py);
+    let g = next_samples(e, w, pw, state, r, oracle, ac, vg, &mut px, &mut py);
     let Gathered::From(j) = g else {
         return Verdict {
             outcome: Outcome::Refused(8, next.level),
@@ -323,15 +323,15 @@ fn rest(
     };
     let mut pa = lists::places();
     let mut pv = lists::double_places();
-    let words = correction(e, w, stand, &px, &py, j, &mut pa, &mut pv);
-    rest(
+    let words = correction(e, w, state, &px, &py, j, &mut pa, &mut pv);
+    decide_rest(
         e,
         w,
         pw,
         next,
         now,
-        next_coin(e, w, stand),
-        next_function(e, w, stand, how.scale, words),
+        next_coin(e, w, state),
+        next_oracle(e, w, state, oracle.scale, words),
         &pa,
         &pv,
     )
@@ -349,21 +349,21 @@ pub fn decide(e: Edition, w: &[u32], pw: &[u32]) -> Verdict
 {
     let ac = lists::places();
     let vg = lists::double_places();
-    rest(
+    decide_rest(
         e,
         w,
         pw,
-        first_stand(e, w),
+        first_state(e, w),
         0,
         w[edition::sheet_words(e) + w[1] as usize],
-        first_function(e, w),
+        first_oracle(e, w),
         &ac,
         &vg,
     )
 }
 
 // The tests of out coins, then refusals 8 and 9, by the table of points.
-fn decide_by(e: Edition, w: &[u32], pw: &[u32]) -> Verdict
+fn decide_with_points(e: Edition, w: &[u32], pw: &[u32]) -> Verdict
     requires { ⌜ (sheetTest (editionOf e) (now w) ≡ accepted) × (rangeTest (sheetOf (editionOf e) (now w)) (sheetLength (editionOf e)) (layout (sheetOf (editionOf e) (now w))) (now w) ≡ accepted) ⌝ }
     requires { ⌜ wordsDue (editionOf e) (sheetOf (editionOf e) (now w)) ≤ length (now w) ⌝ }
     requires { ⌜ (Powers (getD (now w) 0 0) (rootOfUnity (sheetOf (editionOf e) (now w))) (now pw)) × (length (now pw) ≡ getD (now w) 1 0) ⌝ }
@@ -388,9 +388,9 @@ pub fn deciding(e: Edition, w: &[u32]) -> Verdict
     if w[1] <= 256 {
         let mut few = domain::few_points_room();
         let count = domain::of_sheet_within(w, &mut few);
-        return decide_by(e, w, &few[..count]);
+        return decide_with_points(e, w, &few[..count]);
     }
     let mut pw = domain::points_room();
     let size = domain::of_sheet(w, &mut pw);
-    decide_by(e, w, &pw[..size])
+    decide_with_points(e, w, &pw[..size])
 }

@@ -8,7 +8,7 @@ use native.Mathlib.Omega.{arith}
 use lib.Dec.{eqb}
 use lib.ListN.{length, drop, getD, set, drop-of-length-le}
 use Rattle.definition.specs.Lists.{member}
-use Rattle.polynomial.specs.Backwards.{drop-back, drop-store}
+use Rattle.list_laws.specs.Backwards.{drop-back, drop-store}
 use Rattle.distinct.specs.Points.{InTable, keepPoint, keepPoints}
 
 pub map-same : (xs : List ℕ) → map (λ x. x) xs ≡ xs

@@ -15,8 +15,8 @@ use Rattle.algebra.specs.Lengths.{length-geometric, length-quotient}
 use Rattle.algebra.specs.PrimeField.{laws}
 use Rattle.algebra.specs.RingLaws.{zero-mul}
 use Rattle.algebra.specs.Solver.{:0, :1, _:+_, _:*_, _:=_, solve₁}
-use Rattle.domain.specs.Filled.{Filled, filled-next}
-use Rattle.polynomial.specs.Backwards.{drop-back}
+use Rattle.list_laws.specs.Filled.{Filled, filled-next}
+use Rattle.list_laws.specs.Backwards.{drop-back}
 use Rattle.sums.specs.Sums.{geometric-power, products, products-swap}
 use Rattle.sums.specs.ZeroPadding.{ZeroFrom}
 use Rattle.division.specs.BackToFront.{part-store, unchanged}
@@ -84,11 +84,11 @@ dividing-none field w n e = record { one = one; few = few; sums = sums-none (fie
     one : getD w 0 0 ≡ 1
     one = ap (λ (l : List ℕ). getD l 0 0) e ∙ geometric-power (fieldOf field) (laws field) 0 n 0 (omega arith)
 
-    nought : (m : ℕ) → power (fieldOf field) 0 (suc m) ≡ 0
-    nought m = zero-mul (fieldOf field) (laws field) (power (fieldOf field) 0 m)
+    zero-word : (m : ℕ) → power (fieldOf field) 0 (suc m) ≡ 0
+    zero-word m = zero-mul (fieldOf field) (laws field) (power (fieldOf field) 0 m)
 
     go : (m : ℕ) → Dec (m < n) → getD w (suc m) 0 ≡ 0
-    go m (yes l) = ap (λ (l : List ℕ). getD l (suc m) 0) e ∙ geometric-power (fieldOf field) (laws field) 0 n (suc m) l ∙ nought m
+    go m (yes l) = ap (λ (l : List ℕ). getD l (suc m) 0) e ∙ geometric-power (fieldOf field) (laws field) 0 n (suc m) l ∙ zero-word m
     go m (no l) = List·getD-eq-default w 0 (omega (arith, ap length e, length-geometric (fieldOf field) 0 n))
 
     few : (m : ℕ) → 1 ≤ m → getD w m 0 ≡ 0

@@ -6,7 +6,7 @@ use native.Mathlib.Numerals.{add-one}
 use native.Mathlib.Omega.{arith}
 use lib.ListN.{length, take, drop, getD, set}
 use lib.Seq.{drop-cons, getD-set-other}
-use Rattle.polynomial.specs.Backwards.{drop-back, drop-store}
+use Rattle.list_laws.specs.Backwards.{drop-back, drop-store}
 
 pub one-more : (n i : ℕ) → 0 < i → i ≤ n → n - (i - 1) ≡ suc (n - i)
 one-more n i h k = omega arith

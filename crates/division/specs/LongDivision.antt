@@ -1,31 +1,22 @@
 -- Division by many points at once. Let w be the coefficients of the product of 1 - aX over the points: the sum of w times the quotient's coefficients from
 -- number j on is the dividend's coefficient of as much higher number as there are points. So each coefficient of the quotient is one sum of products.
-use Prim.Native.Nat.{ℕ, zero, suc, _+_, _≤_, _<_, zero-le, suc-le-suc}
+use Prim.Native.Nat.{ℕ, zero, suc, _+_, _<_, zero-le, suc-le-suc}
 use native.Mathlib.Nat
 use native.Mathlib.Nat.{suc-add, add-suc}
 use native.Mathlib.Omega.{arith}
 use mathlib.Core.Path.{_≡_, refl, sym, ap, ap₂, _∙_}
 use mathlib.Core.List.{List, [], _∷_, tail}
 use lib.ListN.{length, getD, drop}
+use lib.Seq.{getD-drop}
 use Rattle.definition.specs.Field.{Field, fieldOf}
 use Rattle.definition.specs.Polynomial.{horner, divide, quotient}
+use Rattle.list_laws.specs.Lists.{tail-drop}
 use Rattle.algebra.specs.Laws.{FieldLaws}
 use Rattle.algebra.specs.PrimeField.{laws}
 use Rattle.algebra.specs.RingLaws.{zero-add, zero-mul}
 use Rattle.algebra.specs.Solver.{:0, :1, _:+_, _:-_, _:*_, :-_, _:=_, solve₁, solve₂, solve₃, solve₆}
 use Rattle.sums.specs.Sums.{products}
 use Rattle.sums.specs.ZeroPadding.{ZeroFrom}
-
-drop-getD : {A : Type 0} (d : A) (j i : ℕ) (l : List A) → getD (drop j l) i d ≡ getD l (j + i) d
-drop-getD d zero i l = ap (λ (n : ℕ). getD l n d) (sym (Nat.zero-add i))
-drop-getD d (suc j) i [] = refl
-drop-getD d (suc j) i (x ∷ l) = drop-getD d j i l ∙ ap (λ (n : ℕ). getD (x ∷ l) n d) (sym (suc-add j i))
-
-tail-drop : {A : Type 0} (j : ℕ) (l : List A) → tail (drop j l) ≡ drop (suc j) l
-tail-drop zero [] = refl
-tail-drop zero (x ∷ l) = refl
-tail-drop (suc j) [] = refl
-tail-drop (suc j) (x ∷ l) = tail-drop j l
 
 tail-getD : {A : Type 0} (d : A) (i : ℕ) (l : List A) → getD (tail l) i d ≡ getD l (suc i) d
 tail-getD d i [] = refl
@@ -120,7 +111,7 @@ module _ {A : Type 0} (F : Field A) (L : FieldLaws F) where
   pub sums-none : (w : List A) → getD w 0 𝟘 ≡ 𝟙 → ZeroFrom F w 1 → QuotientSums [] w
   unfolding quotient
   sums-none w e h f j =
-      products-one w (drop j f) e h ∙ ap reduce (drop-getD 𝟘 j 0 f ∙ ap (λ (n : ℕ). getD f n 𝟘) (Nat.add-zero j ∙ sym (Nat.zero-add j)))
+      products-one w (drop j f) e h ∙ ap reduce (getD-drop j f 0 𝟘 ∙ ap (λ (n : ℕ). getD f n 𝟘) (Nat.add-zero j ∙ sym (Nat.zero-add j)))
 
   pub sums-next : (a : A) (xs w r : List A) → length r ≡ length w → ZeroFrom F (𝟘 ∷ w) (length w) →
       ((m : ℕ) → m < length w → getD r m 𝟘 ≡ getD w m 𝟘 ⊕ (𝟘 ⊖ a) ⊗ getD (𝟘 ∷ w) m 𝟘) → QuotientSums xs w → QuotientSums (a ∷ xs) r

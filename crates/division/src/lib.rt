@@ -7,7 +7,7 @@ ghost use Prim.Native.Nat.{ℕ, suc, _+_, _-_, _≤_, _<_};
 ghost use lib.ListN.{length, take, drop, getD};
 ghost use Rattle.definition.specs.Field.{Field, fieldOf};
 ghost use Rattle.definition.specs.Polynomial.{quotient};
-ghost use Rattle.domain.specs.Filled.{Filled};
+ghost use Rattle.list_laws.specs.Filled.{Filled};
 ghost use Rattle.sums.specs.Sums.{products};
 ghost use Rattle.division.specs.LongDivision.{Dividing, Divides};
 

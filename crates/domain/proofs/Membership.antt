@@ -10,7 +10,7 @@ use lib.ListN.{length, getD}
 use Rattle.definition.specs.Lists.{range, member}
 use Rattle.definition.specs.Field.{primeField, fieldOf}
 use Rattle.definition.specs.Domain.{point, domain, inDomain}
-use Rattle.algebra.specs.ListFacts.{map-all, all-range}
+use Rattle.list_laws.specs.All.{map-all, all-range}
 use Rattle.domain.specs.Powers.{Inside}
 use Rattle.domain.specs.Points.{place-below, point-at}
 

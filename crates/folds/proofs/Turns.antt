@@ -7,7 +7,7 @@ use native.Mathlib.Omega.{arith}
 use lib.ListN.{length, getD, set}
 use lib.Pow.{pow-pos}
 use Rattle.definition.specs.Field.{Field}
-use Rattle.domain.specs.Filled.{Filled, filled-next}
+use Rattle.list_laws.specs.Filled.{Filled, filled-next}
 use Rattle.folds.specs.Halving.{joined, halving}
 use Rattle.folds.specs.HalvingLaw.{halving-same}
 

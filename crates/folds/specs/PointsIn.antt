@@ -28,12 +28,12 @@ unfoldable pub shiftIn : List ℕ → ℕ → ℕ → ℕ → ℕ
 shiftIn pw scale k j = getD pw ((k - 1 + k * (scale * j)) % length pw) 0
 
 -- the inverse of ω^e: ω^(n - e mod n), where n powers make the round
-unfoldable pub backIn : List ℕ → ℕ → ℕ
-backIn pw e = getD pw (length pw - 1 - e % length pw) 0
+unfoldable pub inversePowerIn : List ℕ → ℕ → ℕ
+inversePowerIn pw e = getD pw (length pw - 1 - e % length pw) 0
 
-pub back-power : {field ω : ℕ} {pw : List ℕ} → Powers field ω pw → 0 < length pw → (e : ℕ) → fieldOf field ._⊗_ (power (fieldOf field) ω e) (backIn pw e) ≡ fieldOf field .𝟙
-unfolding backIn
-back-power {field} {ω} {pw} w long e =
+pub inverse-power-is : {field ω : ℕ} {pw : List ℕ} → Powers field ω pw → 0 < length pw → (e : ℕ) → fieldOf field ._⊗_ (power (fieldOf field) ω e) (inversePowerIn pw e) ≡ fieldOf field .𝟙
+unfolding inversePowerIn
+inverse-power-is {field} {ω} {pw} w long e =
     let F = fieldOf field in
     let n = length pw in
     let b = n - 1 - e % n in

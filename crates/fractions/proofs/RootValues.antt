@@ -11,13 +11,13 @@ use Rattle.definition.specs.Polynomial.{evaluate, geometric}
 use Rattle.algebra.specs.Laws.{FieldLaws}
 use Rattle.algebra.specs.PrimeField.{laws}
 use Rattle.algebra.specs.Solver.{_:*_, _:=_, solve₃}
-use Rattle.domain.specs.Filled.{Filled}
+use Rattle.list_laws.specs.Filled.{Filled}
 use Rattle.polynomial.specs.Inverses.{Nonzero}
 use Rattle.sums.specs.AtRoots.{everyNth, sums-at}
 use Rattle.sums.specs.Residues.{root-powers}
 use Rattle.sums.specs.Sums.{products}
 use Rattle.tables.specs.Halving.{Halves, Table}
-use Rattle.fractions.specs.declared.Function.{Function}
+use Rattle.fractions.specs.declared.Oracle.{Oracle}
 use Rattle.folds.specs.PointsIn.{pointIn}
 use Rattle.fractions.specs.Fraction.{Fraction}
 use Rattle.fractions.specs.Values.{Clear, Fits, Rooted, ShiftPowers, correctedIn, numeratorIn, vanishingIn, growthIn, valueOf, valueIn, rootIn, first-point, folded, root-number, point-room}
@@ -71,31 +71,31 @@ module _ {field : ℕ} {pw : List ℕ} {at step k : ℕ} {powers : List ℕ} (r 
 
 -- ---- where the roots stand
 
-module _ {points n : ℕ} {how : Function} {k : ℕ} (fits : Fits points n how k) where
+module _ {points n : ℕ} {oracle : Oracle} {k : ℕ} (fits : Fits points n oracle k) where
   -- as many powers as columns
-  pub count-is : how .words / k ≡ fits .columns
+  pub count-is : oracle .words / k ≡ fits .columns
   count-is = ap (λ (m : ℕ). m / k) (fits .whole) ∙ mul-div-cancel-left (fits .columns) (omega (arith, folded fits))
 
-  pub count-few : how .words / k ≤ 33
+  pub count-few : oracle .words / k ≤ 33
   count-few = omega (arith, count-is, fits .whole, fits .used, mul-le-mul-right (fits .columns) (folded fits))
 
-  pub count-some : 0 < how .words → 0 < how .words / k
+  pub count-some : 0 < oracle .words → 0 < oracle .words / k
   count-some h = go (fits .columns) (fits .whole) count-is
     where
-      go : (c : ℕ) → how .words ≡ k * c → how .words / k ≡ c → 0 < how .words / k
+      go : (c : ℕ) → oracle .words ≡ k * c → oracle .words / k ≡ c → 0 < oracle .words / k
       go zero e d = absurd (omega arith)
       go (suc c) e d = omega arith
 
-  pub words-are : how .words ≡ k * (how .words / k)
+  pub words-are : oracle .words ≡ k * (oracle .words / k)
   words-are = fits .whole ∙ ap (λ (c : ℕ). k * c) (sym count-is)
 
-  pub roots-spaced : {j : ℕ} → j < how .step → (how .scale * j < how .scale * how .step) × (how .scale * how .step * k ≡ points)
+  pub roots-spaced : {j : ℕ} → j < oracle .step → (oracle .scale * j < oracle .scale * oracle .step) × (oracle .scale * oracle .step * k ≡ points)
   roots-spaced {j} l = (
-    (let less : how .scale * suc j ≤ how .scale * how .step = mul-le-mul-left (how .scale) l in omega (arith, less, fits .spaced)),
-    (let whole : how .scale * (k * how .step) ≡ how .scale * n = ap (λ (m : ℕ). how .scale * m) (fits .roots) in omega (arith, whole, fits .room)),
+    (let less : oracle .scale * suc j ≤ oracle .scale * oracle .step = mul-le-mul-left (oracle .scale) l in omega (arith, less, fits .spaced)),
+    (let whole : oracle .scale * (k * oracle .step) ≡ oracle .scale * n = ap (λ (m : ℕ). oracle .scale * m) (fits .roots) in omega (arith, whole, fits .room)),
   )
 
-  pub root-place : (j m : ℕ) → how .scale * (j + m * how .step) ≡ how .scale * j + how .scale * how .step * m
+  pub root-place : (j m : ℕ) → oracle .scale * (j + m * oracle .step) ≡ oracle .scale * j + oracle .scale * oracle .step * m
   root-place j m = omega arith
 
 -- the exponent of a shift point fits
@@ -105,10 +105,10 @@ exponent-fits e k l few small =
     let most : k * e ≤ 16 * 4096 = mul-le-mul small less in
     (omega arith, omega arith)
 
-pub rooted : (field : ℕ) (pw table vg : List ℕ) (how : Function) (k : ℕ) → Fits (length pw) (length table) how k → (clear : Clear field pw (length table) vg how) →
-    (j y : ℕ) (powers : List ℕ) → j < how .step → y ≡ power (fieldOf field) (power (fieldOf field) (clear .ω) (1 + how .scale * j)) k → 0 < how .words → length powers ≡ how .words / k →
-    powers ≡ geometric (fieldOf field) y (length powers - 1) → Rooted field pw (how .scale * j) (how .scale * how .step) k powers
-rooted field pw table vg how k fits clear j y powers l shift pos size list = record {
+pub rooted : (field : ℕ) (pw table vg : List ℕ) (oracle : Oracle) (k : ℕ) → Fits (length pw) (length table) oracle k → (clear : Clear field pw (length table) vg oracle) →
+    (j y : ℕ) (powers : List ℕ) → j < oracle .step → y ≡ power (fieldOf field) (power (fieldOf field) (clear .ω) (1 + oracle .scale * j)) k → 0 < oracle .words → length powers ≡ oracle .words / k →
+    powers ≡ geometric (fieldOf field) y (length powers - 1) → Rooted field pw (oracle .scale * j) (oracle .scale * oracle .step) k powers
+rooted field pw table vg oracle k fits clear j y powers l shift pos size list = record {
   ω = clear .ω;
   table = clear .powers;
   y = y;
@@ -122,15 +122,15 @@ rooted field pw table vg how k fits clear j y powers l shift pos size list = rec
   spaced = roots-spaced fits l;
 }
   where
-    root : (m : ℕ) → m < k → power (fieldOf field) (getD pw (how .scale * j + how .scale * how .step * m) 0) k ≡ y
+    root : (m : ℕ) → m < k → power (fieldOf field) (getD pw (oracle .scale * j + oracle .scale * oracle .step * m) 0) k ≡ y
     root m u =
         let F = fieldOf field in
         let ω = clear .ω in
-        let d = how .scale * how .step in
-        let e = 1 + how .scale * j in
+        let d = oracle .scale * oracle .step in
+        let e = 1 + oracle .scale * j in
         let place = root-place fits j m in
-        let inside : how .scale * j + d * m < length pw = omega (arith, place, point-room fits (j + m * how .step) (root-number fits l m u)) in
-        let next : 1 + (how .scale * j + d * m) ≡ e + m * d = omega arith in
+        let inside : oracle .scale * j + d * m < length pw = omega (arith, place, point-room fits (j + m * oracle .step) (root-number fits l m u)) in
+        let next : 1 + (oracle .scale * j + d * m) ≡ e + m * d = omega arith in
         let round : power F ω (d * k) ≡ F .𝟙 = ap (power F ω) (roots-spaced fits l .1) ∙ clear .powers .round in
         ap (λ (x : ℕ). power F x k) (clear .powers .entry _ inside ∙ ap (power F ω) next)
         ∙ root-powers F (laws field) ω e d k m round ∙ sym shift
@@ -143,25 +143,25 @@ front-whole count room front inside same =
     (take-at front (drop count room) count long, long)
 
 -- the powers of the shift point, in a part of their places
-pub rooted-part : (field : ℕ) (pw table vg : List ℕ) (how : Function) (k k′ : ℕ) → Fits (length pw) (length table) how k → Clear field pw (length table) vg how → (j : ℕ) (room front : List ℕ) →
-    j < how .step → 0 < how .words → length room ≡ 33 → length front ≡ length (take (how .words / k) room) → ShiftPowers pw (how .scale) k j front → k′ ≡ k →
-    Rooted field pw (how .scale * j) (how .scale * how .step) k′ (take (how .words / k) (front ++ drop (how .words / k) room))
-    × (how .words ≡ k′ * length (take (how .words / k) (front ++ drop (how .words / k) room)))
-rooted-part field pw table vg how k k′ fits clear j room front l pos places same list e =
-    let count = how .words / k in
+pub rooted-part : (field : ℕ) (pw table vg : List ℕ) (oracle : Oracle) (k k′ : ℕ) → Fits (length pw) (length table) oracle k → Clear field pw (length table) vg oracle → (j : ℕ) (room front : List ℕ) →
+    j < oracle .step → 0 < oracle .words → length room ≡ 33 → length front ≡ length (take (oracle .words / k) room) → ShiftPowers pw (oracle .scale) k j front → k′ ≡ k →
+    Rooted field pw (oracle .scale * j) (oracle .scale * oracle .step) k′ (take (oracle .words / k) (front ++ drop (oracle .words / k) room))
+    × (oracle .words ≡ k′ * length (take (oracle .words / k) (front ++ drop (oracle .words / k) room)))
+rooted-part field pw table vg oracle k k′ fits clear j room front l pos places same list e =
+    let count = oracle .words / k in
     let w = front-whole count room front (omega (arith, count-few fits)) same in
-    let y = power (fieldOf field) (power (fieldOf field) (clear .ω) (1 + how .scale * j)) k in
-    let r = rooted field pw table vg how k fits clear j y front l refl pos (w .1) (list field (clear .ω) (clear .powers)) in
-    let whole : how .words ≡ k * length front = words-are fits ∙ ap (λ (n : ℕ). k * n) (sym (w .1)) in
+    let y = power (fieldOf field) (power (fieldOf field) (clear .ω) (1 + oracle .scale * j)) k in
+    let r = rooted field pw table vg oracle k fits clear j y front l refl pos (w .1) (list field (clear .ω) (clear .powers)) in
+    let whole : oracle .words ≡ k * length front = words-are fits ∙ ap (λ (n : ℕ). k * n) (sym (w .1)) in
     rw (e, w .0) (r, whole)
 
 -- V is 0 at no root
-pub roots-nonzero : (field : ℕ) (pw table vg : List ℕ) (how : Function) (k : ℕ) (fits : Fits (length pw) (length table) how k) → (clear : Clear field pw (length table) vg how) →
-    (j : ℕ) → j < how .step → 0 < how .words → (m : ℕ) → m < k →
-    laws field .reduce (evaluate (fieldOf field) (vanishingIn (how .words) vg) (getD pw (how .scale * j + how .scale * how .step * m) 0)) ≡ fieldOf field .𝟘 → ⊥
-roots-nonzero field pw table vg how k fits clear j l pos m u z =
-    clear .nonzero (j + m * how .step) (root-number fits l m u) pos
-    (ap (λ (e : ℕ). laws field .reduce (evaluate (fieldOf field) (vanishingIn (how .words) vg) (getD pw e 0))) (root-place fits j m) ∙ z)
+pub roots-nonzero : (field : ℕ) (pw table vg : List ℕ) (oracle : Oracle) (k : ℕ) (fits : Fits (length pw) (length table) oracle k) → (clear : Clear field pw (length table) vg oracle) →
+    (j : ℕ) → j < oracle .step → 0 < oracle .words → (m : ℕ) → m < k →
+    laws field .reduce (evaluate (fieldOf field) (vanishingIn (oracle .words) vg) (getD pw (oracle .scale * j + oracle .scale * oracle .step * m) 0)) ≡ fieldOf field .𝟘 → ⊥
+roots-nonzero field pw table vg oracle k fits clear j l pos m u z =
+    clear .nonzero (j + m * oracle .step) (root-number fits l m u) pos
+    (ap (λ (e : ℕ). laws field .reduce (evaluate (fieldOf field) (vanishingIn (oracle .words) vg) (getD pw e 0))) (root-place fits j m) ∙ z)
 
 -- ---- the value at a point, without samples and with some
 
@@ -170,20 +170,20 @@ unfolding valueOf
 value-some F zero ac vg x y h = absurd (not-suc-le-zero h)
 value-some F (suc n) ac vg x y h = refl
 
-module _ (field : ℕ) (pw table ac vg : List ℕ) (how : Function) (k : ℕ) (fits : Fits (length pw) (length table) how k) (j m : ℕ) where
-  times : j + how .step * m ≡ j + m * how .step
+module _ (field : ℕ) (pw table ac vg : List ℕ) (oracle : Oracle) (k : ℕ) (fits : Fits (length pw) (length table) oracle k) (j m : ℕ) where
+  times : j + oracle .step * m ≡ j + m * oracle .step
   times = omega arith
 
-  pub value-first : {v : ℕ} → how .words ≡ 0 → v ≡ getD table (j + how .step * m) 0 → v ≡ rootIn field pw table ac vg how j m
+  pub value-first : {v : ℕ} → oracle .words ≡ 0 → v ≡ getD table (j + oracle .step * m) 0 → v ≡ rootIn field pw table ac vg oracle j m
   unfolding valueIn valueOf
   value-first e ev = let z = times in rw e (ev ∙ ap (λ (i : ℕ). getD table i 0) z)
 
-  pub value-next : {v y : ℕ} → 0 < how .words → y ≡ getD table (j + how .step * m) 0 →
-      v ≡ correctedIn (fieldOf field) (how .words) ac vg (getD pw (how .scale * j + how .scale * how .step * m) 0) y → v ≡ rootIn field pw table ac vg how j m
+  pub value-next : {v y : ℕ} → 0 < oracle .words → y ≡ getD table (j + oracle .step * m) 0 →
+      v ≡ correctedIn (fieldOf field) (oracle .words) ac vg (getD pw (oracle .scale * j + oracle .scale * oracle .step * m) 0) y → v ≡ rootIn field pw table ac vg oracle j m
   unfolding valueIn pointIn
   value-next h ey ev =
-      ev ∙ (λ i. correctedIn (fieldOf field) (how .words) ac vg (getD pw (sym (root-place fits j m) i) 0) ((ey ∙ ap (λ (i : ℕ). getD table i 0) times) i))
-      ∙ value-some (fieldOf field) (how .words) ac vg _ _ h
+      ev ∙ (λ i. correctedIn (fieldOf field) (oracle .words) ac vg (getD pw (sym (root-place fits j m) i) 0) ((ey ∙ ap (λ (i : ℕ). getD table i 0) times) i))
+      ∙ value-some (fieldOf field) (oracle .words) ac vg _ _ h
 
 -- ---- the quotient
 
@@ -232,12 +232,12 @@ numerators-are field words ac vg x old new a g room ea eg t m l =
     let grown : getD g m 0 ≡ evaluate F (growthIn words vg) (x m) = eg m l ∙ ap (λ (w : List ℕ). evaluate F w (x m)) (take-take words (length vg - 66) (drop 66 vg) room) in
     t .passed m l ∙ (λ i. F ._⊗_ (F ._⊖_ (getD old m 0) (ea m l i)) (grown i))
 
-module _ (field : ℕ) (pw table ac vg : List ℕ) (how : Function) (k : ℕ) (fits : Fits (length pw) (length table) how k) (clear : Clear field pw (length table) vg how) where
-  pub fractions-are : (j : ℕ) → j < how .step → 0 < how .words → (m : ℕ) → m < k → (words : ℕ) {y top bottom : ℕ} → how .words ≡ words → y ≡ getD table (j + how .step * m) 0 →
-      top ≡ numeratorIn (fieldOf field) words ac vg (getD pw (how .scale * j + how .scale * how .step * m) 0) y →
-      bottom ≡ evaluate (fieldOf field) (vanishingIn words vg) (getD pw (how .scale * j + how .scale * how .step * m) 0) →
-      Fraction field (rootIn field pw table ac vg how j m) top bottom
+module _ (field : ℕ) (pw table ac vg : List ℕ) (oracle : Oracle) (k : ℕ) (fits : Fits (length pw) (length table) oracle k) (clear : Clear field pw (length table) vg oracle) where
+  pub fractions-are : (j : ℕ) → j < oracle .step → 0 < oracle .words → (m : ℕ) → m < k → (words : ℕ) {y top bottom : ℕ} → oracle .words ≡ words → y ≡ getD table (j + oracle .step * m) 0 →
+      top ≡ numeratorIn (fieldOf field) words ac vg (getD pw (oracle .scale * j + oracle .scale * oracle .step * m) 0) y →
+      bottom ≡ evaluate (fieldOf field) (vanishingIn words vg) (getD pw (oracle .scale * j + oracle .scale * oracle .step * m) 0) →
+      Fraction field (rootIn field pw table ac vg oracle j m) top bottom
   fractions-are j l more m u words {y} ew ey et eb =
-      let x = getD pw (how .scale * j + how .scale * how .step * m) 0 in
-      fraction-is field (how .words) ac vg x y (et ∙ (λ i. numeratorIn (fieldOf field) (sym ew i) ac vg x y)) (eb ∙ (λ i. evaluate (fieldOf field) (vanishingIn (sym ew i) vg) x))
-      (roots-nonzero field pw table vg how k fits clear j l more m u) (value-next field pw table ac vg how k fits j m more ey refl)
+      let x = getD pw (oracle .scale * j + oracle .scale * oracle .step * m) 0 in
+      fraction-is field (oracle .words) ac vg x y (et ∙ (λ i. numeratorIn (fieldOf field) (sym ew i) ac vg x y)) (eb ∙ (λ i. evaluate (fieldOf field) (vanishingIn (sym ew i) vg) x))
+      (roots-nonzero field pw table vg oracle k fits clear j l more m u) (value-next field pw table ac vg oracle k fits j m more ey refl)

@@ -10,7 +10,7 @@ use Rattle.definition.specs.Field.{Field, fieldOf, power, reciprocal}
 use Rattle.definition.specs.Polynomial.{evaluate, geometric}
 use Rattle.domain.specs.Powers.{Powers}
 use Rattle.polynomial.specs.Inverses.{Nonzero}
-use Rattle.fractions.specs.declared.Function.{Function}
+use Rattle.fractions.specs.declared.Oracle.{Oracle}
 use Rattle.folds.specs.Halving.{exponentOf}
 use Rattle.folds.specs.HalvingLaw.{exponent-of}
 use Rattle.folds.specs.PointsIn.{pointIn}
@@ -37,32 +37,32 @@ valueOf F zero ac vg x y = y
 valueOf F (suc words) ac vg x y = correctedIn F (suc words) ac vg x y
 
 -- the value at point number m
-unfoldable pub valueIn : ℕ → List ℕ → List ℕ → List ℕ → List ℕ → Function → ℕ → ℕ
-valueIn field pw table ac vg how m = valueOf (fieldOf field) (how .words) ac vg (pointIn pw (how .scale) m) (getD table m 0)
+unfoldable pub valueIn : ℕ → List ℕ → List ℕ → List ℕ → List ℕ → Oracle → ℕ → ℕ
+valueIn field pw table ac vg oracle m = valueOf (fieldOf field) (oracle .words) ac vg (pointIn pw (oracle .scale) m) (getD table m 0)
 
 -- the value at root m of shift point j
-abbrev pub rootIn : ℕ → List ℕ → List ℕ → List ℕ → List ℕ → Function → ℕ → ℕ → ℕ
-rootIn field pw table ac vg how j m = valueIn field pw table ac vg how (j + m * how .step)
+abbrev pub rootIn : ℕ → List ℕ → List ℕ → List ℕ → List ℕ → Oracle → ℕ → ℕ → ℕ
+rootIn field pw table ac vg oracle j m = valueIn field pw table ac vg oracle (j + m * oracle .step)
 
 -- The folding number k is a power of two from 2 to 16. A table of n words has k roots of each shift index, and its points are every scale-th in a table of
 -- `points` words. The words in use of the coefficients are k columns.
-pub record Fits (points n : ℕ) (how : Function) (k : ℕ) : Type 0 where
+pub record Fits (points n : ℕ) (oracle : Oracle) (k : ℕ) : Type 0 where
   pub log : ℕ
   pub two : k ≡ 2 ^ suc log
   pub few : k ≤ 16
-  pub spaced : 0 < how .scale
-  pub roots : k * how .step ≡ n
-  pub room : how .scale * n ≡ points
+  pub spaced : 0 < oracle .scale
+  pub roots : k * oracle .step ≡ n
+  pub room : oracle .scale * n ≡ points
   pub small : points ≤ 4096
   pub columns : ℕ
-  pub whole : how .words ≡ k * columns
-  pub used : how .words ≤ 66
+  pub whole : oracle .words ≡ k * columns
+  pub used : oracle .words ≤ 66
 
 -- pw is a table of powers, and at no point of a table of n values is V 0, by which a value is divided.
-pub record Clear (field : ℕ) (pw : List ℕ) (n : ℕ) (vg : List ℕ) (how : Function) : Type 0 where
+pub record Clear (field : ℕ) (pw : List ℕ) (n : ℕ) (vg : List ℕ) (oracle : Oracle) : Type 0 where
   pub ω : ℕ
   pub powers : Powers field ω pw
-  pub nonzero : (m : ℕ) → m < n → 0 < how .words → Nonzero field (evaluate (fieldOf field) (vanishingIn (how .words) vg) (getD pw (how .scale * m) 0))
+  pub nonzero : (m : ℕ) → m < n → 0 < oracle .words → Nonzero field (evaluate (fieldOf field) (vanishingIn (oracle .words) vg) (getD pw (oracle .scale * m) 0))
 
 -- The k places at, at + step, .. of pw, a table of powers, go once round it; the points there have one k-th power, whose powers are given.
 pub record Rooted (field : ℕ) (pw : List ℕ) (at step k : ℕ) (powers : List ℕ) : Type 0 where
@@ -87,7 +87,7 @@ ShiftPowers pw scale k j powers =
 abbrev pub Below : ℕ → List ℕ → Type 0
 Below count js = (i : ℕ) → i < length js → getD js i 0 < count
 
-module _ {points n : ℕ} {how : Function} {k : ℕ} (fits : Fits points n how k) where
+module _ {points n : ℕ} {oracle : Oracle} {k : ℕ} (fits : Fits points n oracle k) where
   -- k is a power of two, and not 1
   pub folded : 1 < k
   folded = omega (arith, fits .two, pow-suc 2 (fits .log), pow-pos (fits .log))
@@ -102,35 +102,35 @@ module _ {points n : ℕ} {how : Function} {k : ℕ} (fits : Fits points n how k
   power-of = fits .two ∙ ap (λ (a : ℕ). 2 ^ a) (sym exponent)
 
   -- each point of the table of values stands in that of points
-  pub point-room : (m : ℕ) → m < n → how .scale * m < points
-  point-room m l = less (how .scale) (fits .spaced) (le-of-eq (fits .room))
+  pub point-room : (m : ℕ) → m < n → oracle .scale * m < points
+  point-room m l = less (oracle .scale) (fits .spaced) (le-of-eq (fits .room))
     where
       less : (s : ℕ) → 0 < s → s * n ≤ points → s * m < points
       less s h r = let e : s * (m + 1) ≤ s * n = mul-le-mul-left s (omega arith) in omega arith
 
   -- root i of shift index j stands in the table of values, and the point of index j in that of points
-  pub root-number : {j : ℕ} → j < how .step → (i : ℕ) → i < k → j + i * how .step < n
-  root-number below i l = let r = fits .roots in omega (arith, suc-mul i (how .step), mul-le-mul-right (how .step) l)
+  pub root-number : {j : ℕ} → j < oracle .step → (i : ℕ) → i < k → j + i * oracle .step < n
+  root-number below i l = let r = fits .roots in omega (arith, suc-mul i (oracle .step), mul-le-mul-right (oracle .step) l)
 
-  pub first-point : {j : ℕ} → j < how .step → how .scale * j < points
+  pub first-point : {j : ℕ} → j < oracle .step → oracle .scale * j < points
   first-point {j} below = point-room j (omega (arith, root-number below 0 (omega (arith, folded))))
 
   -- the k roots lie all around: half of all powers is half of k times the way from one root to the next
-  pub half-way : points / 2 ≡ 2 ^ fits .log * (how .scale * how .step)
+  pub half-way : points / 2 ≡ 2 ^ fits .log * (oracle .scale * oracle .step)
   half-way =
       let q = 2 ^ fits .log in
       let double : k ≡ q * 2 = fits .two ∙ pow-suc 2 (fits .log) in
-      let whole : how .scale * (q * 2 * how .step) ≡ points = ap (λ (x : ℕ). how .scale * (x * how .step)) (sym double) ∙ ap (λ (x : ℕ). how .scale * x) (fits .roots) ∙ fits .room in
+      let whole : oracle .scale * (q * 2 * oracle .step) ≡ points = ap (λ (x : ℕ). oracle .scale * (x * oracle .step)) (sym double) ∙ ap (λ (x : ℕ). oracle .scale * x) (fits .roots) ∙ fits .room in
       omega (arith, whole)
 
-  pub spacing : how .scale * how .step ≤ points
-  spacing = omega (arith, half-way, mul-le-mul-right (how .scale * how .step) (pow-pos (fits .log)))
+  pub spacing : oracle .scale * oracle .step ≤ points
+  spacing = omega (arith, half-way, mul-le-mul-right (oracle .scale * oracle .step) (pow-pos (fits .log)))
 
-pub table-place : {points n : ℕ} {how : Function} {k : ℕ} (fits : Fits points n how k) {j : ℕ} → j < how .step → (m : ℕ) → m < k → j + how .step * m < n
-table-place {how = how} fits {j} l m u = let same : j + how .step * m ≡ j + m * how .step = omega arith in omega (arith, same, root-number fits l m u)
+pub table-place : {points n : ℕ} {oracle : Oracle} {k : ℕ} (fits : Fits points n oracle k) {j : ℕ} → j < oracle .step → (m : ℕ) → m < k → j + oracle .step * m < n
+table-place {oracle = oracle} fits {j} l m u = let same : j + oracle .step * m ≡ j + m * oracle .step = omega arith in omega (arith, same, root-number fits l m u)
 
 -- of a length and of an index that are told by an equation
-pub fits-for : {points n : ℕ} {how : Function} {k k′ : ℕ} → k′ ≡ k → Fits points n how k → Fits points n how k′
+pub fits-for : {points n : ℕ} {oracle : Oracle} {k k′ : ℕ} → k′ ≡ k → Fits points n oracle k → Fits points n oracle k′
 fits-for e h = rw e h
 
 pub below-at : {count : ℕ} (js : List ℕ) → Below count js → (i : ℕ) {j : ℕ} → i < length js → j ≡ getD js i 0 → j < count

@@ -8,13 +8,13 @@ ghost use Prim.Native.Nat.{ℕ, _+_, _*_, _≤_, _<_};
 ghost use lib.ListN.{length, getD, take};
 ghost use Rattle.definition.specs.Field.{Field, fieldOf};
 ghost use Rattle.definition.specs.Polynomial.{evaluate};
-ghost use Rattle.domain.specs.Filled.{Filled};
+ghost use Rattle.list_laws.specs.Filled.{Filled};
 ghost use Rattle.fractions.specs.Fraction.{Fraction};
 ghost use Rattle.fractions.specs.Values.{Fits, Clear, Rooted, ShiftPowers, vanishingIn, numeratorIn, rootIn};
 
 // How the function of a level is worked out: its point m stands at scale·m in pw, the roots of a shift point have numbers that are `step` apart, and the first
 // `words` of the coefficients are in use. Before the first round there are no samples, no words, and the table's own values are the function's.
-pub struct Function {
+pub struct Oracle {
     pub scale: usize,
     pub step: usize,
     pub words: usize,
@@ -123,28 +123,28 @@ pub fn fractions(
     table: &[u32],
     ac: &[u32],
     vg: &[u32],
-    how: Function,
+    oracle: Oracle,
     j: usize,
     tops: &mut [u32],
     bottoms: &mut [u32],
 )
-    requires { ⌜ (length (now ac) ≡ 66) × ((length (now vg) ≡ 132) × (Clear field (now pw) (length (now table)) (now vg) how)) ⌝ }
-    requires { ⌜ Fits (length (now pw)) (length (now table)) how (length (now tops)) ⌝ }
-    requires { ⌜ (j < how .step) × ((0 < how .words) × (length (now bottoms) ≡ length (now tops))) ⌝ }
-    ensures { λ _. ⌜ ((m : ℕ) → m < length (now (tops .entry)) → Fraction field (rootIn field (now (pw .entry)) (now (table .entry)) (now (ac .entry)) (now (vg .entry)) how j m) (getD (now (tops .exit)) m 0) (getD (now (bottoms .exit)) m 0)) ⌝ }
+    requires { ⌜ (length (now ac) ≡ 66) × ((length (now vg) ≡ 132) × (Clear field (now pw) (length (now table)) (now vg) oracle)) ⌝ }
+    requires { ⌜ Fits (length (now pw)) (length (now table)) oracle (length (now tops)) ⌝ }
+    requires { ⌜ (j < oracle .step) × ((0 < oracle .words) × (length (now bottoms) ≡ length (now tops))) ⌝ }
+    ensures { λ _. ⌜ ((m : ℕ) → m < length (now (tops .entry)) → Fraction field (rootIn field (now (pw .entry)) (now (table .entry)) (now (ac .entry)) (now (vg .entry)) oracle j m) (getD (now (tops .exit)) m 0) (getD (now (bottoms .exit)) m 0)) ⌝ }
 {
     let k = tops.len();
-    gather(table, how.step, j, tops);
-    let count = how.words / k;
+    gather(table, oracle.step, j, tops);
+    let count = oracle.words / k;
     let mut powers = columns();
-    shift_powers(pw, how.scale, k, j, &mut powers[..count]);
+    shift_powers(pw, oracle.scale, k, j, &mut powers[..count]);
     quotients(
         field,
         pw,
         ac,
         vg,
-        how.scale * j,
-        how.scale * how.step,
+        oracle.scale * j,
+        oracle.scale * oracle.step,
         &powers[..count],
         tops,
         bottoms,

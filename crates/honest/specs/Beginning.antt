@@ -10,13 +10,14 @@ use Rattle.definition.specs.Prover.{honest, honestRest, honestStream, tableOf}
 use Rattle.definition.specs.Sheet.{Edition, Level, Sheet, firstLevel, laterLevels, sheetLength, sheetOf}
 use Rattle.definition.specs.Transcript.{restWords, transcriptWords}
 use Rattle.completeness.specs.Allowed.{allowed-count, allowed-degree, allowed-long, allowed-rounds}
-use Rattle.completeness.specs.FairCoins.{Passes}
-use Rattle.completeness.specs.LayoutFacts.{Dealt, coins-append, coins-messages}
-use Rattle.completeness.specs.LevelsByNumber.{level-first, levels-later, undivided-degree}
-use Rattle.completeness.specs.Numbered.{Allowed, degreeOf, levelOf, outsOf, roundsOf, sheetField, sheetRoot}
+use Rattle.layouts.specs.EachWord.{Passes}
+use Rattle.layouts.specs.LayoutFacts.{CoinRuns, coins-append, coins-messages}
+use Rattle.layouts.specs.LevelsByNumber.{level-first, levels-later, undivided-degree}
+use Rattle.layouts.specs.Levels.{degreeOf, levelOf, outCoinCount, roundsOf, sheetField, sheetRoot}
+use Rattle.completeness.specs.Numbered.{Allowed}
 use Rattle.domain.specs.Powers.{Powers}
 use Rattle.honest_words.specs.Sizes.{half-degree, law, size-word}
-use Rattle.honest_words.specs.Standing.{AtLevel, DealtFrom, Standing, levelsAfter, restCount, restFrom, wordsFrom}
+use Rattle.honest_words.specs.Invariant.{AtLevel, CoinRunsFrom, Invariant, levelsAfter, restCount, restFrom, wordsFrom}
 
 -- fold coin 0 is due
 some-coin : (h : Sheet) → 0 < length (coinKinds (layout h))
@@ -33,8 +34,8 @@ module _ {ed : Edition} {w f coins : List ℕ} (ok : Allowed ed w f coins) where
   pub first-place : AtLevel ed w 0
   first-place = record { long = allowed-long ok; passed = ok .sheet; level = omega arith }
 
-  pub first-standing : (pw : List ℕ) → Powers (getD w 0 0) (sheetRoot (sheetOf ed w)) pw → length pw ≡ getD w 1 0 → Standing ed w pw 0 1
-  first-standing pw p e = record { place = first-place; powers = p; points = e ∙ sym (size-word ed w); scaled = sym (pow-zero 2) }
+  pub first-invariant : (pw : List ℕ) → Powers (getD w 0 0) (sheetRoot (sheetOf ed w)) pw → length pw ≡ getD w 1 0 → Invariant ed w pw 0 1
+  first-invariant pw p e = record { place = first-place; powers = p; points = e ∙ sym (size-word ed w); scaled = sym (pow-zero 2) }
 
   -- the number of coefficients
   pub first-count : length f ≡ degreeOf (sheetOf ed w) 0
@@ -52,21 +53,21 @@ module _ {ed : Edition} {w f coins : List ℕ} (ok : Allowed ed w f coins) where
   unfolding levelsAfter
   later = let e : roundsOf h - 0 ≡ roundsOf h = omega arith in rw e (levels-later h (law first-place .paired))
 
-  pub first-dealt : DealtFrom (sheetOf ed w) 0 (drop 1 coins)
-  unfolding DealtFrom
-  first-dealt =
-      subst (λ (ls : List Level). Dealt (Passes h) (outsOf h) (levelOf h 0) ls (drop 1 coins)) later
-      (subst (λ (b : Level). Dealt (Passes h) (outsOf h) b (laterLevels h) (drop 1 coins)) (level-first h) (allowed-rounds ok))
+  pub first-runs : CoinRunsFrom (sheetOf ed w) 0 (drop 1 coins)
+  unfolding CoinRunsFrom
+  first-runs =
+      subst (λ (ls : List Level). CoinRuns (Passes h) (outCoinCount h) (levelOf h 0) ls (drop 1 coins)) later
+      (subst (λ (b : Level). CoinRuns (Passes h) (outCoinCount h) b (laterLevels h) (drop 1 coins)) (level-first h) (allowed-rounds ok))
 
   -- the number of words due
   pub words-first : wordsDue ed (sheetOf ed w) ≡ sheetLength ed + (getD w 1 0 + (1 + restCount (sheetOf ed w) 0))
   unfolding wordsDue layout restCount
   words-first =
-      let rest : restLayout (outsOf h) (firstLevel h) (laterLevels h) ≡ restLayout (outsOf h) (levelOf h 0) (levelsAfter h 0) =
-      λ x. restLayout (outsOf h) (level-first h x) (later x) in
+      let rest : restLayout (outCoinCount h) (firstLevel h) (laterLevels h) ≡ restLayout (outCoinCount h) (levelOf h 0) (levelsAfter h 0) =
+      λ x. restLayout (outCoinCount h) (level-first h x) (later x) in
       omega (
         arith,
-        length-append (replicate (h .size) message) (coin ∷ restLayout (outsOf h) (firstLevel h) (laterLevels h)),
+        length-append (replicate (h .size) message) (coin ∷ restLayout (outCoinCount h) (firstLevel h) (laterLevels h)),
         length-replicate (h .size) message,
         ap length rest,
         size-word ed w,
@@ -77,4 +78,4 @@ module _ {ed : Edition} {w f coins : List ℕ} (ok : Allowed ed w f coins) where
   unfolding honestStream transcriptWords honest readCoins restFrom
   stream-is = sym (λ x. w
       ++ (tableOf (sheetField h) (sheetRoot h) (level-first h x) f ++ (getD coins 0 0 ∷ restWords (honestRest (sheetField h) (sheetRoot h) (level-first h x) f (getD coins 0 0)
-      (readRounds (outsOf h) (level-first h x) (later x) (drop 1 coins)) (readFinals (outsOf h) (level-first h x) (later x) (drop 1 coins))))))
+      (readRounds (outCoinCount h) (level-first h x) (later x) (drop 1 coins)) (readFinals (outCoinCount h) (level-first h x) (later x) (drop 1 coins))))))

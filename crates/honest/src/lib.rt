@@ -9,10 +9,11 @@ ghost use lib.ListN.{length, getD, take, drop};
 ghost use Rattle.definition.specs.Layout.{wordsDue};
 ghost use Rattle.definition.specs.Prover.{honestStream};
 ghost use Rattle.definition.specs.Sheet.{rootOfUnity, sheetOf};
-ghost use Rattle.completeness.specs.Numbered.{Allowed, degreeOf};
+ghost use Rattle.completeness.specs.Numbered.{Allowed};
+ghost use Rattle.layouts.specs.Levels.{degreeOf};
 ghost use Rattle.domain.specs.Powers.{Powers};
 ghost use Rattle.edition.specs.Meaning.{editionOf};
-ghost use Rattle.honest_words.specs.Standing.{DealtFrom, RestAfter, Standing, openingFrom, restCount, wordsFrom};
+ghost use Rattle.honest_words.specs.Invariant.{CoinRunsFrom, RestAfter, Invariant, openingFrom, restCount, wordsFrom};
 
 // The number of coins of the round after a level: the out coins, the combination coin, the fold coin and the shift indices.
 fn round_coins(w: &[u32], level: usize) -> usize
@@ -54,8 +55,8 @@ fn rest(
     g: &mut [u32],
     out: &mut [u32],
 )
-    requires { ⌜ (Standing (editionOf e) (now w) (now pw) level scale) × ((d ≡ degreeOf (sheetOf (editionOf e) (now w)) (level + 1)) × (d ≤ length (now g))) ⌝ }
-    requires { ⌜ (DealtFrom (sheetOf (editionOf e) (now w)) level (now coins)) × (length (now out) ≡ restCount (sheetOf (editionOf e) (now w)) level) ⌝ }
+    requires { ⌜ (Invariant (editionOf e) (now w) (now pw) level scale) × ((d ≡ degreeOf (sheetOf (editionOf e) (now w)) (level + 1)) × (d ≤ length (now g))) ⌝ }
+    requires { ⌜ (CoinRunsFrom (sheetOf (editionOf e) (now w)) level (now coins)) × (length (now out) ≡ restCount (sheetOf (editionOf e) (now w)) level) ⌝ }
     ensures { λ _. ⌜ RestAfter (sheetOf (editionOf e) (now (w .entry))) level (take d (now (g .entry))) (now (coins .entry)) (now (out .exit)) ⌝ }
 {
     if level == w[4] as usize {
@@ -101,8 +102,8 @@ fn after_first(
     g: &mut [u32],
     out: &mut [u32],
 )
-    requires { ⌜ (Standing (editionOf e) (now w) (now pw) 0 1) × ((length (now f) ≡ degreeOf (sheetOf (editionOf e) (now w)) 0) × (length (now f) ≤ 2 * length (now g))) ⌝ }
-    requires { ⌜ (0 < length (now coins)) × ((DealtFrom (sheetOf (editionOf e) (now w)) 0 (drop 1 (now coins))) × (length (now out) ≡ 1 + restCount (sheetOf (editionOf e) (now w)) 0)) ⌝ }
+    requires { ⌜ (Invariant (editionOf e) (now w) (now pw) 0 1) × ((length (now f) ≡ degreeOf (sheetOf (editionOf e) (now w)) 0) × (length (now f) ≤ 2 * length (now g))) ⌝ }
+    requires { ⌜ (0 < length (now coins)) × ((CoinRunsFrom (sheetOf (editionOf e) (now w)) 0 (drop 1 (now coins))) × (length (now out) ≡ 1 + restCount (sheetOf (editionOf e) (now w)) 0)) ⌝ }
     ensures { λ _. ⌜ now (out .exit) ≡ openingFrom (sheetOf (editionOf e) (now (w .entry))) (now (f .entry)) (now (coins .entry)) ⌝ }
 {
     let r = coins[0];
@@ -122,8 +123,8 @@ fn transcript(
     g: &mut [u32],
     out: &mut [u32],
 )
-    requires { ⌜ (Standing (editionOf e) (now w) (now pw) 0 1) × ((length (now f) ≡ degreeOf (sheetOf (editionOf e) (now w)) 0) × (length (now f) ≤ 2 * length (now g))) ⌝ }
-    requires { ⌜ (0 < length (now coins)) × ((DealtFrom (sheetOf (editionOf e) (now w)) 0 (drop 1 (now coins))) × (length (now out) ≡ length (now pw) + (1 + restCount (sheetOf (editionOf e) (now w)) 0))) ⌝ }
+    requires { ⌜ (Invariant (editionOf e) (now w) (now pw) 0 1) × ((length (now f) ≡ degreeOf (sheetOf (editionOf e) (now w)) 0) × (length (now f) ≤ 2 * length (now g))) ⌝ }
+    requires { ⌜ (0 < length (now coins)) × ((CoinRunsFrom (sheetOf (editionOf e) (now w)) 0 (drop 1 (now coins))) × (length (now out) ≡ length (now pw) + (1 + restCount (sheetOf (editionOf e) (now w)) 0))) ⌝ }
     ensures { λ _. ⌜ now (out .exit) ≡ wordsFrom (sheetOf (editionOf e) (now (w .entry))) (now (f .entry)) (now (coins .entry)) ⌝ }
 {
     let n = pw.len();

@@ -1,11 +1,11 @@
 -- One turn of the walk from the end of a list to its front that fills it by a function of another list's words. Assumes nothing.
 use Prim.Native.Nat.{ℕ, zero, suc, _-_, _≤_, _<_}
-use mathlib.Core.List.{List, [], _∷_, map}
-use mathlib.Core.Path.{_≡_, refl, sym, ap, _∙_}
+use mathlib.Core.List.{List, _∷_, map}
+use mathlib.Core.Path.{_≡_, sym, ap, _∙_}
 use native.Mathlib.Nat.{le-refl}
 use native.Mathlib.Omega.{arith}
 use lib.ListN.{length, drop, getD, set, drop-of-length-le}
-use Rattle.polynomial.specs.Backwards.{drop-back, drop-store}
+use Rattle.list_laws.specs.Backwards.{drop-back, drop-store}
 
 module _ (f : ℕ → ℕ) (xs : List ℕ) where
   pub fill-start : (out : List ℕ) → length out ≡ length xs → drop (length xs) out ≡ map f (drop (length xs) xs)
@@ -23,7 +23,3 @@ module _ (f : ℕ → ℕ) (xs : List ℕ) where
   pub fill-end : (out : List ℕ) (i : ℕ) → i ≤ 0 → drop i out ≡ map f (drop i xs) → out ≡ map f xs
   fill-end out zero h d = d
   fill-end out (suc i) h d = absurd (omega arith)
-
-pub map-same : (xs : List ℕ) → map (λ x. x) xs ≡ xs
-map-same [] = refl
-map-same (x ∷ xs) = ap {B = List ℕ} (λ l. x ∷ l) (map-same xs)

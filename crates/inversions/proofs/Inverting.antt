@@ -12,7 +12,7 @@ use lib.ListN.{length, drop, getD, set, length-set}
 use lib.Seq.{drop-cons, drop-length, getD-set-same, getD-set-other}
 use Rattle.definition.specs.Field.{Field, primeField, fieldOf, reciprocal}
 use Rattle.algebra.specs.PrimeField.{laws}
-use Rattle.polynomial.specs.Backwards.{drop-back}
+use Rattle.list_laws.specs.Backwards.{drop-back}
 use Rattle.polynomial.specs.Inverses.{Nonzero, inverse-first, inverse-second, inverse-reduced, never-none}
 use Rattle.inversions.specs.OneInversion.{product, product-nonzero, product-reduced}
 

@@ -6,7 +6,7 @@ use mathlib.Core.Option.{some}
 use lib.ListN.{length, getD}
 use Rattle.definition.specs.Field.{Field, fieldOf, reciprocal}
 use Rattle.algebra.specs.Laws.{FieldLaws}
-use Rattle.algebra.specs.ListFacts.{All}
+use Rattle.list_laws.specs.All.{All}
 use Rattle.algebra.specs.PrimeField.{laws}
 use Rattle.algebra.specs.RingLaws.{cancel}
 use Rattle.polynomial.specs.Inverses.{Nonzero}

@@ -5,10 +5,10 @@ use native.Mathlib.Omega.{arith}
 use mathlib.Core.List.{List, _∷_, _++_, flatMap, map}
 use mathlib.Core.Path.{_≡_, refl, sym, ap, _∙_}
 use lib.ListN.{length, getD}
-use Rattle.algebra.specs.ListFacts.{all-range, map-all}
-use Rattle.completeness.specs.Lawful.{lawful, rounds-word}
-use Rattle.completeness.specs.LevelsByNumber.{as-listed}
-use Rattle.completeness.specs.Numbered.{levelOf, roundsOf}
+use Rattle.list_laws.specs.All.{all-range, map-all}
+use Rattle.layouts.specs.Lawful.{lawful, rounds-word}
+use Rattle.layouts.specs.LevelsByNumber.{as-listed}
+use Rattle.layouts.specs.Levels.{levelOf, roundsOf}
 use Rattle.definition.specs.Domain.{domain, point}
 use Rattle.definition.specs.Field.{fieldOf}
 use Rattle.definition.specs.Lists.{range}

@@ -16,13 +16,13 @@ use Rattle.algebra.specs.Evaluation.{evaluate-nil, reduce-evaluate}
 use Rattle.algebra.specs.Different.{Apart, Differ}
 use Rattle.algebra.specs.Interpolation.{interpolate-cons}
 use Rattle.algebra.specs.Lengths.{length-geometric}
-use Rattle.algebra.specs.ListFacts.{All}
+use Rattle.list_laws.specs.All.{All}
 use Rattle.algebra.specs.PrimeField.{laws, suited}
 use Rattle.algebra.specs.RingLaws.{zero-add, reduce-sub}
 use Rattle.algebra.specs.Solver.{:0, :1, _:+_, _:*_, _:=_, solve₁}
-use Rattle.domain.specs.Filled.{Filled, filled-next}
-use Rattle.domain.specs.Parts.{filled, joined}
-use Rattle.polynomial.specs.Backwards.{drop-back}
+use Rattle.list_laws.specs.Filled.{Filled, filled-next}
+use Rattle.list_laws.specs.LentParts.{filled, joined}
+use Rattle.list_laws.specs.Backwards.{drop-back}
 use Rattle.polynomial.specs.Vanishing.{vanishAt, vanish-ok}
 use Rattle.polynomial.specs.Pairs.{pair-cons, pair-length, points-pair}
 use Rattle.polynomial.specs.Inverses.{Nonzero}

@@ -7,7 +7,7 @@ ghost use lib.ListN.{length, getD, take, drop};
 ghost use Rattle.definition.specs.Field.{Field, primeOf, fieldOf, reciprocal};
 ghost use Rattle.definition.specs.Polynomial.{pair, evaluate, geometric};
 ghost use Rattle.algebra.specs.Different.{Apart};
-ghost use Rattle.domain.specs.Filled.{Filled};
+ghost use Rattle.list_laws.specs.Filled.{Filled};
 ghost use Rattle.polynomial.specs.Vanishing.{vanishAt};
 ghost use Rattle.sums.specs.ZeroPadding.{ZeroFrom};
 ghost use Rattle.lists.specs.Correcting.{Columned, Correcting};

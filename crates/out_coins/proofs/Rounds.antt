@@ -11,10 +11,10 @@ use lib.ListN.{length, getD}
 use lib.Dec.{leb}
 use lib.Pow.{pow-mono, pow-pos}
 use borrow.Author.Tests.{eq-eqb, le-leb, lt-leb, ne-eqb}
-use Rattle.completeness.specs.CoinsAfter.{chosen, wordsAfter}
-use Rattle.completeness.specs.Lawful.{Lawful, lawful, rounds-word, times-word}
-use Rattle.completeness.specs.Numbered.{levelOf, roundsOf}
-use Rattle.completeness.specs.SheetRules.{long-enough, rounds-most}
+use Rattle.layouts.specs.CoinsAfter.{chosen, wordsAfter}
+use Rattle.layouts.specs.Lawful.{Lawful, lawful, rounds-word, times-word}
+use Rattle.layouts.specs.Levels.{levelOf, roundsOf}
+use Rattle.layouts.specs.SheetRules.{long-enough, rounds-most}
 use Rattle.definition.specs.Deciding.{equalTest, outTest, outTests}
 use Rattle.definition.specs.Field.{fieldOf, primeField}
 use Rattle.definition.specs.Layout.{Kind, coin, coinKinds, layout, out, wordsDue}
@@ -26,7 +26,7 @@ use Rattle.domain.specs.Powers.{Powers}
 use Rattle.outcome.specs.declared.Found.{Found}
 use Rattle.outcome.specs.declared.Found.the-variants.{At, Nothing}
 use Rattle.outcome.specs.Meaning.{placeOf}
-use Rattle.out_coins.specs.Kinds.{afterFold, kinds-first, kinds-last, messagesIn, round-count, roundWords}
+use Rattle.out_coins.specs.Kinds.{afterFold, kinds-first, kinds-last, messagesIn, round-count, roundWordCount}
 use Rattle.out_coins.specs.Walks.{equal-none, equal-step, equalAt, equalFrom, inside-none, inside-step, insideFrom, rest-there, tests-rest}
 
 or-none : (a : Option ℕ) → orElse a none ≡ a
@@ -60,8 +60,8 @@ module _ (w : List ℕ) (at count : ℕ) where
   one-coin d = sym (rw (lt-leb 2 count d))
 
 -- the out coins come first among a round's words from them on
-pub outs-first : (alone : Bool) (w : List ℕ) (i : ℕ) → getD w 5 0 ≤ roundWords alone w i
-unfolding roundWords
+pub outs-first : (alone : Bool) (w : List ℕ) (i : ℕ) → getD w 5 0 ≤ roundWordCount alone w i
+unfolding roundWordCount
 outs-first alone w i = omega arith
 
 -- what the noted pair says in the end
@@ -161,8 +161,8 @@ module _ {ed : Edition} {w : List ℕ} {alone : Bool} {words : List ℕ} {start 
       time = times-word ed w (A .long) (A .passed) i (omega arith)
 
       -- the words from the out coins on, as the kinds count them
-      words-count : sheetOf ed w .outCoins + (messagesIn alone (sheetOf ed w .outCoins) + (2 + levelOf (sheetOf ed w) i .repetitions)) ≡ roundWords alone w i
-      unfolding roundWords sheetOf
+      words-count : sheetOf ed w .outCoins + (messagesIn alone (sheetOf ed w .outCoins) + (2 + levelOf (sheetOf ed w) i .repetitions)) ≡ roundWordCount alone w i
+      unfolding roundWordCount sheetOf
       words-count = omega (arith, time)
 
       module _ {points : ℕ} (size : points ≡ getD w 1 0) where
@@ -171,10 +171,10 @@ module _ {ed : Edition} {w : List ℕ} {alone : Bool} {words : List ℕ} {start 
         unfolding sheetOf
         table-size = λ j. size j / scale-next j
 
-        next-there : at + messagesIn alone (points / (scale * 2)) + roundWords alone w i + length (chosen alone (wordsAfter (sheetOf ed w) (i + 1))) ≤ length words
+        next-there : at + messagesIn alone (points / (scale * 2)) + roundWordCount alone w i + length (chosen alone (wordsAfter (sheetOf ed w) (i + 1))) ≤ length words
         next-there = omega (arith, r .there, round-count alone h i (omega (arith, rounds)), words-count, ap (messagesIn alone) table-size)
 
-        pub round-there : at + messagesIn alone (points / (scale * 2)) + roundWords alone w i ≤ length words
+        pub round-there : at + messagesIn alone (points / (scale * 2)) + roundWordCount alone w i ≤ length words
         round-there = omega (arith, next-there)
 
         -- the places as the kinds count them
@@ -182,7 +182,7 @@ module _ {ed : Edition} {w : List ℕ} {alone : Bool} {words : List ℕ} {start 
         outs-place = ap (λ (n : ℕ). at + messagesIn alone n) (sym table-size)
 
         next-place : at + messagesIn alone (levelOf (sheetOf ed w) (i + 1) .size) + (sheetOf ed w .outCoins + (messagesIn alone (sheetOf ed w .outCoins) + (2 + levelOf (sheetOf ed w) i .repetitions)))
-            ≡ at + messagesIn alone (points / (scale * 2)) + roundWords alone w i
+            ≡ at + messagesIn alone (points / (scale * 2)) + roundWordCount alone w i
         next-place = λ j. outs-place j + words-count j
 
         abbrev rest : List Kind
@@ -190,13 +190,13 @@ module _ {ed : Edition} {w : List ℕ} {alone : Bool} {words : List ℕ} {start 
 
         by-inside : insideFrom (sheetOf ed w) (chosen alone (wordsAfter (sheetOf ed w) i)) words at
             ≡ orElse (firstInside (getD w 0 0) (rootOfUnity (sheetOf ed w)) (levelOf (sheetOf ed w) (i + 1)) words (at + messagesIn alone (points / (scale * 2))) (sheetOf ed w .outCoins))
-            (insideFrom (sheetOf ed w) rest words (at + messagesIn alone (points / (scale * 2)) + roundWords alone w i))
+            (insideFrom (sheetOf ed w) rest words (at + messagesIn alone (points / (scale * 2)) + roundWordCount alone w i))
         by-inside =
             inside-step alone h words at i (omega (arith, rounds)) (law .once i (omega (arith, rounds))) (omega (arith, next-place, round-there)) (getD w 0 0) (field-is ed w)
             ∙ (λ j. orElse (firstInside (getD w 0 0) (rootOfUnity h) l words (outs-place j) (h .outCoins)) (insideFrom h rest words (next-place j)))
 
         by-equal : equalFrom (chosen alone (wordsAfter (sheetOf ed w) i)) words at
-            ≡ orElse (equalAt words (at + messagesIn alone (points / (scale * 2))) (sheetOf ed w .outCoins)) (equalFrom rest words (at + messagesIn alone (points / (scale * 2)) + roundWords alone w i))
+            ≡ orElse (equalAt words (at + messagesIn alone (points / (scale * 2))) (sheetOf ed w .outCoins)) (equalFrom rest words (at + messagesIn alone (points / (scale * 2)) + roundWordCount alone w i))
         by-equal =
             equal-step alone h words at i (omega (arith, rounds)) (law .once i (omega (arith, rounds))) (omega (arith, next-place, round-there)) (law .outs)
             ∙ (λ j. orElse (equalAt words (outs-place j) (h .outCoins)) (equalFrom rest words (next-place j)))
@@ -205,7 +205,7 @@ module _ {ed : Edition} {w : List ℕ} {alone : Bool} {words : List ℕ} {start 
         outsAt = at + messagesIn alone (points / (scale * 2))
 
         abbrev next : ℕ
-        next = at + messagesIn alone (points / (scale * 2)) + roundWords alone w i
+        next = at + messagesIn alone (points / (scale * 2)) + roundWordCount alone w i
 
         module _ (pw : List ℕ) (many : length pw ≡ points) (ed′ : Edition) (points-are : Powers (getD w 0 0) (rootOfUnity (sheetOf ed′ w)) pw) {o : Option ℕ} {heads : ℕ}
             (eh : heads ≡ messagesIn alone (points / (scale * 2))) (first : FirstInside words pw (scale * 2) (at + heads) (getD w 5 0) o) where
@@ -224,10 +224,10 @@ module _ {ed : Edition} {w : List ℕ} {alone : Bool} {words : List ℕ} {start 
               ap (λ (x : Option ℕ). refuseAt 7 x then equalTest h start (chosen alone (afterFold h)) words)
               (ap (λ (x : Option ℕ). orElse x (insideFrom h rest words next)) e ∙ found-as)
 
-          pub turned : none ≡ o → {equal′ here : Option ℕ} {next′ : ℕ} → equal′ ≡ orElse equal here → here ≡ equalAt words (at + heads) (getD w 5 0) → next′ ≡ at + heads + roundWords alone w i →
+          pub turned : none ≡ o → {equal′ here : Option ℕ} {next′ : ℕ} → equal′ ≡ orElse equal here → here ≡ equalAt words (at + heads) (getD w 5 0) → next′ ≡ at + heads + roundWordCount alone w i →
               AtRound (sheetOf ed w) alone words start equal′ next′ (scale * 2) (i + 1)
           turned e {equal′} {here} {next′} q eq en =
-              let place : next′ ≡ next = en ∙ ap (λ (n : ℕ). at + n + roundWords alone w i) eh in
+              let place : next′ ≡ next = en ∙ ap (λ (n : ℕ). at + n + roundWordCount alone w i) eh in
               let pair : equal′ ≡ orElse equal (equalAt words outsAt (h .outCoins)) = q ∙ ap (orElse equal) (eq ∙ (λ j. equalAt words (at + eh j) (sym (outs-is ed w) j))) in
               record {
                 within = omega (arith, rounds);

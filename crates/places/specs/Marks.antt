@@ -9,9 +9,9 @@ use lib.Dec.{eqb}
 use lib.ListN.{length, getD, drop, replicate, set, getD-replicate, length-replicate, length-set, drop-of-length-le}
 use lib.Seq.{getD-set-same, getD-set-other}
 use borrow.Author.Tests.{eqb-true, eqb-false, not-true, not-false}
-use Rattle.algebra.specs.ListFacts.{All}
+use Rattle.list_laws.specs.All.{All}
 use Rattle.definition.specs.Lists.{different, member}
-use Rattle.polynomial.specs.Backwards.{drop-back}
+use Rattle.list_laws.specs.Backwards.{drop-back}
 
 -- The number of different ones from index i on.
 pub record Counted (js : List ℕ) (count i : ℕ) : Type 0 where

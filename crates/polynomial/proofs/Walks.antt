@@ -7,7 +7,7 @@ use lib.Seq.{drop-length}
 use Rattle.definition.specs.Field.{Field}
 use Rattle.definition.specs.Polynomial.{evaluate}
 use Rattle.algebra.specs.Evaluation.{evaluate-cons}
-use Rattle.polynomial.specs.Backwards.{drop-back}
+use Rattle.list_laws.specs.Backwards.{drop-back}
 
 module _ (F : Field ℕ) where
   infixl 65 _⊕_

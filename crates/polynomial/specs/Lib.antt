@@ -1,4 +1,3 @@
-pub mod Backwards
 pub mod Pairs
 pub mod Vanishing
 pub mod GeometricSum

@@ -6,13 +6,14 @@ use native.Mathlib.Nat.{mul-le-mul-right, not-suc-le-zero, suc-mul}
 use native.Mathlib.Omega.{arith}
 use borrow.Author.Count.{below-more}
 use borrow.Rule.Slice.PartMut.{postOf, putMid, same-len-mid}
-use lib.ListN.{length, getD, take, drop, length-drop, List·getD-append}
+use lib.ListN.{length, getD, take, drop, List·getD-append}
 use lib.Seq.{getD-take, getD-append-add, length-take-le}
+use Rattle.list_laws.specs.Lists.{part-length}
 use Rattle.root_values.specs.Places.{Placed}
 
 -- a part of k words
 pub part-is : (l : List ℕ) (at k : ℕ) → at + k ≤ length l → length (take (at + k - at) (drop at l)) ≡ k
-part-is l at k h = let e : at + k - at ≡ k = omega arith in rw e (length-take-le k (drop at l) (omega (arith, length-drop at l)))
+part-is l at k h = let e : at + k - at ≡ k = omega arith in rw e (part-length at k l h)
 
 -- the words before a part are as they were, and those of the part are the new ones
 put-before : (a n : ℕ) (l ys : List ℕ) (q : ℕ) → a ≤ length l → q < a → getD (putMid a n l ys) q 0 ≡ getD l q 0

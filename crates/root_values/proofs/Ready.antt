@@ -9,16 +9,16 @@ use lib.ListN.{length, getD, take, drop, List·getD-append}
 use lib.Seq.{getD-take, length-take-le}
 use Rattle.algebra.specs.PrimeField.{laws}
 use Rattle.polynomial.specs.Inverses.{Nonzero}
-use Rattle.fractions.specs.declared.Function.{Function}
+use Rattle.fractions.specs.declared.Oracle.{Oracle}
 use Rattle.fractions.specs.Fraction.{Fraction}
 use Rattle.fractions.specs.Values.{Fits, rootIn}
 use Rattle.fractions.proofs.RootValues.{value-first}
 use Rattle.root_values.specs.Places.{Placed, Prepared}
 
 -- without samples the values are the table's
-pub ready-first : (field : ℕ) (pw table ac vg : List ℕ) (how : Function) (k : ℕ) → Fits (length pw) (length table) how k → (js roots : List ℕ) → how .words ≡ 0 →
-    Placed (λ j m v w. v ≡ getD table (j + how .step * m) 0) k js roots roots (length js) → Prepared k (rootIn field pw table ac vg how) js roots
-ready-first field pw table ac vg how k fits js roots e placed i m l u = value-first field pw table ac vg how k fits (getD js i 0) m e (placed .each i m l u)
+pub ready-first : (field : ℕ) (pw table ac vg : List ℕ) (oracle : Oracle) (k : ℕ) → Fits (length pw) (length table) oracle k → (js roots : List ℕ) → oracle .words ≡ 0 →
+    Placed (λ j m v w. v ≡ getD table (j + oracle .step * m) 0) k js roots roots (length js) → Prepared k (rootIn field pw table ac vg oracle) js roots
+ready-first field pw table ac vg oracle k fits js roots e placed i m l u = value-first field pw table ac vg oracle k fits (getD js i 0) m e (placed .each i m l u)
 
 module _ (field : ℕ) (root : ℕ → ℕ → ℕ) (k : ℕ) (js tops bottoms : List ℕ) (placed : Placed (λ j m v w. Fraction field (root j m) v w) k js tops bottoms (length js))
     (room : length js * k ≤ length tops) (room′ : length js * k ≤ length bottoms) where

@@ -10,27 +10,27 @@ use Rattle.definition.specs.Polynomial.{Sample, correctedValue}
 use Rattle.definition.specs.Transcript.{Round}
 use Rattle.definition.specs.Deciding.{tableFunction, nextFunction}
 use Rattle.lists.specs.Correcting.{Correcting}
-use Rattle.fractions.specs.declared.Function.{Function}
+use Rattle.fractions.specs.declared.Oracle.{Oracle}
 use Rattle.folds.specs.PointsIn.{pointIn, point-in}
 use Rattle.domain.specs.Powers.{Powers}
 use Rattle.fractions.specs.Values.{correctedIn, valueOf, valueIn, Fits, point-room}
-use Rattle.rounds.specs.RoundLaws.{Serves}
+use Rattle.rounds.specs.RoundLaws.{Represents}
 
 -- ---- before round 1 there are no samples, and the table itself is the function
 
-pub values-first : (field ω : ℕ) (b : Level) (pw table ac vg : List ℕ) (how : Function) (m : ℕ) → how .words ≡ 0 →
-    valueIn field pw table ac vg how m ≡ tableFunction (fieldOf field) ω b table .value m
+pub values-first : (field ω : ℕ) (b : Level) (pw table ac vg : List ℕ) (oracle : Oracle) (m : ℕ) → oracle .words ≡ 0 →
+    valueIn field pw table ac vg oracle m ≡ tableFunction (fieldOf field) ω b table .value m
 unfolding valueIn valueOf tableFunction fieldOf primeField
-values-first field ω b pw table ac vg how m e = rw e
+values-first field ω b pw table ac vg oracle m e = rw e
 
-pub serves-first : (field ω : ℕ) (b : Level) (pw table ac vg : List ℕ) (how : Function) (k : ℕ) → Powers field ω pw → how .scale ≡ 2 ^ b .number →
-    how .step ≡ shiftCount b → k ≡ b .fold → how .words ≡ 0 → Serves field ω b (tableFunction (fieldOf field) ω b table .value) pw table ac vg how k
-serves-first field ω b pw table ac vg how k w scaled spaced folded e = record {
+pub represents-first : (field ω : ℕ) (b : Level) (pw table ac vg : List ℕ) (oracle : Oracle) (k : ℕ) → Powers field ω pw → oracle .scale ≡ 2 ^ b .number →
+    oracle .step ≡ shiftCount b → k ≡ b .fold → oracle .words ≡ 0 → Represents field ω b (tableFunction (fieldOf field) ω b table .value) pw table ac vg oracle k
+represents-first field ω b pw table ac vg oracle k w scaled spaced folded e = record {
   powers = w;
   scale = scaled;
   step = spaced;
   fold = folded;
-  values = λ m l. values-first field ω b pw table ac vg how m e;
+  values = λ m l. values-first field ω b pw table ac vg oracle m e;
 }
 
 -- ---- after a round
@@ -43,17 +43,17 @@ value-next field zero g ac vg c x y h t = absurd (not-suc-le-zero h)
 value-next field (suc n) g ac vg c x y h t =
     λ i. fieldOf field ._⊗_ (fieldOf field ._⊗_ (fieldOf field ._⊖_ y (t .value x i)) (reciprocal (fieldOf field) (t .vanish x i))) (t .growth x i)
 
-module _ (field ω : ℕ) (ρ : Round ℕ) (pw ac vg : List ℕ) (how : Function) {g : List (Sample ℕ)} (some : 0 < how .words) (given : Correcting field g (ρ .coins .combination) (how .words) ac vg)
-    (w : Powers field ω pw) (scaled : how .scale ≡ 2 ^ ρ .coins .level .number) where
-  pub values-next : (m : ℕ) → how .scale * m < length pw → valueIn field pw (ρ .table) ac vg how m ≡ nextFunction (fieldOf field) ω g ρ .value m
+module _ (field ω : ℕ) (ρ : Round ℕ) (pw ac vg : List ℕ) (oracle : Oracle) {g : List (Sample ℕ)} (some : 0 < oracle .words) (given : Correcting field g (ρ .coins .combination) (oracle .words) ac vg)
+    (w : Powers field ω pw) (scaled : oracle .scale ≡ 2 ^ ρ .coins .level .number) where
+  pub values-next : (m : ℕ) → oracle .scale * m < length pw → valueIn field pw (ρ .table) ac vg oracle m ≡ nextFunction (fieldOf field) ω g ρ .value m
   unfolding valueIn nextFunction fieldOf primeField
   values-next m l =
-      value-next field (how .words) g ac vg (ρ .coins .combination) (pointIn pw (how .scale) m) (getD (ρ .table) m 0) some given
+      value-next field (oracle .words) g ac vg (ρ .coins .combination) (pointIn pw (oracle .scale) m) (getD (ρ .table) m 0) some given
       ∙ (λ i. correctedValue (fieldOf field) g (ρ .coins .combination) (point-in w (ρ .coins .level) scaled m l i) (getD (ρ .table) m 0))
 
-  pub serves-next : (k : ℕ) → how .step ≡ shiftCount (ρ .coins .level) → k ≡ ρ .coins .level .fold → Fits (length pw) (length (ρ .table)) how k →
-      Serves field ω (ρ .coins .level) (nextFunction (fieldOf field) ω g ρ .value) pw (ρ .table) ac vg how k
-  serves-next k spaced folded fits = record {
+  pub represents-next : (k : ℕ) → oracle .step ≡ shiftCount (ρ .coins .level) → k ≡ ρ .coins .level .fold → Fits (length pw) (length (ρ .table)) oracle k →
+      Represents field ω (ρ .coins .level) (nextFunction (fieldOf field) ω g ρ .value) pw (ρ .table) ac vg oracle k
+  represents-next k spaced folded fits = record {
     powers = w;
     scale = scaled;
     step = spaced;

@@ -6,26 +6,26 @@ use Rattle.definition.specs.Field.{fieldOf}
 use Rattle.definition.specs.Polynomial.{Sample}
 use Rattle.folds.specs.Halving.{halving, exponentOf}
 use Rattle.folds.specs.OneHalf.{halfOf}
-use Rattle.folds.specs.PointsIn.{shiftIn, backIn}
-use Rattle.fractions.specs.declared.Function.{Function}
+use Rattle.folds.specs.PointsIn.{shiftIn, inversePowerIn}
+use Rattle.fractions.specs.declared.Oracle.{Oracle}
 use Rattle.fractions.specs.Values.{rootIn}
 
 -- the fold at shift index j with coin r, by halves of the values at the k roots: the first root is ω^(1 + scale·j), the next are scale·step powers apart
-unfoldable pub foldIn : ℕ → List ℕ → List ℕ → List ℕ → List ℕ → Function → ℕ → ℕ → ℕ → ℕ
-foldIn field pw table ac vg how k r j =
-    halving (fieldOf field) (halfOf field) (backIn pw) (exponentOf k) (1 + how .scale * j) (how .scale * how .step) r (rootIn field pw table ac vg how j)
+unfoldable pub foldIn : ℕ → List ℕ → List ℕ → List ℕ → List ℕ → Oracle → ℕ → ℕ → ℕ → ℕ
+foldIn field pw table ac vg oracle k r j =
+    halving (fieldOf field) (halfOf field) (inversePowerIn pw) (exponentOf k) (1 + oracle .scale * j) (oracle .scale * oracle .step) r (rootIn field pw table ac vg oracle j)
 
 -- the sample at shift index j
-unfoldable pub sampleIn : ℕ → List ℕ → List ℕ → List ℕ → List ℕ → Function → ℕ → ℕ → ℕ → Sample ℕ
-sampleIn field pw table ac vg how k r j = record { point = shiftIn pw (how .scale) k j; value = foldIn field pw table ac vg how k r j }
+unfoldable pub sampleIn : ℕ → List ℕ → List ℕ → List ℕ → List ℕ → Oracle → ℕ → ℕ → ℕ → Sample ℕ
+sampleIn field pw table ac vg oracle k r j = record { point = shiftIn pw (oracle .scale) k j; value = foldIn field pw table ac vg oracle k r j }
 
 -- those of shift index j, number i of a list, by the values at the roots of one index after the other
-unfoldable pub foldBy : ℕ → List ℕ → List ℕ → Function → ℕ → ℕ → ℕ → ℕ → ℕ
-foldBy field pw roots how k r i j =
-    halving (fieldOf field) (halfOf field) (backIn pw) (exponentOf k) (1 + how .scale * j) (how .scale * how .step) r (λ m. getD roots (i * k + m) 0)
+unfoldable pub foldBy : ℕ → List ℕ → List ℕ → Oracle → ℕ → ℕ → ℕ → ℕ → ℕ
+foldBy field pw roots oracle k r i j =
+    halving (fieldOf field) (halfOf field) (inversePowerIn pw) (exponentOf k) (1 + oracle .scale * j) (oracle .scale * oracle .step) r (λ m. getD roots (i * k + m) 0)
 
-unfoldable pub sampleBy : ℕ → List ℕ → List ℕ → Function → ℕ → ℕ → ℕ → ℕ → Sample ℕ
-sampleBy field pw roots how k r i j = record { point = shiftIn pw (how .scale) k j; value = foldBy field pw roots how k r i j }
+unfoldable pub sampleBy : ℕ → List ℕ → List ℕ → Oracle → ℕ → ℕ → ℕ → ℕ → Sample ℕ
+sampleBy field pw roots oracle k r i j = record { point = shiftIn pw (oracle .scale) k j; value = foldBy field pw roots oracle k r i j }
 
 -- f of each element and its number, from i on
 unfoldable pub numbered : {A : Type 0} → (ℕ → ℕ → A) → ℕ → List ℕ → List A

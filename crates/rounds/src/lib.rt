@@ -2,7 +2,7 @@
 //
 // The caller lends the words: pw, the table of the powers of ω; the table sent; ac and vg, the coefficients by which it is corrected; `values`, k words of scratch
 // for a fold; and places for the values at the roots of all coins.
-use fractions::Function;
+use fractions::Oracle;
 use samples::Gathered;
 ghost use mathlib.Core.Path.{_≡_};
 ghost use mathlib.Core.List.{_++_};
@@ -10,7 +10,7 @@ ghost use Prim.Native.Nat.{ℕ, _+_, _*_, _≤_, _<_};
 ghost use lib.ListN.{length};
 ghost use Rattle.definition.specs.Polynomial.{pair};
 ghost use Rattle.fractions.specs.Values.{Fits, Below, Clear};
-ghost use Rattle.samples.specs.Samples.{kept, sifted, Room};
+ghost use Rattle.samples.specs.Samples.{kept, distinctOrClash, Room};
 ghost use Rattle.rounds.specs.RoundLaws.{Answered};
 ghost use Rattle.rounds.specs.SamplesIn.{foldBy, sampleBy, numbered};
 
@@ -19,23 +19,23 @@ pub fn fold_at(
     field: u32,
     pw: &[u32],
     roots: &[u32],
-    how: Function,
+    oracle: Oracle,
     i: usize,
     j: usize,
     r: u32,
     values: &mut [u32],
 ) -> u32
     requires { ⌜ i * length (now values) + length (now values) ≤ length (now roots) ⌝ }
-    requires { ⌜ Fits (length (now pw)) (length (now values) * how .step) how (length (now values)) ⌝ }
-    requires { ⌜ j < how .step ⌝ }
-    ensures { λ v. ⌜ v ≡ foldBy field (now (pw .entry)) (now (roots .entry)) how (length (now (values .entry))) r i j ⌝ }
+    requires { ⌜ Fits (length (now pw)) (length (now values) * oracle .step) oracle (length (now values)) ⌝ }
+    requires { ⌜ j < oracle .step ⌝ }
+    ensures { λ v. ⌜ v ≡ foldBy field (now (pw .entry)) (now (roots .entry)) oracle (length (now (values .entry))) r i j ⌝ }
 {
     fractions::gather(roots, 1, i * values.len(), values);
     folds::fold_values(
         field,
         pw,
-        1 + how.scale * j,
-        how.scale * how.step,
+        1 + oracle.scale * j,
+        oracle.scale * oracle.step,
         r,
         values,
     )
@@ -52,19 +52,19 @@ fn sample_at(
     field: u32,
     pw: &[u32],
     roots: &[u32],
-    how: Function,
+    oracle: Oracle,
     i: usize,
     j: usize,
     r: u32,
     values: &mut [u32],
 ) -> Point
     requires { ⌜ i * length (now values) + length (now values) ≤ length (now roots) ⌝ }
-    requires { ⌜ Fits (length (now pw)) (length (now values) * how .step) how (length (now values)) ⌝ }
-    requires { ⌜ j < how .step ⌝ }
-    ensures { λ v. ⌜ record { point = v .x; value = v .y } ≡ sampleBy field (now (pw .entry)) (now (roots .entry)) how (length (now (values .entry))) r i j ⌝ }
+    requires { ⌜ Fits (length (now pw)) (length (now values) * oracle .step) oracle (length (now values)) ⌝ }
+    requires { ⌜ j < oracle .step ⌝ }
+    ensures { λ v. ⌜ record { point = v .x; value = v .y } ≡ sampleBy field (now (pw .entry)) (now (roots .entry)) oracle (length (now (values .entry))) r i j ⌝ }
 {
-    let x = folds::shift_point(pw, how.scale, j, values.len());
-    let y = fold_at(field, pw, roots, how, i, j, r, values);
+    let x = folds::shift_point(pw, oracle.scale, j, values.len());
+    let y = fold_at(field, pw, roots, oracle, i, j, r, values);
     Point { x: x, y: y }
 }
 
@@ -73,7 +73,7 @@ fn put_shifts(
     field: u32,
     pw: &[u32],
     roots: &[u32],
-    how: Function,
+    oracle: Oracle,
     r: u32,
     shifts: &[u32],
     values: &mut [u32],
@@ -81,17 +81,26 @@ fn put_shifts(
     py: &mut [u32],
 ) -> Gathered
     requires { ⌜ length (now shifts) * length (now values) ≤ length (now roots) ⌝ }
-    requires { ⌜ Fits (length (now pw)) (length (now values) * how .step) how (length (now values)) ⌝ }
-    requires { ⌜ Below (how .step) (now shifts) ⌝ }
+    requires { ⌜ Fits (length (now pw)) (length (now values) * oracle .step) oracle (length (now values)) ⌝ }
+    requires { ⌜ Below (oracle .step) (now shifts) ⌝ }
     requires { ⌜ (length (now py) ≡ length (now px)) × (length (now shifts) ≤ length (now px)) ⌝ }
-    ensures { λ v. ⌜ kept v (now (px .exit)) (now (py .exit)) ≡ sifted field (numbered (sampleBy field (now (pw .entry)) (now (roots .entry)) how (length (now (values .entry))) r) 0 (now (shifts .entry))) ⌝ }
+    ensures { λ v. ⌜ kept v (now (px .exit)) (now (py .exit)) ≡ distinctOrClash field (numbered (sampleBy field (now (pw .entry)) (now (roots .entry)) oracle (length (now (values .entry))) r) 0 (now (shifts .entry))) ⌝ }
     ensures { λ v. ⌜ Room (length (now (px .entry))) (length (now (shifts .entry))) v ⌝ }
 {
     let mut k = px.len();
     let mut i = shifts.len();
     while 0 < i {
         i -= 1;
-        let s = sample_at(field, pw, roots, how, i, folds::wide(shifts[i]), r, values);
+        let s = sample_at(
+            field,
+            pw,
+            roots,
+            oracle,
+            i,
+            folds::wide(shifts[i]),
+            r,
+            values,
+        );
         let f = samples::push(px, py, k, s.x, s.y);
         let Gathered::From(j) = f else {
             return Gathered::Clash;
@@ -106,7 +115,7 @@ fn answer_by(
     field: u32,
     pw: &[u32],
     roots: &[u32],
-    how: Function,
+    oracle: Oracle,
     r: u32,
     shifts: &[u32],
     outs: &[u32],
@@ -116,13 +125,13 @@ fn answer_by(
     py: &mut [u32],
 ) -> Gathered
     requires { ⌜ length (now shifts) * length (now values) ≤ length (now roots) ⌝ }
-    requires { ⌜ Fits (length (now pw)) (length (now values) * how .step) how (length (now values)) ⌝ }
-    requires { ⌜ Below (how .step) (now shifts) ⌝ }
+    requires { ⌜ Fits (length (now pw)) (length (now values) * oracle .step) oracle (length (now values)) ⌝ }
+    requires { ⌜ Below (oracle .step) (now shifts) ⌝ }
     requires { ⌜ (length (now py) ≡ length (now px)) × ((length (now replies) ≡ length (now outs)) × (length (now outs) + length (now shifts) ≤ length (now px))) ⌝ }
-    ensures { λ v. ⌜ kept v (now (px .exit)) (now (py .exit)) ≡ sifted field (pair (now (outs .entry)) (now (replies .entry)) ++ numbered (sampleBy field (now (pw .entry)) (now (roots .entry)) how (length (now (values .entry))) r) 0 (now (shifts .entry))) ⌝ }
+    ensures { λ v. ⌜ kept v (now (px .exit)) (now (py .exit)) ≡ distinctOrClash field (pair (now (outs .entry)) (now (replies .entry)) ++ numbered (sampleBy field (now (pw .entry)) (now (roots .entry)) oracle (length (now (values .entry))) r) 0 (now (shifts .entry))) ⌝ }
     ensures { λ v. ⌜ Room (length (now (px .entry))) (length (now (outs .entry)) + length (now (shifts .entry))) v ⌝ }
 {
-    let s = put_shifts(field, pw, roots, how, r, shifts, values, px, py);
+    let s = put_shifts(field, pw, roots, oracle, r, shifts, values, px, py);
     let Gathered::From(k) = s else {
         return Gathered::Clash;
     };
@@ -136,7 +145,7 @@ pub fn answer(
     table: &[u32],
     ac: &[u32],
     vg: &[u32],
-    how: Function,
+    oracle: Oracle,
     r: u32,
     shifts: &[u32],
     outs: &[u32],
@@ -148,12 +157,12 @@ pub fn answer(
     px: &mut [u32],
     py: &mut [u32],
 ) -> Gathered
-    requires { ⌜ (length (now ac) ≡ 66) × ((length (now vg) ≡ 132) × (Clear field (now pw) (length (now table)) (now vg) how)) ⌝ }
-    requires { ⌜ Fits (length (now pw)) (length (now table)) how (length (now values)) ⌝ }
-    requires { ⌜ Below (how .step) (now shifts) ⌝ }
+    requires { ⌜ (length (now ac) ≡ 66) × ((length (now vg) ≡ 132) × (Clear field (now pw) (length (now table)) (now vg) oracle)) ⌝ }
+    requires { ⌜ Fits (length (now pw)) (length (now table)) oracle (length (now values)) ⌝ }
+    requires { ⌜ Below (oracle .step) (now shifts) ⌝ }
     requires { ⌜ (length (now py) ≡ length (now px)) × ((length (now replies) ≡ length (now outs)) × (length (now outs) + length (now shifts) ≤ length (now px))) ⌝ }
     requires { ⌜ (length (now shifts) * length (now values) ≤ length (now tops)) × ((length (now shifts) * length (now values) ≤ length (now bottoms)) × ((length (now shifts) * length (now values) ≤ length (now behind)) × (length (now shifts) ≤ 4096))) ⌝ }
-    ensures { λ v. ⌜ Answered field (now (pw .entry)) (now (table .entry)) (now (ac .entry)) (now (vg .entry)) how (length (now (values .entry))) r (now (shifts .entry)) (now (outs .entry)) (now (replies .entry)) (kept v (now (px .exit)) (now (py .exit))) ⌝ }
+    ensures { λ v. ⌜ Answered field (now (pw .entry)) (now (table .entry)) (now (ac .entry)) (now (vg .entry)) oracle (length (now (values .entry))) r (now (shifts .entry)) (now (outs .entry)) (now (replies .entry)) (kept v (now (px .exit)) (now (py .exit))) ⌝ }
     ensures { λ v. ⌜ Room (length (now (px .entry))) (length (now (outs .entry)) + length (now (shifts .entry))) v ⌝ }
 {
     let k = values.len();
@@ -163,7 +172,7 @@ pub fn answer(
         table,
         ac,
         vg,
-        how,
+        oracle,
         k,
         shifts,
         tops,
@@ -174,7 +183,7 @@ pub fn answer(
         field,
         pw,
         tops,
-        how,
+        oracle,
         r,
         shifts,
         outs,

@@ -11,11 +11,11 @@ use lib.Seq.{drop-cons}
 use borrow.Author.Tests.{eq-eqb, ne-eqb}
 use Rattle.definition.specs.Polynomial.{Sample, pair}
 use Rattle.polynomial.specs.Pairs.{pair-cons}
-use Rattle.polynomial.specs.Backwards.{drop-back, drop-store}
-use Rattle.samples.specs.declared.Looked.{Looked}
-use Rattle.samples.specs.declared.Looked.the-variants.{Value, Nothing}
+use Rattle.list_laws.specs.Backwards.{drop-back, drop-store}
+use Rattle.samples.specs.declared.FoundValue.{FoundValue}
+use Rattle.samples.specs.declared.FoundValue.the-variants.{Value, Nothing}
 use Rattle.samples.specs.declared.Gathered.the-variants.{Clash, From}
-use Rattle.samples.specs.Samples.{lookup, put, putBy, kept, sifted}
+use Rattle.samples.specs.Samples.{lookup, put, putBy, kept, distinctOrClash}
 use Rattle.samples.specs.SampleLaws.{put-ok, clash-append}
 
 -- ---- the search
@@ -41,7 +41,7 @@ end xs ys i x h = rw (drop-of-length-le xs h)
 
 -- ---- one sample put
 
-module _ (xs ys : List ℕ) (k x y : ℕ) {o : Looked} (looked : o ≡ lookup x (pair (drop k xs) (drop k ys))) where
+module _ (xs ys : List ℕ) (k x y : ℕ) {o : FoundValue} (looked : o ≡ lookup x (pair (drop k xs) (drop k ys))) where
   pub put-same : {v : ℕ} → o ≡ Value v → y ≡ v → kept (From k) xs ys ≡ put (record { point = x; value = y }) (pair (drop k xs) (drop k ys))
   unfolding kept put putBy
   put-same e h = rw (sym looked ∙ e) (simp (eq-eqb _ _ h))
@@ -78,14 +78,14 @@ module _ (field : ℕ) (xs ys : List ℕ) (ps : List (Sample ℕ)) where
   walk-end = rw (drop-of-length-le xs (le-refl (length xs)))
 
   pub walk-turn : (i : ℕ) {g : List (Sample ℕ)} {o : Option (List (Sample ℕ))} → 0 < i → i ≤ length xs → length ys ≡ length xs →
-      some g ≡ sifted field (pair (drop i xs) (drop i ys) ++ ps) → o ≡ put (record { point = getD xs (i - 1) 0; value = getD ys (i - 1) 0 }) g →
-      o ≡ sifted field (pair (drop (i - 1) xs) (drop (i - 1) ys) ++ ps)
+      some g ≡ distinctOrClash field (pair (drop i xs) (drop i ys) ++ ps) → o ≡ put (record { point = getD xs (i - 1) 0; value = getD ys (i - 1) 0 }) g →
+      o ≡ distinctOrClash field (pair (drop (i - 1) xs) (drop (i - 1) ys) ++ ps)
   walk-turn i {g} h l m e eo =
-      eo ∙ put-ok field _ (pair (drop i xs) (drop i ys) ++ ps) g e ∙ ap (λ (s : List (Sample ℕ)). sifted field (s ++ ps)) (sym (pair-back xs ys i h l m))
+      eo ∙ put-ok field _ (pair (drop i xs) (drop i ys) ++ ps) g e ∙ ap (λ (s : List (Sample ℕ)). distinctOrClash field (s ++ ps)) (sym (pair-back xs ys i h l m))
 
-  pub walk-clash : (i : ℕ) → length ys ≡ length xs → none ≡ sifted field (pair (drop i xs) (drop i ys) ++ ps) → none ≡ sifted field (pair xs ys ++ ps)
+  pub walk-clash : (i : ℕ) → length ys ≡ length xs → none ≡ distinctOrClash field (pair (drop i xs) (drop i ys) ++ ps) → none ≡ distinctOrClash field (pair xs ys ++ ps)
   walk-clash i e h =
       clash-append field (take i (pair xs ys)) (pair (drop i xs) (drop i ys) ++ ps) h
-      ∙ ap (sifted field) (sym (append-assoc (take i (pair xs ys)) (pair (drop i xs) (drop i ys)) ps)
+      ∙ ap (distinctOrClash field) (sym (append-assoc (take i (pair xs ys)) (pair (drop i xs) (drop i ys)) ps)
       ∙ ap (λ (s : List (Sample ℕ)). take i (pair xs ys) ++ s ++ ps) (sym (pair-drop xs ys i e))
       ∙ ap (λ (s : List (Sample ℕ)). s ++ ps) (take-append-drop i (pair xs ys)))

@@ -1,7 +1,7 @@
 -- Putting samples one by one gives the definition's `distinct` and finds its `clash`: without a clash so far, what is kept tells of every sample met.
 use Prim.Native.Nat.{ℕ, _<_}
 use mathlib.Core.Path.{_≡_, _∙_, sym, ap, refl}
-use mathlib.Core.Bool.{Bool, true, false, cond, not, _&&_, _||_, or-true, or-false}
+use mathlib.Core.Bool.{Bool, true, false, cond, not, _&&_, _||_, or-true, or-false, or-self}
 use mathlib.Core.List.{List, [], _∷_, _++_}
 use mathlib.Core.Option.{none, some}
 use native.Mathlib.Omega.{arith}
@@ -10,43 +10,32 @@ use lib.ListN.{length, take, drop, take-append-drop}
 use borrow.Author.Tests.{eqb-true}
 use Rattle.definition.specs.Field.{Field, primeField, fieldOf}
 use Rattle.definition.specs.Polynomial.{Sample, distinct, clash, contradicts, sampledAt}
-use Rattle.samples.specs.declared.Looked.{Looked}
-use Rattle.samples.specs.declared.Looked.the-variants.{Value, Nothing}
-use Rattle.samples.specs.Samples.{lookup, put, putBy, sifted}
+use Rattle.list_laws.specs.Booleans as booleans
+use Rattle.samples.specs.declared.FoundValue.{FoundValue}
+use Rattle.samples.specs.declared.FoundValue.the-variants.{Value, Nothing}
+use Rattle.samples.specs.Samples.{lookup, put, putBy, distinctOrClash}
 
 -- has the point a value, and is it another than y?
-abbrev found : Looked → Bool
+abbrev found : FoundValue → Bool
 found Nothing = false
 found (Value v) = true
 
-abbrev other : ℕ → Looked → Bool
+abbrev other : ℕ → FoundValue → Bool
 other y Nothing = false
 other y (Value v) = not (eqb y v)
 
-nothing : (o : Looked) → found o ≡ false → o ≡ Nothing
+nothing : (o : FoundValue) → found o ≡ false → o ≡ Nothing
 nothing Nothing e = refl
 nothing (Value v) e = let z : true ≡ false = e in cc
 
 -- the value at a point that is there with no other value than v
-same : (v : ℕ) (o : Looked) → found o ≡ true → other v o ≡ false → o ≡ Value v
+same : (v : ℕ) (o : FoundValue) → found o ≡ true → other v o ≡ false → o ≡ Value v
 same v Nothing f e = let z : false ≡ true = f in cc
 same v (Value w) f e = step (eqb v w) refl
   where
     step : (b : Bool) → eqb v w ≡ b → Value w ≡ Value v
     step true h = ap Value (sym (eqb-true v w h))
     step false h = let z : not false ≡ false = ap not (sym h) ∙ e in cc
-
-or-first : (a b : Bool) → (a || b) ≡ false → a ≡ false
-or-first false b e = refl
-or-first true b e = e
-
-or-second : (a b : Bool) → (a || b) ≡ false → b ≡ false
-or-second false b e = e
-or-second true b e = let z : true ≡ false = e in cc
-
-or-same : (b : Bool) → (b || b) ≡ b
-or-same true = refl
-or-same false = refl
 
 -- One sample r more in front of the kept ones g, or none more where r's point is in g (b): what is told of a sample q then. t says whether q and r have
 -- equal points.
@@ -58,13 +47,13 @@ unfolding lookup
 one-more q r g true false et es ed eb er = (es, ed)
 one-more q r g true true et es ed eb er =
     let e : lookup (q .point) g ≡ Value (r .value) = ap (λ (x : ℕ). lookup x g) (eqb-true _ _ et) ∙ same (r .value) _ (sym eb) er in
-    (sym (ap found e), ap (λ (x : Bool). not (eqb (q .value) (r .value)) || x) (ed ∙ ap (other (q .value)) e) ∙ or-same _ ∙ sym (ap (other (q .value)) e))
+    (sym (ap found e), ap (λ (x : Bool). not (eqb (q .value) (r .value)) || x) (ed ∙ ap (other (q .value)) e) ∙ or-self _ ∙ sym (ap (other (q .value)) e))
 one-more q r g false false et es ed eb er = (rw et es, rw et ed)
 one-more q r g false true et es ed eb er =
     let e : lookup (q .point) g ≡ Nothing = ap (λ (x : ℕ). lookup x g) (eqb-true _ _ et) ∙ nothing _ (sym eb) in
     (rw et, rw et (ap (λ (x : Bool). not (eqb (q .value) (r .value)) || x) (ed ∙ ap (other (q .value)) e) ∙ or-false _))
 
-put-by : (q : Sample ℕ) (g : List (Sample ℕ)) (o : Looked) {s d : Bool} → s ≡ found o → d ≡ other (q .value) o →
+put-by : (q : Sample ℕ) (g : List (Sample ℕ)) (o : FoundValue) {s d : Bool} → s ≡ found o → d ≡ other (q .value) o →
     putBy q g o ≡ cond (d || false) none (some (cond s g (q ∷ g)))
 unfolding putBy
 put-by q g Nothing es ed = rw (es, ed)
@@ -83,41 +72,42 @@ module _ (field : ℕ) where
   F = fieldOf field
 
   -- without a clash, the distinct samples tell whether a point is there, and whether with another value
-  told : (ps : List (Sample ℕ)) → clash F ps ≡ false → (q : Sample ℕ) →
+  lookup-agrees : (ps : List (Sample ℕ)) → clash F ps ≡ false → (q : Sample ℕ) →
       (sampledAt F (q .point) ps ≡ found (lookup (q .point) (distinct F ps))) × (contradicts F q ps ≡ other (q .value) (lookup (q .point) (distinct F ps)))
   unfolding fieldOf primeField distinct clash contradicts sampledAt lookup
-  told [] h q = (refl, refl)
-  told (r ∷ ps) h q =
-      let quiet : clash F ps ≡ false = or-second (contradicts F r ps) (clash F ps) h in
-      let calm : contradicts F r ps ≡ false = or-first (contradicts F r ps) (clash F ps) h in
-      let a = told ps quiet q in
-      let b = told ps quiet r in
-      one-more q r (distinct F ps) (sampledAt F (r .point) ps) (eqb (q .point) (r .point)) refl (a .0) (a .1) (b .0) (sym (b .1) ∙ calm)
+  lookup-agrees [] h q = (refl, refl)
+  lookup-agrees (r ∷ ps) h q =
+      let neither = booleans.or-false (contradicts F r ps) (clash F ps) h in
+      let no-clash : clash F ps ≡ false = neither .1 in
+      let no-contradiction : contradicts F r ps ≡ false = neither .0 in
+      let a = lookup-agrees ps no-clash q in
+      let b = lookup-agrees ps no-clash r in
+      one-more q r (distinct F ps) (sampledAt F (r .point) ps) (eqb (q .point) (r .point)) refl (a .0) (a .1) (b .0) (sym (b .1) ∙ no-contradiction)
 
-  -- what `sifted` says of samples
-  pub sifted-none : (ps : List (Sample ℕ)) → none ≡ sifted field ps → clash F ps ≡ true
-  unfolding sifted
-  sifted-none ps e = clashed (distinct F ps) (clash F ps) e
+  -- what `distinctOrClash` says of samples
+  pub none-clash : (ps : List (Sample ℕ)) → none ≡ distinctOrClash field ps → clash F ps ≡ true
+  unfolding distinctOrClash
+  none-clash ps e = clashed (distinct F ps) (clash F ps) e
 
-  pub sifted-some : (ps g : List (Sample ℕ)) → some g ≡ sifted field ps → (clash F ps ≡ false) × (g ≡ distinct F ps)
-  unfolding sifted
-  sifted-some ps g e = by (clash F ps) e
+  pub some-distinct : (ps g : List (Sample ℕ)) → some g ≡ distinctOrClash field ps → (clash F ps ≡ false) × (g ≡ distinct F ps)
+  unfolding distinctOrClash
+  some-distinct ps g e = by (clash F ps) e
     where
       by : (b : Bool) → some g ≡ cond b none (some (distinct F ps)) → (b ≡ false) × (g ≡ distinct F ps)
       by true h = let z : some g ≡ none = h in (cc, cc)
       by false h = (refl, cc)
 
   -- where the samples gathered so far are the definition's, so they are with one more
-  pub put-ok : (q : Sample ℕ) (ps g : List (Sample ℕ)) → some g ≡ sifted field ps → put q g ≡ sifted field (q ∷ ps)
-  unfolding put sifted distinct clash
+  pub put-ok : (q : Sample ℕ) (ps g : List (Sample ℕ)) → some g ≡ distinctOrClash field ps → put q g ≡ distinctOrClash field (q ∷ ps)
+  unfolding put distinctOrClash distinct clash
   put-ok q ps g e =
-      let s = sifted-some ps g e in
-      let t = told ps (s .0) q in
+      let s = some-distinct ps g e in
+      let t = lookup-agrees ps (s .0) q in
       rw (s .1, s .0) (put-by q (distinct F ps) (lookup (q .point) (distinct F ps)) (t .0) (t .1))
 
-  pub sifted-nil : some [] ≡ sifted field []
-  unfolding sifted clash distinct
-  sifted-nil = refl
+  pub distinct-nil : some [] ≡ distinctOrClash field []
+  unfolding distinctOrClash clash distinct
+  distinct-nil = refl
 
   clash-behind : (l ps : List (Sample ℕ)) → clash F ps ≡ true → clash F (l ++ ps) ≡ true
   unfolding clash
@@ -125,23 +115,23 @@ module _ (field : ℕ) where
   clash-behind (q ∷ l) ps e = rw (clash-behind l ps e) (or-true (contradicts F q (l ++ ps)))
 
   -- a clash stays one behind other samples, and so where a list is begun earlier
-  pub clash-append : (l ps : List (Sample ℕ)) → none ≡ sifted field ps → none ≡ sifted field (l ++ ps)
-  unfolding sifted
-  clash-append l ps e = rw (clash-behind l ps (sifted-none ps e))
+  pub clash-append : (l ps : List (Sample ℕ)) → none ≡ distinctOrClash field ps → none ≡ distinctOrClash field (l ++ ps)
+  unfolding distinctOrClash
+  clash-append l ps e = rw (clash-behind l ps (none-clash ps e))
 
-  pub clash-drop : (i : ℕ) (l : List (Sample ℕ)) → none ≡ sifted field (drop i l) → none ≡ sifted field l
-  clash-drop i l e = clash-append (take i l) (drop i l) e ∙ ap (sifted field) (take-append-drop i l)
+  pub clash-drop : (i : ℕ) (l : List (Sample ℕ)) → none ≡ distinctOrClash field (drop i l) → none ≡ distinctOrClash field l
+  clash-drop i l e = clash-append (take i l) (drop i l) e ∙ ap (distinctOrClash field) (take-append-drop i l)
 
   -- of some samples some are kept
-  distinct-some : (ps : List (Sample ℕ)) → 0 < length ps → 0 < length (distinct F ps)
+  distinct-nonempty : (ps : List (Sample ℕ)) → 0 < length ps → 0 < length (distinct F ps)
   unfolding distinct sampledAt
-  distinct-some [] h = h
-  distinct-some (s ∷ []) h = h
-  distinct-some (s ∷ t ∷ ps) h = by (sampledAt F (s .point) (t ∷ ps)) (distinct-some (t ∷ ps) (omega arith))
+  distinct-nonempty [] h = h
+  distinct-nonempty (s ∷ []) h = h
+  distinct-nonempty (s ∷ t ∷ ps) h = by (sampledAt F (s .point) (t ∷ ps)) (distinct-nonempty (t ∷ ps) (omega arith))
     where
       by : (b : Bool) → 0 < length (distinct F (t ∷ ps)) → 0 < length (cond b (distinct F (t ∷ ps)) (s ∷ distinct F (t ∷ ps)))
       by true l = l
       by false l = omega arith
 
-  pub sifted-more : (ps g : List (Sample ℕ)) → 0 < length ps → some g ≡ sifted field ps → 0 < length g
-  sifted-more ps g h e = rw (sifted-some ps g e .1) (distinct-some ps h)
+  pub some-nonempty : (ps g : List (Sample ℕ)) → 0 < length ps → some g ≡ distinctOrClash field ps → 0 < length g
+  some-nonempty ps g h e = rw (some-distinct ps g e .1) (distinct-nonempty ps h)

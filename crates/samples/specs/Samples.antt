@@ -7,21 +7,21 @@ use lib.Dec.{eqb}
 use lib.ListN.{drop}
 use Rattle.definition.specs.Field.{fieldOf}
 use Rattle.definition.specs.Polynomial.{Sample, pair, distinct, clash}
-use Rattle.samples.specs.declared.Looked.{Looked}
-use Rattle.samples.specs.declared.Looked.the-variants.{Value, Nothing}
+use Rattle.samples.specs.declared.FoundValue.{FoundValue}
+use Rattle.samples.specs.declared.FoundValue.the-variants.{Value, Nothing}
 use Rattle.samples.specs.declared.Gathered.{Gathered}
 use Rattle.samples.specs.declared.Gathered.the-variants.{Clash, From}
 
 -- the definition's G of a list of samples: none where two equal points have different values, else one sample for each point
-unfoldable pub sifted : ℕ → List (Sample ℕ) → Option (List (Sample ℕ))
-sifted field samples = cond (clash (fieldOf field) samples) none (some (distinct (fieldOf field) samples))
+unfoldable pub distinctOrClash : ℕ → List (Sample ℕ) → Option (List (Sample ℕ))
+distinctOrClash field samples = cond (clash (fieldOf field) samples) none (some (distinct (fieldOf field) samples))
 
 -- the value of the first sample at x
-unfoldable pub lookup : ℕ → List (Sample ℕ) → Looked
+unfoldable pub lookup : ℕ → List (Sample ℕ) → FoundValue
 lookup x [] = Nothing
 lookup x (s ∷ samples) = cond (eqb x (s .point)) (Value (s .value)) (lookup x samples)
 
-unfoldable pub putBy : Sample ℕ → List (Sample ℕ) → Looked → Option (List (Sample ℕ))
+unfoldable pub putBy : Sample ℕ → List (Sample ℕ) → FoundValue → Option (List (Sample ℕ))
 putBy s g Nothing = some (s ∷ g)
 putBy s g (Value v) = cond (eqb (s .value) v) (some g) none
 

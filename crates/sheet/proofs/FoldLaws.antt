@@ -11,12 +11,13 @@ use lib.Dec.{eqb, leb}
 use lib.ListN.{getD, take}
 use lib.Pow.{pow-pos}
 use borrow.Author.Tests.{le-leb, leb-false, leb-true, lt-leb, not-false}
-use Rattle.algebra.specs.ListFacts.{All, all-in-map, all-map}
-use Rattle.completeness.specs.LevelsByNumber.{product-next}
-use Rattle.completeness.specs.Numbered.{total}
-use Rattle.completeness.specs.PlainSheet.{first-word, fold-one, later-word}
-use Rattle.completeness.specs.SheetRules.{fold-count, fold-words, later-fold, logs, product-powers}
-use Rattle.completeness.specs.Tests.{and-true, at-none, none-of}
+use Rattle.list_laws.specs.All.{All, all-in-map, all-map}
+use Rattle.layouts.specs.LevelsByNumber.{product-next}
+use Rattle.layouts.specs.Levels.{total}
+use Rattle.layouts.specs.PlainSheet.{first-word, fold-one, later-word}
+use Rattle.layouts.specs.SheetRules.{fold-count, fold-words, later-fold, logs, product-powers}
+use Rattle.layouts.specs.Tests.{at-none, none-of}
+use Rattle.list_laws.specs.Booleans.{and-true}
 use Rattle.definition.specs.Lists.{firstOf, productOf, range}
 use Rattle.definition.specs.Reading.{sheetTest}
 use Rattle.definition.specs.Sheet.{Edition, edition1, edition2, foldRule, foldWords, foldingNumber, laterFoldRule, laterRules}

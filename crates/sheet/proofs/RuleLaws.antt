@@ -11,8 +11,8 @@ use lib.ListN.{getD, take}
 use lib.Pow.{pow-mono, pow-lt}
 use borrow.Author.Tests.{leb-true, leb-false, ltb-false, le-leb, lt-leb, lt-ltb, le-ltb, eq-eqb, ne-eqb, not-true, not-false}
 use Rattle.algebra.specs.ModularArithmetic.{pow-pow}
-use Rattle.completeness.specs.Tests.{and-true}
-use Rattle.completeness.specs.SheetRules.{between-true, pow-most}
+use Rattle.list_laws.specs.Booleans.{and-true}
+use Rattle.layouts.specs.SheetRules.{between-true, pow-most}
 use Rattle.definition.specs.Field.{primeOf}
 use Rattle.definition.specs.Lists.{productOf}
 use Rattle.definition.specs.Sheet.{Edition, between, degreeRule, edition1, edition2, foldWords, foldingNumber, outCoinsRule, powerOfTwo, repetitionsRule, roundsRule}

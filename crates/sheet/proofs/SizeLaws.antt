@@ -9,16 +9,15 @@ use lib.Count.{ones}
 use lib.ListN.{length, getD, take}
 use lib.Pow.{pow-pos}
 use lib.Seq.{take-take}
-use Rattle.completeness.specs.DueSizes.{words-most}
-use Rattle.completeness.specs.Lawful.{Lawful, lawful, rounds-word, times-word}
-use Rattle.completeness.specs.LayoutByNumber.{coins-due, words-due}
-use Rattle.completeness.specs.LevelSizes.{quotient}
-use Rattle.completeness.specs.LevelsByNumber.{folded, undivided}
-use Rattle.completeness.specs.Numbered.{coinCount, coinsBefore, levelOf, roundStart, roundsOf, wordCount}
-use Rattle.completeness.specs.PartsByNumber.{starts-grow}
-use Rattle.completeness.specs.PlainSheet.{sheet-plain}
-use Rattle.completeness.specs.SheetLevels.{sized}
-use Rattle.completeness.specs.SheetRules.{long-enough, pow-most}
+use Rattle.layouts.specs.DueSizes.{words-most}
+use Rattle.layouts.specs.Lawful.{Lawful, lawful, rounds-word, times-word}
+use Rattle.layouts.specs.LayoutByRound.{coins-due, starts-grow, words-due}
+use Rattle.layouts.specs.LevelSizes.{quotient}
+use Rattle.layouts.specs.Levels.{coinCount, coinsBefore, levelOf, roundStart, roundsOf, wordCount}
+use Rattle.layouts.specs.LevelsByNumber.{folded, undivided}
+use Rattle.layouts.specs.PlainSheet.{sheet-plain}
+use Rattle.layouts.specs.SheetLevels.{sized}
+use Rattle.layouts.specs.SheetRules.{long-enough, pow-most}
 use Rattle.definition.specs.Block.{blockCount}
 use Rattle.definition.specs.Layout.{coinKinds, laterCount, layout, wordsDue}
 use Rattle.definition.specs.Lists.{productOf}
@@ -27,7 +26,7 @@ use Rattle.definition.specs.Sheet.{Edition, Sheet, edition1, edition2, finalCou
 use Rattle.definition.specs.Verdict.{accepted}
 use Rattle.sheet.specs.OneBit.{power-ones}
 use Rattle.sheet.specs.Rules.{DegreeAt}
-use Rattle.sheet.specs.Sizes.{roundWords}
+use Rattle.sheet.specs.Sizes.{roundWordCount}
 use Rattle.sheet.proofs.FoldLaws.{degree-first}
 
 factor-most : (x y n : ℕ) → x * y ≡ n → 0 < n → x ≤ n
@@ -128,12 +127,12 @@ module _ (ed : Edition) (w : List ℕ) (long : sheetLength ed ≤ length w) (pas
 
   module _ {due d i : ℕ} (c : Counted ed w due d i) where
     module _ (more : i < getD w 4 0) (log : ℕ) {n : ℕ} (e : getD w 1 0 ≡ 2 ^ log) (q : n ≡ 2 ^ (log - (i + 1))) where
-      next-start : due + roundWords n (getD w 5 0) (getD w (6 + i) 0) ≡ roundStart ed (sheetOf ed w) (suc (suc i))
-      unfolding roundStart wordCount laterCount roundWords sheetOf
+      next-start : due + roundWordCount n (getD w 5 0) (getD w (6 + i) 0) ≡ roundStart ed (sheetOf ed w) (suc (suc i))
+      unfolding roundStart wordCount laterCount roundWordCount sheetOf
       next-start =
           omega (arith, c .sum, time i (omega arith), q, ap (λ (x : ℕ). 2 ^ (log - x)) (add-one i), level-size log e (suc i) (omega arith))
 
-      pub words-fit : due + roundWords n (getD w 5 0) (getD w (6 + i) 0) ≤ 8509
+      pub words-fit : due + roundWordCount n (getD w 5 0) (getD w (6 + i) 0) ≤ 8509
       words-fit =
           let M = roundsOf (sheetOf ed w) in
           let l : suc i ≤ M = omega (arith, rounds-word ed w long passed) in
@@ -147,7 +146,7 @@ module _ (ed : Edition) (w : List ℕ) (long : sheetLength ed ≤ length w) (pas
             words-most ed w long passed,
           )
 
-      pub words-turn : {r d′ : ℕ} → r ≡ roundWords n (getD w 5 0) (getD w (6 + i) 0) → DegreeAt ed w (i + 1) d′ → Counted ed w (due + r) d′ (i + 1)
+      pub words-turn : {r d′ : ℕ} → r ≡ roundWordCount n (getD w 5 0) (getD w (6 + i) 0) → DegreeAt ed w (i + 1) d′ → Counted ed w (due + r) d′ (i + 1)
       words-turn t g = record {
         within = omega arith;
         sum = omega (arith, t, next-start, ap (λ (x : ℕ). roundStart ed (sheetOf ed w) (suc x)) (add-one i));

@@ -8,9 +8,10 @@ use lib.Dec.{eqb}
 use lib.Pow.{pow-mono, pow-pos}
 use lib.Count.{ones, ones-step, ones-cat, trailingZeros, under}
 use borrow.Author.Tests.{eq-eqb, ne-eqb}
-use Rattle.completeness.specs.SheetRules.{pow-below, power-of-two}
-use Rattle.definition.specs.Lists.{member, range}
+use Rattle.layouts.specs.SheetRules.{power-of-two}
 use Rattle.definition.specs.Sheet.{powerOfTwo}
+use Rattle.list_laws.specs.Booleans.{is-false}
+use Rattle.layouts.specs.PlainSheet.{is-power}
 
 half-below : (n k : ℕ) → n < 2 ^ suc k → n / 2 < 2 ^ k
 half-below n k h = omega (arith, pow-suc 2 k)
@@ -43,24 +44,6 @@ pub power-ones : (k : ℕ) → ones (2 ^ k) ≡ 1
 unfolding ones
 power-ones k = ap ones (sym (add-zero (2 ^ k) ∙ refl)) ∙ ap (λ (x : ℕ). ones (x + 0)) (sym (one-mul (2 ^ k))) ∙ ones-cat k 1 0 (pow-pos k)
 
--- the definition's test of a power of two finds each exponent below 13
-finds : (a : ℕ) → a < 13 → powerOfTwo (2 ^ a) ≡ true
-unfolding powerOfTwo member range
-finds zero h = refl
-finds (suc zero) h = refl
-finds (suc (suc zero)) h = refl
-finds (suc (suc (suc zero))) h = refl
-finds (suc (suc (suc (suc zero)))) h = refl
-finds (suc (suc (suc (suc (suc zero))))) h = refl
-finds (suc (suc (suc (suc (suc (suc zero)))))) h = refl
-finds (suc (suc (suc (suc (suc (suc (suc zero))))))) h = refl
-finds (suc (suc (suc (suc (suc (suc (suc (suc zero)))))))) h = refl
-finds (suc (suc (suc (suc (suc (suc (suc (suc (suc zero))))))))) h = refl
-finds (suc (suc (suc (suc (suc (suc (suc (suc (suc (suc zero)))))))))) h = refl
-finds (suc (suc (suc (suc (suc (suc (suc (suc (suc (suc (suc zero))))))))))) h = refl
-finds (suc (suc (suc (suc (suc (suc (suc (suc (suc (suc (suc (suc zero)))))))))))) h = refl
-finds (suc (suc (suc (suc (suc (suc (suc (suc (suc (suc (suc (suc (suc a))))))))))))) h = absurd (omega arith)
-
 -- a power of two by the definition has one bit
 pub power-one-bit : (x : ℕ) → powerOfTwo x ≡ true → ones x ≡ 1
 power-one-bit x e = let q = power-of-two x e in ap ones (q .2) ∙ power-ones (q .0)
@@ -74,17 +57,10 @@ power-small x e =
 
 -- Up to 4096 the ones count decides.
 pub one-bit-power : (x : ℕ) → x ≤ 4096 → ones x ≡ 1 → powerOfTwo x ≡ true
-one-bit-power x h e =
-    let b : x ≡ 2 ^ trailingZeros 32 x = one-bit 32 x (omega arith) e in
-    let l : trailingZeros 32 x < 13 = pow-below _ 13 (omega (arith, b)) in
-    ap powerOfTwo b ∙ finds (trailingZeros 32 x) l
-
-false-unless : (b : Bool) → (b ≡ true → ⊥) → b ≡ false
-false-unless true h = absurd (h refl)
-false-unless false h = refl
+one-bit-power x h e = is-power x (trailingZeros 32 x) (one-bit 32 x (omega arith) e) h
 
 pub powerOfTwo-large : (x : ℕ) → 4096 < x → powerOfTwo x ≡ false
-powerOfTwo-large x h = false-unless (powerOfTwo x) (λ e. omega (arith, power-small x e))
+powerOfTwo-large x h = is-false (powerOfTwo x) (λ e. omega (arith, power-small x e))
 
 pub powerOfTwo-ones : (x : ℕ) → x ≤ 4096 → eqb (ones x) 1 ≡ powerOfTwo x
 powerOfTwo-ones x h = go (powerOfTwo x) refl

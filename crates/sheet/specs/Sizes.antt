@@ -2,5 +2,5 @@
 use Prim.Native.Nat.{ℕ, _+_}
 
 -- The words of a round whose table has n words, after a level with t repetitions: table, out coins, replies, combination coin, fold coin, shift indices.
-unfoldable pub roundWords : ℕ → ℕ → ℕ → ℕ
-roundWords n s t = n + (s + (s + (2 + t)))
+unfoldable pub roundWordCount : ℕ → ℕ → ℕ → ℕ
+roundWordCount n s t = n + (s + (s + (2 + t)))

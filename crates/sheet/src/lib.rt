@@ -18,7 +18,7 @@ ghost use Rattle.definition.specs.Verdict.{accepted};
 ghost use Rattle.edition.specs.Meaning.{editionOf};
 ghost use Rattle.outcome.specs.Meaning.{placeOf};
 ghost use Rattle.sheet.specs.Rules.{DegreeAt, Folds, Shape, frontRules, laterWords};
-ghost use Rattle.sheet.specs.Sizes.{roundWords};
+ghost use Rattle.sheet.specs.Sizes.{roundWordCount};
 
 // The logarithm of a power of two, read off its single one bit.
 pub fn log2(x: u32) -> u32
@@ -283,8 +283,8 @@ pub fn broken(e: Edition, w: &[u32]) -> Found
 
 // The words of a round whose table has n words, after a level with t repetitions: table, out coins, replies, combination coin, fold coin, shift indices.
 fn round_words(n: usize, s: usize, t: usize) -> usize
-    requires { ⌜ roundWords n s t ≤ 8509 ⌝ }
-    ensures { λ r. ⌜ r ≡ roundWords n s t ⌝ }
+    requires { ⌜ roundWordCount n s t ≤ 8509 ⌝ }
+    ensures { λ r. ⌜ r ≡ roundWordCount n s t ⌝ }
 {
     n + 2 * s + 2 + t
 }

@@ -8,7 +8,7 @@ use lib.ListN.{length, drop, getD}
 use lib.Seq.{drop-length}
 use Rattle.definition.specs.Field.{primeField, primeOf, fieldOf}
 use Rattle.algebra.specs.ModularArithmetic.{mod-mul, mul-mod}
-use Rattle.polynomial.specs.Backwards.{drop-back}
+use Rattle.list_laws.specs.Backwards.{drop-back}
 use Rattle.sums.specs.Sums.{products, productsOf, products-remainder}
 use Rattle.sums.specs.Primes.{prime-small, prime-some}
 use Rattle.sums.specs.AtRoots.{everyNth, every-number, every-length}

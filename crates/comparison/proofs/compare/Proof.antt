@@ -16,14 +16,14 @@ use Rattle.comparison.proofs.compare.Statement.{statement}
 use Rattle.comparison.proofs.compare.Tie as tie
 
 abbrev Inv-loop : tie.InvT-loop
-Inv-loop field pw roots how r coefficients finals values₀ i₀ values i =
+Inv-loop field pw roots oracle r coefficients finals values₀ i₀ values i =
     (i ≤ length finals)
     × ((length values ≡ length values₀)
-    × (firstTrue i (numbered (λ i j. differsIn field coefficients (sampleBy field pw roots how (length values₀) r i j)) i (drop i finals))
-    ≡ firstTrue 0 (numbered (λ i j. differsIn field coefficients (sampleBy field pw roots how (length values₀) r i j)) 0 finals)))
+    × (firstTrue i (numbered (λ i j. differsIn field coefficients (sampleBy field pw roots oracle (length values₀) r i j)) i (drop i finals))
+    ≡ firstTrue 0 (numbered (λ i j. differsIn field coefficients (sampleBy field pw roots oracle (length values₀) r i j)) 0 finals)))
 
 abbrev μ-loop : tie.MeasureT-loop
-μ-loop field pw roots how r coefficients finals values₀ i₀ values i = length finals - i
+μ-loop field pw roots oracle r coefficients finals values₀ i₀ values i = length finals - i
 
 loop-holds : tie.Need-loop-holds Inv-loop μ-loop
 loop-holds c = (omega arith, (refl, refl))
@@ -67,9 +67,9 @@ returns c =
     let a = c .before .before .before .before .before .before .before .before .before .before .before .before .before .before .before .args in
     let n = l .inv .1 in
     let p = c .before .before .before .before .fold-at in
-    let d = differs (a .field) (a .pw .now) (a .roots .now) (a .how) (length (a .values .now)) (a .r) (l .i) (a .coefficients .now) (c .before .final-value .ensures) (p .ensures)
+    let d = differs (a .field) (a .pw .now) (a .roots .now) (a .oracle) (length (a .values .now)) (a .r) (l .i) (a .coefficients .now) (c .before .final-value .ensures) (p .ensures)
     (p .kept .1 .1 .1 .1 .1 .1 .1 .0 ∙ n .0) (n .0) (c .before .before .before .before .before .before .wide .ensures) (c .if1 .taken) in
-    first-here (λ i j. differsIn (a .field) (a .coefficients .now) (sampleBy (a .field) (a .pw .now) (a .roots .now) (a .how) (length (a .values .now)) (a .r) i j)) (a .finals .now) (l .i) (c .before .before .before .before .before .before .before .before .loop-test .taken) d ∙ n .1
+    first-here (λ i j. differsIn (a .field) (a .coefficients .now) (sampleBy (a .field) (a .pw .now) (a .roots .now) (a .oracle) (length (a .values .now)) (a .r) i j)) (a .finals .now) (l .i) (c .before .before .before .before .before .before .before .before .loop-test .taken) d ∙ n .1
 
 add-i : tie.Need-add-i Inv-loop μ-loop
 add-i c = omega (arith, c .before .before .before .before .before .before .before .before .loop-test .taken, c .before .before .before .before .before .before .before .before .before .before .before .before .before .before .before .good .1 .1 .1 .1 .1 .1 .0 .0)
@@ -84,9 +84,9 @@ loop-again c =
     let n = l .inv .1 in
     let p = c .before .before .before .before .fold-at in
     let h = c .before .before .before .before .before .before .before .before .loop-test .taken in
-    let d = agrees (a .field) (a .pw .now) (a .roots .now) (a .how) (length (a .values .now)) (a .r) (l .i) (a .coefficients .now) (c .before .final-value .ensures) (p .ensures)
+    let d = agrees (a .field) (a .pw .now) (a .roots .now) (a .oracle) (length (a .values .now)) (a .r) (l .i) (a .coefficients .now) (c .before .final-value .ensures) (p .ensures)
     (p .kept .1 .1 .1 .1 .1 .1 .1 .0 ∙ n .0) (n .0) (c .before .before .before .before .before .before .wide .ensures) (c .if1 .left) in
-    (omega (arith, h), (p .kept .1 .1 .1 .1 .1 .1 .1 .0 ∙ n .0, first-later (λ i j. differsIn (a .field) (a .coefficients .now) (sampleBy (a .field) (a .pw .now) (a .roots .now) (a .how) (length (a .values .now)) (a .r) i j)) (a .finals .now) (l .i) h d ∙ n .1))
+    (omega (arith, h), (p .kept .1 .1 .1 .1 .1 .1 .1 .0 ∙ n .0, first-later (λ i j. differsIn (a .field) (a .coefficients .now) (sampleBy (a .field) (a .pw .now) (a .roots .now) (a .oracle) (length (a .values .now)) (a .r) i j)) (a .finals .now) (l .i) h d ∙ n .1))
 
 same-length-2 : tie.Need-same-length-2 Inv-loop μ-loop
 same-length-2 c = omega arith
@@ -97,7 +97,7 @@ returns-2 c =
     let l = c .before .loop in
     let a = c .before .before .before .before .before .before .before .args in
     let h : length (a .finals .now) ≤ l .i = omega arith in
-    first-nowhere (λ i j. differsIn (a .field) (a .coefficients .now) (sampleBy (a .field) (a .pw .now) (a .roots .now) (a .how) (length (a .values .now)) (a .r) i j)) (a .finals .now) (l .i) h ∙ l .inv .1 .1
+    first-nowhere (λ i j. differsIn (a .field) (a .coefficients .now) (sampleBy (a .field) (a .pw .now) (a .roots .now) (a .oracle) (length (a .values .now)) (a .r) i j)) (a .finals .now) (l .i) h ∙ l .inv .1 .1
 
 pub compare-spec : {M : Type 1} → statement M
 compare-spec =

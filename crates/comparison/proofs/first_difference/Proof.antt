@@ -34,7 +34,7 @@ returns c =
     let s = c .before .before .before .before .before .before .before .before .before .before .before .before .before .before .before .before .before .before .before .before .before .before .before .before .before in
     let a = s .args in
     let p = c .before .before .before .before .before .before .before .before .before .before .before .prepare in
-    comparison-is (a .field) (a .pw .now) (a .table .now) (a .ac .now) (a .vg .now) (a .how) (length (a .values .now)) (a .r) (a .finals .now) (p .last .1 .1 .1 .1 .1 .1 .1 .1 .0) (s .pre .1 .0) (p .ensures)
+    comparison-is (a .field) (a .pw .now) (a .table .now) (a .ac .now) (a .vg .now) (a .oracle) (length (a .values .now)) (a .r) (a .finals .now) (p .last .1 .1 .1 .1 .1 .1 .1 .1 .0) (s .pre .1 .0) (p .ensures)
     (a .coefficients .now) (s .pre .1 .1 .0) (c .before .before .compare .ensures)
 
 pub first-difference-spec : {M : Type 1} → statement M

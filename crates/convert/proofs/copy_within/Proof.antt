@@ -5,7 +5,7 @@ use mathlib.Core.Path.{_≡_, refl, sym, ap, _∙_}
 use mathlib.Core.List.{List}
 use lib.ListN.{length, getD, take, drop, length-drop, length-set}
 use lib.Seq.{length-take-le, take-all}
-use Rattle.stream.specs.Overwriting.{overwrite, overwrite-next, overwrite-none}
+use Rattle.list_laws.specs.Overwriting.{overwrite, overwrite-next, overwrite-none}
 use Rattle.convert.specs.Sheets.{next-word}
 use Rattle.convert.proofs.copy_within.Statement.{statement}
 use Rattle.convert.proofs.copy_within.Tie as tie

@@ -5,7 +5,7 @@ use mathlib.Core.Path.{_≡_, refl, sym, ap, _∙_}
 use mathlib.Core.List.{List}
 use lib.ListN.{length, getD, take, length-set}
 use lib.Seq.{take-all}
-use Rattle.stream.specs.Overwriting.{overwrite, overwrite-next, overwrite-none}
+use Rattle.list_laws.specs.Overwriting.{overwrite, overwrite-next, overwrite-none}
 use Rattle.convert.specs.Sheets.{later-long, laterFolds}
 use Rattle.convert.proofs.put_later_folds.Statement.{statement}
 use Rattle.convert.proofs.put_later_folds.Tie as tie

@@ -60,7 +60,7 @@ returns c =
     let i = s .pre .0 in
     let q = c .before .before .before .before .correction in (
       subst (λ (k : ℕ). Columned k (q .result)) (c .before .before .before .before .before .before .before .before .before .before .before .before .fold .ensures .0 ∙ i .next) (q .ensures .0),
-      combined-part (sheetOf (editionOf (s .args .e)) (s .args .w .now)) (s .args .w .now) (s .args .stand) (i .numbers .outs) (q .ensures .1),
+      combined-part (sheetOf (editionOf (s .args .e)) (s .args .w .now)) (s .args .w .now) (s .args .state) (i .numbers .outs) (q .ensures .1),
     )
 
 pub correction-spec : {M : Type 1} → statement M

@@ -15,8 +15,8 @@ places-requires c κs = search needs
 double-places-requires : tie.Need-double-places-requires
 double-places-requires c κs = search needs
 
-first-stand-requires : tie.Need-first-stand-requires
-first-stand-requires c κs =
+first-state-requires : tie.Need-first-state-requires
+first-state-requires c κs =
     let s = c .before .before .before .before in
     let a = s .args in
     (sheet-written (editionOf (a .e)) (a .w .now) (s .pre .0 .0) (s .pre .1 .0), sheet-shaped (editionOf (a .e)) (a .w .now) (s .pre .0 .0) (s .pre .1 .0))
@@ -24,58 +24,58 @@ first-stand-requires c κs =
 sheet-words-requires : tie.Need-sheet-words-requires
 sheet-words-requires c κs = search needs
 
-shared-slice-read-rest : tie.Need-shared-slice-read-rest
+shared-slice-read-rest : tie.Need-shared-slice-read-decide-rest
 shared-slice-read-rest c =
     let s = c .before .before .before .before .before .before .before in
     let v = sheet-written (editionOf (s .args .e)) (s .args .w .now) (s .pre .0 .0) (s .pre .1 .0) in
     omega (arith, v .long)
 
-cast-rest : tie.Need-cast-rest
+cast-rest : tie.Need-cast-decide-rest
 cast-rest c = search needs
 
-add-rest : tie.Need-add-rest
+add-rest : tie.Need-add-decide-rest
 add-rest c =
     let s = c .before .before .before .before .before .before .before in
     let a = s .args in
     let v = sheet-written (editionOf (a .e)) (a .w .now) (s .pre .0 .0) (s .pre .1 .0) in
     omega (arith, v .size, coin-there (editionOf (a .e)) (a .w .now) (s .pre .0 .0) (s .pre .1 .0), c .before .sheet-words .ensures)
 
-mul-rest : tie.Need-mul-rest
+mul-rest : tie.Need-mul-decide-rest
 mul-rest c =
     let s = c .before .before .before .before .before .before .before in
     let a = s .args in
     let v = sheet-written (editionOf (a .e)) (a .w .now) (s .pre .0 .0) (s .pre .1 .0) in
     omega (arith, v .size, coin-there (editionOf (a .e)) (a .w .now) (s .pre .0 .0) (s .pre .1 .0), c .before .sheet-words .ensures)
 
-shared-slice-read-rest-2 : tie.Need-shared-slice-read-rest-2
+shared-slice-read-rest-2 : tie.Need-shared-slice-read-decide-rest-2
 shared-slice-read-rest-2 c =
     let s = c .before .before .before .before .before .before .before .before in
     let a = s .args in
     let v = sheet-written (editionOf (a .e)) (a .w .now) (s .pre .0 .0) (s .pre .1 .0) in
     omega (arith, v .size, coin-there (editionOf (a .e)) (a .w .now) (s .pre .0 .0) (s .pre .1 .0), c .before .before .sheet-words .ensures)
 
-first-function-requires : tie.Need-first-function-requires
+first-function-requires : tie.Need-first-oracle-requires
 first-function-requires c κs =
     let s = c .before .before .before .before .before .before .before .before in
     let a = s .args in
     (sheet-written (editionOf (a .e)) (a .w .now) (s .pre .0 .0) (s .pre .1 .0), sheet-shaped (editionOf (a .e)) (a .w .now) (s .pre .0 .0) (s .pre .1 .0))
 
-slice-aggregate-rest : tie.Need-slice-aggregate-rest
+slice-aggregate-rest : tie.Need-slice-aggregate-decide-rest
 slice-aggregate-rest c = search needs
 
-slice-aggregate-rest-2 : tie.Need-slice-aggregate-rest-2
+slice-aggregate-rest-2 : tie.Need-slice-aggregate-decide-rest-2
 slice-aggregate-rest-2 c = search needs
 
-rest-requires : tie.Need-rest-requires
+rest-requires : tie.Need-decide-rest-requires
 rest-requires c κs =
     let s = c .before .before .before .before .before .before .before .before .before .before .before in
     let a = s .args in
     let ac = c .before .before .before .before .before .before .before .before .places in
     let vg = c .before .before .before .before .before .before .before .double-places in
-    let st = c .before .before .before .before .before .before .first-stand in
-    let how = c .before .before .first-function in
+    let st = c .before .before .before .before .before .before .first-state in
+    let oracle = c .before .before .first-oracle in
     let ready = first-ready (editionOf (a .e)) (a .w .now) (s .pre .0 .0) (s .pre .1 .0) (a .pw .now) (ac .result) (vg .result) (s .pre .0 .1) (s .pre .1 .1 .0 .0) (s .pre .1 .1 .0 .1) (s .pre .1 .1 .1)
-    (st .result) (st .ensures) (how .result) (how .ensures) (ac .ensures) (vg .ensures) in
+    (st .result) (st .ensures) (oracle .result) (oracle .ensures) (ac .ensures) (vg .ensures) in
     (sheet-written (editionOf (a .e)) (a .w .now) (s .pre .0 .0) (s .pre .1 .0), (ready .0, (ready .1, omega arith)))
 
 returns : tie.Need-returns
@@ -84,10 +84,10 @@ returns c =
     let a = s .args in
     let ac = c .before .before .before .before .before .before .before .before .before .places in
     let vg = c .before .before .before .before .before .before .before .before .double-places in
-    let st = c .before .before .before .before .before .before .before .first-stand in
-    let how = c .before .before .before .first-function in
+    let st = c .before .before .before .before .before .before .before .first-state in
+    let oracle = c .before .before .before .first-oracle in
     first-decided (editionOf (a .e)) (a .w .now) (s .pre .0 .0) (s .pre .1 .0) (a .pw .now) (ac .result) (vg .result) (s .pre .0 .1) (s .pre .1 .1 .0 .0) (s .pre .1 .1 .0 .1) (s .pre .1 .1 .1)
-    (st .result) (st .ensures) (how .result) (how .ensures) (ap (λ (n : ℕ). getD (a .w .now) (n + getD (a .w .now) 1 0) 0) (c .before .before .before .before .before .before .sheet-words .ensures)) (c .rest .ensures)
+    (st .result) (st .ensures) (oracle .result) (oracle .ensures) (ap (λ (n : ℕ). getD (a .w .now) (n + getD (a .w .now) 1 0) 0) (c .before .before .before .before .before .before .sheet-words .ensures)) (c .decide-rest .ensures)
 
 pub decide-spec : {M : Type 1} → statement M
 decide-spec =
@@ -95,7 +95,7 @@ decide-spec =
     (tie.spec
     places-requires
     double-places-requires
-    first-stand-requires
+    first-state-requires
     sheet-words-requires
     shared-slice-read-rest
     cast-rest

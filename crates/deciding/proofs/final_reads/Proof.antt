@@ -4,7 +4,7 @@ use native.Mathlib.Omega.{arith}
 use mathlib.Core.Path.{_∙_, ap}
 use Rattle.definition.specs.Sheet.{sheetOf}
 use Rattle.edition.specs.Meaning.{editionOf}
-use Rattle.deciding.specs.Stand.{readsWith}
+use Rattle.deciding.specs.State.{readsAfter}
 use Rattle.deciding.proofs.Ready.{finals-counted, finals-some, finals-there}
 use Rattle.deciding.proofs.final_reads.Statement.{statement}
 use Rattle.deciding.proofs.final_reads.Tie as tie
@@ -12,24 +12,24 @@ use Rattle.deciding.proofs.final_reads.Tie as tie
 fold-requires : tie.Need-fold-requires
 fold-requires c κs = search needs
 
-div-reads-with : tie.Need-div-reads-with
-div-reads-with c = search needs
+div-reads-after : tie.Need-div-reads-after
+div-reads-after c = search needs
 
-add-reads-with : tie.Need-add-reads-with
-add-reads-with c =
+add-reads-after : tie.Need-add-reads-after
+add-reads-after c =
     let s = c .before .before .before .before in
     let a = s .args in
     let i = s .pre .0 .0 in
     let h = sheetOf (editionOf (a .e)) (a .w .now) in
-    omega (arith, finals-there (editionOf (a .e)) h (a .w .now) (a .stand) i (a .count) (c .before .before .fold .ensures .0 ∙ i .numbers .fold) (s .pre .1))
+    omega (arith, finals-there (editionOf (a .e)) h (a .w .now) (a .state) i (a .count) (c .before .before .fold .ensures .0 ∙ i .numbers .fold) (s .pre .1))
 
-reads-with-requires : tie.Need-reads-with-requires
-reads-with-requires c κs =
+reads-after-requires : tie.Need-reads-after-requires
+reads-after-requires c κs =
     let s = c .before .before .before .before in
     let a = s .args in
     let i = s .pre .0 .0 in
     let h = sheetOf (editionOf (a .e)) (a .w .now) in
-    ((i .numbers, s .pre .0 .1), finals-counted (editionOf (a .e)) h (a .w .now) (a .stand) i (a .count) (c .before .before .fold .ensures .0 ∙ i .numbers .fold) (s .pre .1))
+    ((i .numbers, s .pre .0 .1), finals-counted (editionOf (a .e)) h (a .w .now) (a .state) i (a .count) (c .before .before .fold .ensures .0 ∙ i .numbers .fold) (s .pre .1))
 
 returns : tie.Need-returns
 returns c =
@@ -37,9 +37,9 @@ returns c =
     let a = s .args in
     let i = s .pre .0 .0 in
     let h = sheetOf (editionOf (a .e)) (a .w .now) in
-    c .reads-with .ensures
-    ∙ ap (readsWith h (a .stand) (a .reads)) (finals-some (editionOf (a .e)) h (a .w .now) (a .stand) i (a .count) (c .before .before .before .fold .ensures .0 ∙ i .numbers .fold) (s .pre .1))
+    c .reads-after .ensures
+    ∙ ap (readsAfter h (a .state) (a .reads)) (finals-some (editionOf (a .e)) h (a .w .now) (a .state) i (a .count) (c .before .before .before .fold .ensures .0 ∙ i .numbers .fold) (s .pre .1))
 
 pub final-reads-spec : {M : Type 1} → statement M
 final-reads-spec =
-    tie.close (tie.spec fold-requires div-reads-with add-reads-with reads-with-requires returns)
+    tie.close (tie.spec fold-requires div-reads-after add-reads-after reads-after-requires returns)

@@ -31,7 +31,7 @@ shared-slice-read-result : tie.Need-shared-slice-read-result
 shared-slice-read-result c = search needs
 
 returns : tie.Need-returns
-returns c = let s = c .before .before .before .before in coin-part (sheetOf (editionOf (s .args .e)) (s .args .w .now)) (s .args .w .now) (s .args .stand) (s .pre .numbers .outs)
+returns c = let s = c .before .before .before .before in coin-part (sheetOf (editionOf (s .args .e)) (s .args .w .now)) (s .args .w .now) (s .args .state) (s .pre .numbers .outs)
 
 pub next-coin-spec : {M : Type 1} → statement M
 next-coin-spec =

@@ -4,7 +4,7 @@ use native.Mathlib.Omega.{arith}
 use mathlib.Core.Path.{_≡_, refl, sym, ap, _∙_, subst}
 use mathlib.Core.List.{List, [], _∷_}
 use lib.ListN.{length, take, drop, getD}
-use Rattle.domain.specs.Filled.{Filled, filled-first}
+use Rattle.list_laws.specs.Filled.{Filled, filled-first}
 use Rattle.division.proofs.Dividing.{Raised, raisedAt, raise-turn}
 use Rattle.division.proofs.raise.Statement.{statement}
 use Rattle.division.proofs.raise.Tie as tie

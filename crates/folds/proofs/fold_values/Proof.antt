@@ -8,7 +8,7 @@ use lib.Pow.{pow-pos}
 use borrow.Author.Needs.{needs}
 use Rattle.definition.specs.Field.{fieldOf}
 use Rattle.folds.specs.Halving.{halving, exponentOf}
-use Rattle.folds.specs.PointsIn.{backIn}
+use Rattle.folds.specs.PointsIn.{inversePowerIn}
 use Rattle.field.specs.Answer.{inversionOf}
 use Rattle.polynomial.specs.Inverses.{never-none}
 use Rattle.folds.specs.OneHalf.{halfOf, half-is, two-nonzero}
@@ -23,7 +23,7 @@ Inv-loop field pw e d r values₀ half count₀ first₀ step₀ coin₀ values 
     × ((length values ≡ length values₀)
     × ((first * count ≤ 65536)
     × ((step * count ≤ 65536)
-    × Left (fieldOf field) (halfOf field) (backIn pw) (halving (fieldOf field) (halfOf field) (backIn pw) (exponentOf (length values₀)) e d r (λ m. getD values₀ m 0)) count first step coin values))))
+    × Left (fieldOf field) (halfOf field) (inversePowerIn pw) (halving (fieldOf field) (halfOf field) (inversePowerIn pw) (exponentOf (length values₀)) e d r (λ m. getD values₀ m 0)) count first step coin values))))
 
 abbrev μ-loop : tie.MeasureT-loop
 μ-loop field pw e d r values₀ half count₀ first₀ step₀ coin₀ values count first step coin = count
@@ -106,7 +106,7 @@ loop-again c =
             omega (arith, mul-le-mul-left (l .first) halves, n .1 .1 .1 .0),
             (
               omega (arith, mul-le-mul-left (l .step) halves, n .1 .1 .1 .1 .0),
-              left-next F (halfOf (a .field)) (backIn (a .pw .now)) _ many (n .1 .1 .1 .1 .1) (half-is (a .field) (ap inversionOf (sym (u .before .two .given .1)) ∙ u .before .before .before .invert-two .ensures)) (t .ensures) (c .mul .ensures),
+              left-next F (halfOf (a .field)) (inversePowerIn (a .pw .now)) _ many (n .1 .1 .1 .1 .1) (half-is (a .field) (ap inversionOf (sym (u .before .two .given .1)) ∙ u .before .before .before .invert-two .ensures)) (t .ensures) (c .mul .ensures),
             ),
           ),
         ),
@@ -123,7 +123,7 @@ returns-2 : tie.Need-returns-2 Inv-loop μ-loop
 returns-2 c =
     let l = c .before .before .loop in
     let a = c .before .before .before .before .before .before .before .before .before .args in
-    left-last (fieldOf (a .field)) (halfOf (a .field)) (backIn (a .pw .now)) _ (omega arith) (l .inv .1 .1 .1 .1 .1)
+    left-last (fieldOf (a .field)) (halfOf (a .field)) (inversePowerIn (a .pw .now)) _ (omega arith) (l .inv .1 .1 .1 .1 .1)
 
 pub fold-values-spec : {M : Type 1} → statement M
 fold-values-spec =

@@ -5,7 +5,7 @@ use mathlib.Core.Path.{_≡_, subst}
 use lib.ListN.{length, getD}
 use borrow.Author.Needs.{needs}
 use Rattle.definition.specs.Field.{Field, fieldOf}
-use Rattle.domain.specs.Filled.{Filled, filled-first, filled-next}
+use Rattle.list_laws.specs.Filled.{Filled, filled-first, filled-next}
 use Rattle.fractions.proofs.RootValues.{numerator-turn}
 use Rattle.fractions.proofs.numerators.Statement.{statement}
 use Rattle.fractions.proofs.numerators.Tie as tie

@@ -7,11 +7,12 @@ use lib.ListN.{length, take}
 use lib.Seq.{length-take-le}
 use borrow.Author.Needs.{needs}
 use Rattle.definition.specs.Sheet.{sheetOf}
+use Rattle.list_laws.specs.Lists.{rest-all}
 use Rattle.edition.specs.Meaning.{editionOf}
 use Rattle.honest_words.specs.Sizes.{next-place, numbers, sizes}
-use Rattle.honest_words.specs.Standing.{DealtFrom}
-use Rattle.honest.proofs.Onward.{Onward, all-left, last-level, not-last, onward, words-end, words-join, words-last}
-use Rattle.domain.specs.Parts.{begun-long, filled-long, joined, others-long}
+use Rattle.honest_words.specs.Invariant.{CoinRunsFrom}
+use Rattle.honest.proofs.NextLevel.{ToNextLevel, last-level, not-last, to-next-level, words-end, words-join, words-last}
+use Rattle.list_laws.specs.LentParts.{begun-long, filled-long, joined, others-long}
 use borrow.Fn.Kinds.{In}
 use borrow.Fn.PlainCycle.{Measures, is, falls, and}
 use Rattle.honest.proofs.rest.Reads as rest
@@ -54,12 +55,12 @@ calls t = (
 -- what is known once the numbers of the round are worked out
 ahead : (t : ℕ) (c : rest-lts.After-round-words (calls t) (rest-at t) rest.Post) →
     let a = c .before .before .before .before .before .before .before .before .before .before .args in
-    Onward (editionOf (a .e)) (a .w .now) (a .pw .now) (a .level) (a .scale) (a .d) (a .coins .now) (length (a .out .now))
+    ToNextLevel (editionOf (a .e)) (a .w .now) (a .pw .now) (a .level) (a .scale) (a .d) (a .coins .now) (length (a .out .now))
     (c .before .before .fold-length .result) (c .before .round-coins .result) (c .round-words .result)
 ahead t c =
     let s = c .before .before .before .before .before .before .before .before .before .before in
     let st = s .pre .1 .0 .0 in
-    onward st (s .pre .1 .0 .1 .0) (s .pre .1 .1 .0) (s .pre .1 .1 .1) (not-last (st .place) (c .before .before .before .if1 .left))
+    to-next-level st (s .pre .1 .0 .1 .0) (s .pre .1 .1 .0) (s .pre .1 .1 .1) (not-last (st .place) (c .before .before .before .if1 .left))
     (c .before .before .fold-length .ensures) (c .before .round-coins .ensures) (c .round-words .ensures)
 
 rest-shared-slice-read-if1 : (t : ℕ) → rest-lts.Need-shared-slice-read-if1 (calls t) (rest-at t) rest.Post
@@ -179,12 +180,12 @@ rest-rest-requires t c κs =
     let n = c .before .before .before .before .before .before .before .before .before .before .round-words .result in
     let q = c .before .before .before .before .before .before .before .step in
     let v = numbers (s .pre .1 .0 .0 .place) in
-    let l = all-left (c .before .before .before .before .before .before .before .before .before .before .before .round-coins .result) (a .coins .now) in
+    let l = rest-all (c .before .before .before .before .before .before .before .before .before .before .before .round-coins .result) (a .coins .now) in
     let g = q .kept .1 .1 .1 .1 .1 .1 .1 .1 .0 in (
       omega (arith, s .pre .0, o .more, v .most-rounds),
       (
         (o .next, (o .degree, omega (arith, o .fewer, g, s .pre .1 .0 .1 .1))),
-        (subst (DealtFrom (sheetOf (editionOf (a .e)) (a .w .now)) (a .level + 1)) (sym l) (o .dealt), others-long (a .out .now) (q .last .1 .1 .1 .1 .1 .1 .1 .1 .1 .0) n (o .within) (q .kept .1 .1 .1 .1 .1 .1 .1 .1 .1 .0) ∙ o .left),
+        (subst (CoinRunsFrom (sheetOf (editionOf (a .e)) (a .w .now)) (a .level + 1)) (sym l) (o .runs), others-long (a .out .now) (q .last .1 .1 .1 .1 .1 .1 .1 .1 .1 .0) n (o .within) (q .kept .1 .1 .1 .1 .1 .1 .1 .1 .1 .0) ∙ o .left),
       ),
     )
 
@@ -224,7 +225,7 @@ rest-returns-2 t c =
     let u = c .before .before .before .before .before .before .before .before .before .before .before .before .before .before .before .before .round-coins in
     words-join (sheetOf (editionOf (a .e)) (a .w .now)) (a .level) (take (a .d) (a .g .now)) (a .coins .now) (u .result) (o .more)
     (joined (a .out .now) (q .last .1 .1 .1 .1 .1 .1 .1 .1 .1 .0) n (o .within) (q .kept .1 .1 .1 .1 .1 .1 .1 .1 .1 .0) (v .last .1 .1 .1 .1 .1 .1 .1 .1 .0) refl refl)
-    (q .ensures .0) (q .ensures .1) (all-left (u .result) (a .coins .now)) (o .coins-are) (v .ensures)
+    (q .ensures .0) (q .ensures .1) (rest-all (u .result) (a .coins .now)) (o .coins-are) (v .ensures)
 
 pub +rest-spec : {M : Type 1} → statement M
 +rest-spec = close μ-rest λ t. rest-lts.spec (calls t)

@@ -2,9 +2,9 @@
 use Prim.Native.Nat.{_≤_}
 use native.Mathlib.Omega.{arith}
 use mathlib.Core.Path.{_≡_, _∙_, refl}
-use mathlib.Core.List.{map}
+use mathlib.Core.List.{map, map-id}
 use lib.ListN.{length, drop, length-set}
-use Rattle.honest_words.proofs.Filling.{fill-start, fill-turn, fill-end, map-same}
+use Rattle.honest_words.proofs.Filling.{fill-start, fill-turn, fill-end}
 use Rattle.honest_words.proofs.copy.Statement.{statement}
 use Rattle.honest_words.proofs.copy.Tie as tie
 
@@ -49,7 +49,7 @@ returns : tie.Need-returns Inv-loop μ-loop
 returns c =
     let l = c .before .loop in
     let src = c .before .before .args .src .now in
-    fill-end (λ x. x) src (l .out) (l .i) (omega arith) (l .inv .1 .1) ∙ map-same src
+    fill-end (λ x. x) src (l .out) (l .i) (omega arith) (l .inv .1 .1) ∙ map-id src
 
 pub copy-spec : {M : Type 1} → statement M
 copy-spec =

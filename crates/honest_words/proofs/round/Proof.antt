@@ -4,11 +4,11 @@ use native.Mathlib.Omega.{arith}
 use mathlib.Core.Path.{_∙_, sym}
 use lib.ListN.{length}
 use lib.Seq.{length-take-le}
-use Rattle.completeness.specs.Numbered.{levelOf}
+use Rattle.layouts.specs.Levels.{levelOf}
 use Rattle.edition.specs.Meaning.{editionOf}
 use Rattle.definition.specs.Sheet.{sheetOf}
 use Rattle.honest_words.specs.Sizes.{field-word, next-on-level, next-scale, next-size, numbers, sizes}
-use Rattle.domain.specs.Parts.{begun-long, joined, others-long}
+use Rattle.list_laws.specs.LentParts.{begun-long, joined, others-long}
 use Rattle.honest_words.proofs.Words.{later-long, outs-long, round-is}
 use borrow.Author.Needs.{needs}
 use Rattle.honest_words.proofs.round.Statement.{statement}

@@ -2,7 +2,7 @@
 use mathlib.Core.Path.{_∙_}
 use native.Mathlib.Omega.{arith}
 use borrow.Author.Needs.{needs}
-use Rattle.completeness.specs.SheetRules.{rounds-most}
+use Rattle.layouts.specs.SheetRules.{rounds-most}
 use Rattle.definition.specs.Sheet.{edition1}
 use Rattle.domain.specs.OfSheet.{fitting, points-of-sheet}
 use Rattle.line.specs.Text.{begun}

@@ -4,7 +4,7 @@ use native.Mathlib.Omega.{arith}
 use mathlib.Core.Path.{_≡_, refl, sym, ap, _∙_, subst}
 use lib.ListN.{length, getD, drop, set, length-set}
 use borrow.Author.Needs.{needs}
-use Rattle.domain.specs.Filled.{Filled, filled-first}
+use Rattle.list_laws.specs.Filled.{Filled, filled-first}
 use Rattle.lists.proofs.Interpolating.{Walked, sumAt, raisedAt, walk-turn}
 use Rattle.lists.proofs.add_and_raise.Statement.{statement}
 use Rattle.lists.proofs.add_and_raise.Tie as tie

@@ -4,7 +4,7 @@ use native.Mathlib.Omega.{arith}
 use mathlib.Core.Path.{_≡_, refl, sym, ap, _∙_, subst}
 use lib.ListN.{length, getD, drop, set, length-set}
 use borrow.Author.Needs.{needs}
-use Rattle.domain.specs.Filled.{Filled, filled-first, filled-next}
+use Rattle.list_laws.specs.Filled.{Filled, filled-first, filled-next}
 use Rattle.lists.proofs.fill.Statement.{statement}
 use Rattle.lists.proofs.fill.Tie as tie
 

@@ -3,7 +3,7 @@ use Prim.Native.Nat.{_-_}
 use native.Mathlib.Omega.{arith}
 use mathlib.Core.Path.{refl}
 use borrow.Author.Needs.{needs}
-use Rattle.completeness.specs.SheetRules.{long-enough}
+use Rattle.layouts.specs.SheetRules.{long-enough}
 use Rattle.edition.specs.Meaning.{editionOf}
 use Rattle.outcome.specs.Answers.{at-place, nowhere}
 use Rattle.outcome.specs.Meaning.{outcomeOf, placeOf}

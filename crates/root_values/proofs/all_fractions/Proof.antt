@@ -13,12 +13,12 @@ use Rattle.root_values.proofs.all_fractions.Statement.{statement}
 use Rattle.root_values.proofs.all_fractions.Tie as tie
 
 abbrev Inv-loop : tie.InvT-loop
-Inv-loop field pw table ac vg how k js tops₀ bottoms₀ i₀ tops bottoms i =
+Inv-loop field pw table ac vg oracle k js tops₀ bottoms₀ i₀ tops bottoms i =
     (i ≤ length js)
-    × ((length tops ≡ length tops₀) × ((length bottoms ≡ length bottoms₀) × Placed (λ j m v w. Fraction field (rootIn field pw table ac vg how j m) v w) k js tops bottoms i))
+    × ((length tops ≡ length tops₀) × ((length bottoms ≡ length bottoms₀) × Placed (λ j m v w. Fraction field (rootIn field pw table ac vg oracle j m) v w) k js tops bottoms i))
 
 abbrev μ-loop : tie.MeasureT-loop
-μ-loop field pw table ac vg how k js tops₀ bottoms₀ i₀ tops bottoms i = length js - i
+μ-loop field pw table ac vg oracle k js tops₀ bottoms₀ i₀ tops bottoms i = length js - i
 
 loop-holds : tie.Need-loop-holds Inv-loop μ-loop
 loop-holds c = (omega arith, (refl, (refl, placed-none _ _ _ _ _)))
@@ -100,8 +100,8 @@ loop-again c =
         put-length (l .coin * a .k) (a .k) (l .tops) (f .last .1 .1 .1 .1 .1 .1 .1 .0) (f .kept .1 .1 .1 .1 .1 .1 .1 .0) ∙ l .inv .1 .0,
         (
           put-length (l .coin * a .k) (a .k) (l .bottoms) (f .last .1 .1 .1 .1 .1 .1 .1 .1 .0) (f .kept .1 .1 .1 .1 .1 .1 .1 .1 .0) ∙ l .inv .1 .1 .0,
-          placed-next (λ j m v w. Fraction (a .field) (rootIn (a .field) (a .pw .now) (a .table .now) (a .ac .now) (a .vg .now) (a .how) j m) v w) (a .k) (a .js .now) (l .coin) (l .coin * a .k + a .k - l .coin * a .k) (l .coin * a .k + a .k - l .coin * a .k) (l .tops) (l .bottoms) (f .last .1 .1 .1 .1 .1 .1 .1 .0) (f .last .1 .1 .1 .1 .1 .1 .1 .1 .0) room room′ (f .kept .1 .1 .1 .1 .1 .1 .1 .0 ∙ size) (f .kept .1 .1 .1 .1 .1 .1 .1 .1 .0 ∙ size′) (l .inv .1 .1 .1)
-              (λ m u. subst (λ (j : ℕ). Fraction (a .field) ((rootIn (a .field) (a .pw .now) (a .table .now) (a .ac .now) (a .vg .now) (a .how)) j m) (getD (f .last .1 .1 .1 .1 .1 .1 .1 .0) m 0) (getD (f .last .1 .1 .1 .1 .1 .1 .1 .1 .0) m 0)) (c .before .before .before .before .before .before .before .wide .ensures) (f .ensures m (omega (arith, u, size)))),
+          placed-next (λ j m v w. Fraction (a .field) (rootIn (a .field) (a .pw .now) (a .table .now) (a .ac .now) (a .vg .now) (a .oracle) j m) v w) (a .k) (a .js .now) (l .coin) (l .coin * a .k + a .k - l .coin * a .k) (l .coin * a .k + a .k - l .coin * a .k) (l .tops) (l .bottoms) (f .last .1 .1 .1 .1 .1 .1 .1 .0) (f .last .1 .1 .1 .1 .1 .1 .1 .1 .0) room room′ (f .kept .1 .1 .1 .1 .1 .1 .1 .0 ∙ size) (f .kept .1 .1 .1 .1 .1 .1 .1 .1 .0 ∙ size′) (l .inv .1 .1 .1)
+              (λ m u. subst (λ (j : ℕ). Fraction (a .field) ((rootIn (a .field) (a .pw .now) (a .table .now) (a .ac .now) (a .vg .now) (a .oracle)) j m) (getD (f .last .1 .1 .1 .1 .1 .1 .1 .0) m 0) (getD (f .last .1 .1 .1 .1 .1 .1 .1 .1 .0) m 0)) (c .before .before .before .before .before .before .before .wide .ensures) (f .ensures m (omega (arith, u, size)))),
         ),
       ),
     )
@@ -117,7 +117,7 @@ returns c =
     let a = c .before .before .before .before .before .before .before .before .before .args in
     let l = c .before .loop in
     let all : l .coin ≡ length (a .js .now) = omega (arith, l .inv .0, c .loop-test .left) in
-    subst (Placed (λ j m v w. Fraction (a .field) (rootIn (a .field) (a .pw .now) (a .table .now) (a .ac .now) (a .vg .now) (a .how) j m) v w) (a .k) (a .js .now) (l .tops) (l .bottoms)) all (l .inv .1 .1 .1)
+    subst (Placed (λ j m v w. Fraction (a .field) (rootIn (a .field) (a .pw .now) (a .table .now) (a .ac .now) (a .vg .now) (a .oracle) j m) v w) (a .k) (a .js .now) (l .tops) (l .bottoms)) all (l .inv .1 .1 .1)
 
 pub all-fractions-spec : {M : Type 1} → statement M
 all-fractions-spec =

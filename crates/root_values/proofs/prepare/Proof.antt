@@ -24,7 +24,7 @@ returns c =
     let s = c .before .before .before .before .before .before .before .before .before .before .before .before .before .before in
     let a = s .args in
     let t = c .before .before .all-tables in
-    ready-first (a .field) (a .pw .now) (a .table .now) (a .ac .now) (a .vg .now) (a .how) (a .k) (s .pre .1 .0) (a .js .now) (t .last .1 .1 .1 .1 .0) (c .before .before .before .before .if1 .taken) (t .ensures)
+    ready-first (a .field) (a .pw .now) (a .table .now) (a .ac .now) (a .vg .now) (a .oracle) (a .k) (s .pre .1 .0) (a .js .now) (t .last .1 .1 .1 .1 .0) (c .before .before .before .before .if1 .taken) (t .ensures)
 
 all-fractions-requires : tie.Need-all-fractions-requires
 all-fractions-requires c κs =
@@ -65,7 +65,7 @@ divide-requires c κs =
     let size′ = length-take-le (length (a .js .now) * a .k) (f .last .1 .1 .1 .1 .1 .1 .1 .1 .1 .0) room′ in
     let some : 0 < a .k = omega (arith, folded (s .pre .1 .0)) in (
       (size ∙ sym size′, omega (arith, size′, s .pre .1 .1 .1 .1 .1 .0)),
-      all-nonzero (a .field) (rootIn (a .field) (a .pw .now) (a .table .now) (a .ac .now) (a .vg .now) (a .how)) (a .k) (a .js .now) (f .last .1 .1 .1 .1 .1 .1 .1 .1 .0) (f .last .1 .1 .1 .1 .1 .1 .1 .1 .1 .0) (f .ensures) room room′ some,
+      all-nonzero (a .field) (rootIn (a .field) (a .pw .now) (a .table .now) (a .ac .now) (a .vg .now) (a .oracle)) (a .k) (a .js .now) (f .last .1 .1 .1 .1 .1 .1 .1 .1 .0) (f .last .1 .1 .1 .1 .1 .1 .1 .1 .1 .0) (f .ensures) room room′ some,
     )
 
 same-length-2 : tie.Need-same-length-2
@@ -83,7 +83,7 @@ returns-2 c =
     let a = s .args in
     let f = c .before .before .before .before .before .before .before .before .before .before .before .before .before .before .all-fractions in
     let d = c .before .before .before .before .before .before .divide in
-    ready-next (a .field) (rootIn (a .field) (a .pw .now) (a .table .now) (a .ac .now) (a .vg .now) (a .how)) (a .k) (a .js .now) (f .last .1 .1 .1 .1 .1 .1 .1 .1 .0) (f .last .1 .1 .1 .1 .1 .1 .1 .1 .1 .0) (f .ensures)
+    ready-next (a .field) (rootIn (a .field) (a .pw .now) (a .table .now) (a .ac .now) (a .vg .now) (a .oracle)) (a .k) (a .js .now) (f .last .1 .1 .1 .1 .1 .1 .1 .1 .0) (f .last .1 .1 .1 .1 .1 .1 .1 .1 .1 .0) (f .ensures)
     (omega (arith, f .kept .1 .1 .1 .1 .1 .1 .1 .1 .0, s .pre .1 .1 .1 .0)) (omega (arith, f .kept .1 .1 .1 .1 .1 .1 .1 .1 .1 .0, s .pre .1 .1 .1 .1 .0)) (d .last .1 .0) (d .kept .1 .0) (d .ensures)
 
 pub prepare-spec : {M : Type 1} → statement M

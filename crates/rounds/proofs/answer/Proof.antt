@@ -40,7 +40,7 @@ returns c =
     let a = s .args in
     let p = c .before .before .before .before .before .before .before .before .before .before .before .before .before .before .before .before .before .prepare in
     let g = c .before .before .before .before .before .before .answer-by in (
-      answer-is (a .field) (a .pw .now) (a .table .now) (a .ac .now) (a .vg .now) (a .how) (length (a .values .now)) (a .r) (a .shifts .now) (p .last .1 .1 .1 .1 .1 .1 .1 .1 .0) (s .pre .1 .0) (p .ensures)
+      answer-is (a .field) (a .pw .now) (a .table .now) (a .ac .now) (a .vg .now) (a .oracle) (length (a .values .now)) (a .r) (a .shifts .now) (p .last .1 .1 .1 .1 .1 .1 .1 .1 .0) (s .pre .1 .0) (p .ensures)
           (a .outs .now) (a .replies .now) {v = kept (g .result) (g .last .1 .1 .1 .1 .1 .1 .1 .1 .1 .0) (g .last .1 .1 .1 .1 .1 .1 .1 .1 .1 .1 .0)} (s .pre .1 .1 .0) (g .ensures .0),
       g .ensures .1,
     )

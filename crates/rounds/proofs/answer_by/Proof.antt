@@ -3,7 +3,7 @@ use mathlib.Core.List.{List}
 use native.Mathlib.Omega.{arith}
 use lib.ListN.{length}
 use Rattle.definition.specs.Polynomial.{Sample, pair}
-use Rattle.samples.specs.Samples.{sifted}
+use Rattle.samples.specs.Samples.{distinctOrClash}
 use Rattle.samples.specs.SampleLaws.{clash-append}
 use Rattle.samples.specs.Answers.{kept-from, kept-clash, kept-none, room}
 use Rattle.rounds.specs.SamplesIn.{numbered, sampleBy}
@@ -37,8 +37,8 @@ returns : tie.Need-returns
 returns c =
     let a = c .before .before .before .before .before .before .before .before .before .before .before .before .before .before .before .before .before .before .before .before .args in
     let p = c .before .before .before .before .before .before .before .before .put-shifts in
-    let shifted : List (Sample _) = numbered (sampleBy (a .field) (a .pw .now) (a .roots .now) (a .how) (length (a .values .now)) (a .r)) 0 (a .shifts .now) in
-    let clash = kept-clash (p .last .1 .1 .1 .1 .1 .1 .1 .0) (p .last .1 .1 .1 .1 .1 .1 .1 .1 .0) {o = sifted (a .field) shifted} (c .enum-told .given .1) (p .ensures .0) in
+    let shifted : List (Sample _) = numbered (sampleBy (a .field) (a .pw .now) (a .roots .now) (a .oracle) (length (a .values .now)) (a .r)) 0 (a .shifts .now) in
+    let clash = kept-clash (p .last .1 .1 .1 .1 .1 .1 .1 .0) (p .last .1 .1 .1 .1 .1 .1 .1 .1 .0) {o = distinctOrClash (a .field) shifted} (c .enum-told .given .1) (p .ensures .0) in
     (kept-none _ _ (clash-append (a .field) (pair (a .outs .now) (a .replies .now)) shifted clash), tt)
 
 push-all-requires : tie.Need-push-all-requires
@@ -64,10 +64,10 @@ returns-2 : tie.Need-returns-2
 returns-2 c =
     let a = c .before .before .before .before .before .before .before .before .before .before .before .before .before .before .before .before .before .before .before .before .before .before .before .before .before .before .before .before .args in
     let p = c .before .before .before .before .before .before .before .before .before .before .before .before .before .before .before .before .put-shifts in
-    let shifted : List (Sample _) = numbered (sampleBy (a .field) (a .pw .now) (a .roots .now) (a .how) (length (a .values .now)) (a .r)) 0 (a .shifts .now) in
+    let shifted : List (Sample _) = numbered (sampleBy (a .field) (a .pw .now) (a .roots .now) (a .oracle) (length (a .values .now)) (a .r)) 0 (a .shifts .now) in
     let all = c .before .before .before .before .push-all in
     let first = c .before .before .before .before .before .before .before .before .s .given .1 in (
-      all .ensures .0 (a .field) shifted (kept-from (p .last .1 .1 .1 .1 .1 .1 .1 .0) (p .last .1 .1 .1 .1 .1 .1 .1 .1 .0) {o = sifted (a .field) shifted} first (p .ensures .0)),
+      all .ensures .0 (a .field) shifted (kept-from (p .last .1 .1 .1 .1 .1 .1 .1 .0) (p .last .1 .1 .1 .1 .1 .1 .1 .1 .0) {o = distinctOrClash (a .field) shifted} first (p .ensures .0)),
       room-add {n = length (a .px .now)} (length (a .shifts .now)) (length (a .outs .now)) (all .result) (room (length (a .px .now)) (length (a .shifts .now)) first (p .ensures .1)) (all .ensures .1),
     )
 

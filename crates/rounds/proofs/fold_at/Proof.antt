@@ -43,7 +43,7 @@ returns c =
     let s = c .before .before .before .before .before .before .before .before .before .before .before .before .before in
     let a = s .args in
     let g = c .before .before .before .before .before .before .before .before .gather in
-    folded (a .field) (a .pw .now) (a .roots .now) (a .how) (length (a .values .now)) (a .r) (a .i) (a .j) (g .last .1 .1 .1 .0) (s .pre .1 .0) (g .kept .1 .1 .1 .0) (g .ensures .passed)
+    folded (a .field) (a .pw .now) (a .roots .now) (a .oracle) (length (a .values .now)) (a .r) (a .i) (a .j) (g .last .1 .1 .1 .0) (s .pre .1 .0) (g .kept .1 .1 .1 .0) (g .ensures .passed)
     (c .before .before .fold-values .ensures)
 
 pub fold-at-spec : {M : Type 1} → statement M

@@ -22,7 +22,7 @@ same-length c = search needs
 returns : tie.Need-returns
 returns c =
     let a = c .before .before .before .before .before .before .before .before .args in
-    sampled (a .field) (a .pw .now) (a .roots .now) (a .how) (length (a .values .now)) (a .r) (a .i) (a .j) (c .before .before .before .before .shift-point .ensures .0) (c .before .before .fold-at .ensures)
+    sampled (a .field) (a .pw .now) (a .roots .now) (a .oracle) (length (a .values .now)) (a .r) (a .i) (a .j) (c .before .before .before .before .shift-point .ensures .0) (c .before .before .fold-at .ensures)
 
 pub sample-at-spec : {M : Type 1} → statement M
 sample-at-spec = tie.close (tie.spec shift-point-requires fold-at-requires same-length returns)

@@ -5,7 +5,7 @@ use borrow.Author.Needs.{needs}
 use Rattle.samples.proofs.push.Statement.{statement}
 use Rattle.samples.proofs.push.Tie as tie
 
-look-requires : tie.Need-look-requires
+look-requires : tie.Need-find-requires
 look-requires c κs = search needs
 
 enum-known-f : tie.Need-enum-known-f
@@ -20,7 +20,7 @@ same-length-2 c = search needs
 returns : tie.Need-returns
 returns c =
     let a = c .before .before .before .before .before .before .before .before .before .args in
-    (put-same (a .xs .now) (a .ys .now) (a .k) (a .x) (a .y) (c .before .before .before .before .look .ensures) (c .before .before .f .given .1) (c .if1 .taken), (omega arith, omega arith))
+    (put-same (a .xs .now) (a .ys .now) (a .k) (a .x) (a .y) (c .before .before .before .before .find .ensures) (c .before .before .f .given .1) (c .if1 .taken), (omega arith, omega arith))
 
 same-length-3 : tie.Need-same-length-3
 same-length-3 c = search needs
@@ -31,7 +31,7 @@ same-length-4 c = search needs
 returns-2 : tie.Need-returns-2
 returns-2 c =
     let a = c .before .before .before .before .before .before .before .before .before .args in
-    (put-clash (a .xs .now) (a .ys .now) (a .k) (a .x) (a .y) (c .before .before .before .before .look .ensures) (c .before .before .f .given .1) (c .if1 .left), tt)
+    (put-clash (a .xs .now) (a .ys .now) (a .k) (a .x) (a .y) (c .before .before .before .before .find .ensures) (c .before .before .f .given .1) (c .if1 .left), tt)
 
 enum-told : tie.Need-enum-told
 enum-told c = search needs
@@ -60,7 +60,7 @@ same-length-6 c = search needs
 returns-3 : tie.Need-returns-3
 returns-3 c =
     let a = c .before .before .before .before .before .before .before .args in
-    (put-new (a .xs .now) (a .ys .now) (a .k) (a .x) (a .y) (c .before .before .look .ensures) (c .enum-told .given .1) (omega arith) (omega arith) (omega arith), (omega arith, omega arith))
+    (put-new (a .xs .now) (a .ys .now) (a .k) (a .x) (a .y) (c .before .before .find .ensures) (c .enum-told .given .1) (omega arith) (omega arith) (omega arith), (omega arith, omega arith))
 
 pub push-spec : {M : Type 1} → statement M
 push-spec =

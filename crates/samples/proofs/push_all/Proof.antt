@@ -6,7 +6,7 @@ use Prim.Native.Nat.{ℕ, _+_, _-_, _≤_}
 use native.Mathlib.Omega.{arith}
 use lib.ListN.{length, drop}
 use Rattle.definition.specs.Polynomial.{Sample, pair}
-use Rattle.samples.specs.Samples.{sifted}
+use Rattle.samples.specs.Samples.{distinctOrClash}
 use Rattle.samples.specs.Answers.{kept-from, kept-clash, kept-none, kept-some, room}
 use Rattle.samples.proofs.Steps.{walk-end, walk-turn, walk-clash}
 use Rattle.samples.proofs.push_all.Statement.{statement}
@@ -20,8 +20,8 @@ Inv-loop xs ys px₀ py₀ from k₀ i₀ px py k i =
     × ((i ≤ length xs)
     × ((length px ≡ length px₀)
     × ((length py ≡ length px₀)
-    × ((field : ℕ) (ps : List (Sample ℕ)) → some (pair (drop from px₀) (drop from py₀)) ≡ sifted field ps →
-    some (pair (drop k px) (drop k py)) ≡ sifted field (pair (drop i xs) (drop i ys) ++ ps)))))))
+    × ((field : ℕ) (ps : List (Sample ℕ)) → some (pair (drop from px₀) (drop from py₀)) ≡ distinctOrClash field ps →
+    some (pair (drop k px) (drop k py)) ≡ distinctOrClash field (pair (drop i xs) (drop i ys) ++ ps)))))))
 
 abbrev μ-loop : tie.MeasureT-loop
 μ-loop xs ys px₀ py₀ from k₀ i₀ px py k i = i
@@ -29,7 +29,7 @@ abbrev μ-loop : tie.MeasureT-loop
 loop-holds : tie.Need-loop-holds Inv-loop μ-loop
 loop-holds c =
     let a = c .before .before .before .before .args in
-    (omega arith, (omega arith, (omega arith, (omega arith, (refl, (omega arith, λ field ps h. h ∙ ap (sifted field) (walk-end field (a .xs .now) (a .ys .now) ps)))))))
+    (omega arith, (omega arith, (omega arith, (omega arith, (refl, (omega arith, λ field ps h. h ∙ ap (distinctOrClash field) (walk-end field (a .xs .now) (a .ys .now) ps)))))))
 
 sub-i : tie.Need-sub-i Inv-loop μ-loop
 sub-i c = omega arith

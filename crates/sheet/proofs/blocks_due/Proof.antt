@@ -2,7 +2,7 @@
 use native.Mathlib.Omega.{arith}
 use mathlib.Core.Path.{ap}
 use borrow.Author.Needs.{needs}
-use Rattle.completeness.specs.DueSizes.{blocks-most}
+use Rattle.layouts.specs.DueSizes.{blocks-most}
 use Rattle.definition.specs.Block.{blockCount}
 use Rattle.edition.specs.Meaning.{editionOf}
 use Rattle.sheet.proofs.SizeLaws.{blocks-least}

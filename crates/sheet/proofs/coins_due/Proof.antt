@@ -1,7 +1,7 @@
 -- `sheet::coins_due` meets its contract. The invariant: what is counted is the coins before table i + 1. The measure is what is left of the rounds. Assumes nothing.
 use Prim.Native.Nat.{_+_, _-_}
 use native.Mathlib.Omega.{arith}
-use Rattle.completeness.specs.SheetRules.{long-enough}
+use Rattle.layouts.specs.SheetRules.{long-enough}
 use Rattle.edition.specs.Meaning.{editionOf}
 use Rattle.sheet.proofs.SizeLaws.{CountedCoins, coins-done, coins-start, coins-turn, few, outs-small, time-small, time-there}
 use Rattle.sheet.proofs.coins_due.Statement.{statement}

@@ -1,7 +1,7 @@
 -- `sheet::next_degree` meets its contract. k_i is a power of two, by which a shift divides; its logarithm is at most 4. Past M nothing is said of the answer. Assumes nothing.
 use native.Mathlib.Omega.{arith}
 use borrow.Author.Needs.{needs}
-use Rattle.completeness.specs.SheetRules.{folding-small, long-enough}
+use Rattle.layouts.specs.SheetRules.{folding-small, long-enough}
 use Rattle.edition.specs.Meaning.{editionOf}
 use Rattle.sheet.proofs.FoldLaws.{degree-moved, degree-past, folding}
 use Rattle.sheet.proofs.RuleLaws.{fold-one-bit, log-small}

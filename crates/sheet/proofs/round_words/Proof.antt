@@ -1,27 +1,27 @@
 -- `sheet::round_words` meets its contract. The sum is small, and so is each part of it. Assumes nothing.
 use native.Mathlib.Omega.{arith}
-use Rattle.sheet.specs.Sizes.{roundWords}
+use Rattle.sheet.specs.Sizes.{roundWordCount}
 use Rattle.sheet.proofs.round_words.Statement.{statement}
 use Rattle.sheet.proofs.round_words.Tie as tie
 
 mul-result : tie.Need-mul-result
-unfolding roundWords
+unfolding roundWordCount
 mul-result c = omega arith
 
 add-result : tie.Need-add-result
-unfolding roundWords
+unfolding roundWordCount
 add-result c = omega arith
 
 add-result-2 : tie.Need-add-result-2
-unfolding roundWords
+unfolding roundWordCount
 add-result-2 c = omega arith
 
 add-result-3 : tie.Need-add-result-3
-unfolding roundWords
+unfolding roundWordCount
 add-result-3 c = omega arith
 
 returns : tie.Need-returns
-unfolding roundWords
+unfolding roundWordCount
 returns c = omega arith
 
 pub round-words-spec : {M : Type 1} → statement M

@@ -5,7 +5,7 @@ use native.Mathlib.Nat.{mul-le-mul}
 use native.Mathlib.Omega.{arith}
 use lib.ListN.{getD}
 use borrow.Author.Needs.{needs}
-use Rattle.completeness.specs.SheetRules.{folding-small}
+use Rattle.layouts.specs.SheetRules.{folding-small}
 use Rattle.definition.specs.Sheet.{foldRule}
 use Rattle.sheet.proofs.RuleLaws.{degree-one-bit, fold-one-bit, log-small, rounds-by-logs, rounds-in-two, too-many-rounds}
 use Rattle.sheet.proofs.rounds_rule.Statement.{statement}

@@ -2,7 +2,7 @@
 use Rattle.sheet.proofs.SizeLaws.{size-one-bit}
 use Rattle.edition.specs.Meaning.{editionOf}
 use native.Mathlib.Omega.{arith}
-use Rattle.completeness.specs.SheetRules.{long-enough}
+use Rattle.layouts.specs.SheetRules.{long-enough}
 use borrow.Author.Needs.{needs}
 use Rattle.sheet.proofs.size_log.Statement.{statement}
 use Rattle.sheet.proofs.size_log.Tie as tie

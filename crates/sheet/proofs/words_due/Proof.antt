@@ -1,9 +1,8 @@
 -- `sheet::words_due` meets its contract. The invariant: what is counted is where round i + 1 begins. The measure is what is left of the rounds. Assumes nothing.
 use Prim.Native.Nat.{_+_, _-_}
 use native.Mathlib.Omega.{arith}
-use Rattle.completeness.specs.DueSizes.{words-most}
-use Rattle.completeness.specs.FileSize.{short-sheet}
-use Rattle.completeness.specs.SheetRules.{long-enough}
+use Rattle.layouts.specs.DueSizes.{words-most}
+use Rattle.layouts.specs.SheetRules.{long-enough, short-sheet}
 use Rattle.edition.specs.Meaning.{editionOf}
 use Rattle.sheet.proofs.FoldLaws.{fewer-folds, passed-folds}
 use Rattle.sheet.proofs.SizeLaws.{Counted, few, first-size, level-below, log-small, size-small, time-there, words-done, words-fit, words-start, words-turn}

@@ -5,7 +5,7 @@ use mathlib.Core.Path.{_≡_, refl, sym, ap, _∙_, subst}
 use lib.ListN.{length, getD, drop, set, length-set}
 use borrow.Author.Needs.{needs}
 use Rattle.definition.specs.Field.{fieldOf}
-use Rattle.domain.specs.Filled.{Filled, filled-first, filled-next}
+use Rattle.list_laws.specs.Filled.{Filled, filled-first, filled-next}
 use Rattle.sums.specs.AtRoots.{everyNth}
 use Rattle.sums.specs.Sums.{products}
 use Rattle.sums.proofs.residues.Statement.{statement}

@@ -5,7 +5,7 @@ use mathlib.Core.Path.{_≡_, ap, _∙_, subst}
 use lib.ListN.{length}
 use borrow.Author.Needs.{needs}
 use Rattle.definition.specs.Field.{Field, fieldOf}
-use Rattle.domain.specs.Filled.{Filled, filled-first, filled-next}
+use Rattle.list_laws.specs.Filled.{Filled, filled-first, filled-next}
 use Rattle.tables.specs.Halving.{pointAt}
 use Rattle.tables.proofs.Sizes.{place-inside}
 use Rattle.tables.proofs.linear.Statement.{statement}

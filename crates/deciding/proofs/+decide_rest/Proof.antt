@@ -1,0 +1,315 @@
+-- `deciding::decide_rest` meets its contract, by recursion over the rounds: the measure is what is left of 6 levels. Assumes nothing.
+use Prim.Native.Nat.{ℕ, _-_, _≤_, _<_}
+use mathlib.Core.Path.{_∙_, sym}
+use native.Mathlib.Omega.{arith}
+use lib.ListN.{length, getD}
+use Rattle.layouts.specs.Levels.{roundsOf}
+use Rattle.definition.specs.Sheet.{sheetOf}
+use Rattle.edition.specs.Meaning.{editionOf}
+use borrow.Author.Needs.{needs}
+use Rattle.outcome.specs.Meaning.{outcomeOf, verdictOf}
+use Rattle.deciding.specs.Inside.{final-inside, round-inside, scale-small}
+use Rattle.deciding.proofs.Ready.{apart-ready, clash-ready, level-next, most-next, next-decided, next-ready, not-last, room-in}
+use borrow.Fn.Kinds.{In}
+use borrow.Fn.PlainCycle.{Measures, is, falls, and}
+use Rattle.deciding.proofs.decide_rest.Reads as rest
+use Rattle.deciding.proofs.decide_rest.Kinds as rest-kinds
+use Rattle.deciding.proofs.+decide_rest.Lts-decide_rest as rest-lts
+use Rattle.deciding.proofs.decide_final.Reads as last-reads
+use Rattle.deciding.proofs.next_coin.Reads as next-coin-reads
+use Rattle.deciding.proofs.next_oracle.Reads as next-function-reads
+use Rattle.deciding.proofs.next_state.Reads as next-state-reads
+use Rattle.deciding.proofs.round_reads.Reads as round-reads-reads
+use Rattle.deciding.proofs.room.Reads as room-reads
+use Rattle.deciding.proofs.next_samples.Reads as round-at-reads
+use Rattle.deciding.proofs.correction.Reads as correction-reads
+use Rattle.lists.proofs.places.Reads as places-reads
+use Rattle.lists.proofs.double_places.Reads as double-places-reads
+use Rattle.deciding.proofs.+decide_rest.{statement}
+use Rattle.deciding.proofs.+decide_rest.Tie.{close}
+
+abbrev μ-rest : Measures 4 rest-kinds.ps ℕ
+μ-rest κs a = 6 - a .1 .1 .1 .0 .level
+
+abbrev rest-at : ℕ → In 4 rest-kinds.ps
+rest-at t = and 4 rest-kinds.ps (is 4 rest-kinds.ps μ-rest t) rest.Pre
+
+abbrev rest-below : ℕ → In 4 rest-kinds.ps
+rest-below t = and 4 rest-kinds.ps (falls 4 rest-kinds.ps _<_ μ-rest t) rest.Pre
+
+abbrev calls : ℕ → rest-lts.Claims
+calls t = (
+  last-reads.Asked,
+  last-reads.Learnt,
+  next-state-reads.Asked,
+  next-state-reads.Learnt,
+  round-reads-reads.Asked,
+  round-reads-reads.Learnt,
+  room-reads.Asked,
+  room-reads.Learnt,
+  round-at-reads.Asked,
+  round-at-reads.Learnt,
+  places-reads.Asked,
+  places-reads.Learnt,
+  double-places-reads.Asked,
+  double-places-reads.Learnt,
+  correction-reads.Asked,
+  correction-reads.Learnt,
+  next-coin-reads.Asked,
+  next-coin-reads.Learnt,
+  next-function-reads.Asked,
+  next-function-reads.Learnt,
+  rest-below t,
+  rest.Post,
+)
+
+rest-shared-slice-read-if1 : (t : ℕ) → rest-lts.Need-shared-slice-read-if1 (calls t) (rest-at t) rest.Post
+rest-shared-slice-read-if1 t c = let s = c .before .before .before .before .before in omega (arith, s .pre .1 .0 .long)
+
+rest-cast-if1 : (t : ℕ) → rest-lts.Need-cast-if1 (calls t) (rest-at t) rest.Post
+rest-cast-if1 t c = omega (arith, c .shared-slice-known5 .given 4)
+
+rest-last-requires : (t : ℕ) → rest-lts.Need-decide-final-requires (calls t) (rest-at t) rest.Post
+rest-last-requires t c κs =
+    let s = c .before .before .before .before .before .before .before in
+    let a = s .args in
+    let w = a .w .now in
+    let v = s .pre .1 .0 in
+    let ok = s .pre .1 .1 .0 in
+    let end = c .if1 .taken ∙ v .rounds in
+    (ok, (s .pre .1 .1 .1 .0, ((end, final-inside (sheetOf (editionOf (a .e)) w) w (a .state) (ok .place) end (editionOf (a .e)) v), s .pre .1 .1 .1 .1)))
+
+rest-returns : (t : ℕ) → rest-lts.Need-returns (calls t) (rest-at t) rest.Post
+rest-returns t c = c .decide-final .ensures
+
+rest-next-state-requires : (t : ℕ) → rest-lts.Need-next-state-requires (calls t) (rest-at t) rest.Post
+rest-next-state-requires t c κs =
+    let s = c .before .before .before .before .before .before .before in
+    let a = s .args in
+    let w = a .w .now in
+    let h = sheetOf (editionOf (a .e)) w in
+    let st = a .state in
+    let v = s .pre .1 .0 in
+    let ok = s .pre .1 .1 .0 in
+    round-inside h w st (ok .place) (not-last (st .level) (roundsOf h) (getD w 4 0) (v .rounds) (ok .place .level) (c .if1 .left)) (editionOf (a .e)) v
+
+rest-round-reads-requires : (t : ℕ) → rest-lts.Need-round-reads-requires (calls t) (rest-at t) rest.Post
+rest-round-reads-requires t c κs =
+    let s = c .before .before .before .before .before .before .before .before in
+    let a = s .args in
+    let w = a .w .now in
+    let h = sheetOf (editionOf (a .e)) w in
+    let st = a .state in
+    let v = s .pre .1 .0 in
+    let ok = s .pre .1 .1 .0 in
+    (round-inside h w st (ok .place) (not-last (st .level) (roundsOf h) (getD w 4 0) (v .rounds) (ok .place .level) (c .before .if1 .left)) (editionOf (a .e)) v, omega (arith, s .pre .1 .1 .1 .1, ok .place .level, ok .place .sheet .rounds))
+
+rest-room-requires : (t : ℕ) → rest-lts.Need-room-requires (calls t) (rest-at t) rest.Post
+rest-room-requires t c κs = search needs
+
+rest-room-requires-2 : (t : ℕ) → rest-lts.Need-room-requires-2 (calls t) (rest-at t) rest.Post
+rest-room-requires-2 t c κs = search needs
+
+rest-slice-aggregate-round-at : (t : ℕ) → rest-lts.Need-slice-aggregate-next-samples (calls t) (rest-at t) rest.Post
+rest-slice-aggregate-round-at t c = sym (c .before .before .room .ensures)
+
+rest-slice-aggregate-round-at-2 : (t : ℕ) → rest-lts.Need-slice-aggregate-next-samples-2 (calls t) (rest-at t) rest.Post
+rest-slice-aggregate-round-at-2 t c = sym (c .before .before .room2 .ensures)
+
+rest-round-at-requires : (t : ℕ) → rest-lts.Need-next-samples-requires (calls t) (rest-at t) rest.Post
+rest-round-at-requires t c κs =
+    let s = c .before .before .before .before .before .before .before .before .before .before .before .before .before in
+    let a = s .args in
+    let w = a .w .now in
+    let h = sheetOf (editionOf (a .e)) w in
+    let st = a .state in
+    let v = s .pre .1 .0 in
+    let ok = s .pre .1 .1 .0 in
+    (ok, (round-inside h w st (ok .place) (not-last (st .level) (roundsOf h) (getD w 4 0) (v .rounds) (ok .place .level) (c .before .before .before .before .before .before .if1 .left)) (editionOf (a .e)) v, ((c .before .before .before .room .ensures, c .before .before .room2 .ensures), s .pre .1 .1 .1 .0 .clear)))
+
+rest-enum-known-g : (t : ℕ) → rest-lts.Need-enum-known-g (calls t) (rest-at t) rest.Post
+rest-enum-known-g t c = search needs
+
+rest-enum-told : (t : ℕ) → rest-lts.Need-enum-told (calls t) (rest-at t) rest.Post
+rest-enum-told t c = search needs
+
+rest-returns-2 : (t : ℕ) → rest-lts.Need-returns-2 (calls t) (rest-at t) rest.Post
+unfolding verdictOf outcomeOf
+rest-returns-2 t c =
+    let r = c .before .before .before .before in
+    let s = r .before .before .before .before .before .before .before .before .before .before .before .before .before .before in
+    let a = s .args in
+    let w = a .w .now in
+    let h = sheetOf (editionOf (a .e)) w in
+    let st = a .state in
+    let v = s .pre .1 .0 in
+    let ok = s .pre .1 .1 .0 in
+    let more = not-last (st .level) (roundsOf h) (getD w 4 0) (v .rounds) (ok .place .level) (r .before .before .before .before .before .before .before .if1 .left) in
+    let n = r .before .before .before .before .before .before .next-state in
+    let p = r .before .before .before .before .before .round-reads in
+    let q = r .next-samples in
+    clash-ready h w (a .pw .now) (a .ac .now) (a .vg .now) st (a .reads) (a .r) (a .oracle) ok more (n .result) (n .ensures) (q .result)
+    (q .last .1 .1 .1 .1 .1 .1 .1 .1 .0) (q .last .1 .1 .1 .1 .1 .1 .1 .1 .1 .0) (p .result) (p .ensures) (c .enum-told .given .1) (q .ensures .0)
+
+rest-places-requires : (t : ℕ) → rest-lts.Need-places-requires (calls t) (rest-at t) rest.Post
+rest-places-requires t c κs = search needs
+
+rest-double-places-requires : (t : ℕ) → rest-lts.Need-double-places-requires (calls t) (rest-at t) rest.Post
+rest-double-places-requires t c κs = search needs
+
+rest-slice-aggregate-correction : (t : ℕ) → rest-lts.Need-slice-aggregate-correction (calls t) (rest-at t) rest.Post
+rest-slice-aggregate-correction t c = let r = c .before .before .before .before .before .before .before .before in sym (r .next-samples .kept .1 .1 .1 .1 .1 .1 .1 .1 .0 ∙ r .before .before .before .before .room .ensures)
+
+rest-slice-aggregate-correction-2 : (t : ℕ) → rest-lts.Need-slice-aggregate-correction-2 (calls t) (rest-at t) rest.Post
+rest-slice-aggregate-correction-2 t c = let r = c .before .before .before .before .before .before .before .before .before in sym (r .next-samples .kept .1 .1 .1 .1 .1 .1 .1 .1 .1 .0 ∙ r .before .before .before .room2 .ensures)
+
+rest-slice-aggregate-correction-3 : (t : ℕ) → rest-lts.Need-slice-aggregate-correction-3 (calls t) (rest-at t) rest.Post
+rest-slice-aggregate-correction-3 t c = sym (c .before .before .before .before .places .ensures)
+
+rest-slice-aggregate-correction-4 : (t : ℕ) → rest-lts.Need-slice-aggregate-correction-4 (calls t) (rest-at t) rest.Post
+rest-slice-aggregate-correction-4 t c = sym (c .before .before .before .before .double-places .ensures)
+
+rest-correction-requires : (t : ℕ) → rest-lts.Need-correction-requires (calls t) (rest-at t) rest.Post
+rest-correction-requires t c κs =
+    let r = c .before .before .before .before .before .before .before .before .before .before .before in
+    let q = r .next-samples in
+    let lx = q .kept .1 .1 .1 .1 .1 .1 .1 .1 .0 ∙ r .before .before .before .before .room .ensures in
+    let ly = q .kept .1 .1 .1 .1 .1 .1 .1 .1 .1 .0 ∙ r .before .before .before .room2 .ensures in
+    let s = r .before .before .before .before .before .before .before .before .before .before .before .before .before .before in
+    let a = s .args in
+    let w = a .w .now in
+    let h = sheetOf (editionOf (a .e)) w in
+    let st = a .state in
+    let v = s .pre .1 .0 in
+    let ok = s .pre .1 .1 .0 in
+    let more = not-last (st .level) (roundsOf h) (getD w 4 0) (v .rounds) (ok .place .level) (r .before .before .before .before .before .before .before .if1 .left) in
+    let n = r .before .before .before .before .before .before .next-state in
+    let g = c .before .before .before .before .before .before .before .g .given in (
+      round-inside h w st (ok .place) more (editionOf (a .e)) v,
+      (
+        (omega (arith, lx, room-in (q .result) (g .0 .0) (g .1) (q .ensures .1)), (lx, ly)),
+        (
+          (c .before .before .before .before .before .places .ensures, c .before .before .before .before .double-places .ensures),
+          apart-ready h w (a .pw .now) (a .ac .now) (a .vg .now) st (a .reads) (a .r) (a .oracle) ok more (n .result) (n .ensures) (q .result)
+              (q .last .1 .1 .1 .1 .1 .1 .1 .1 .0) (q .last .1 .1 .1 .1 .1 .1 .1 .1 .1 .0) (g .0 .0) (g .1) (q .ensures .0) (ly ∙ sym lx) (s .pre .1 .1 .1 .0),
+        ),
+      ),
+    )
+
+rest-next-coin-requires : (t : ℕ) → rest-lts.Need-next-coin-requires (calls t) (rest-at t) rest.Post
+rest-next-coin-requires t c κs =
+    let r = c .before .before .before .before .before .before .before .before .before .before .before .before .before .before in
+    let s = r .before .before .before .before .before .before .before .before .before .before .before .before .before .before in
+    let a = s .args in
+    let w = a .w .now in
+    let h = sheetOf (editionOf (a .e)) w in
+    let st = a .state in
+    let v = s .pre .1 .0 in
+    let ok = s .pre .1 .1 .0 in
+    let more = not-last (st .level) (roundsOf h) (getD w 4 0) (v .rounds) (ok .place .level) (r .before .before .before .before .before .before .before .if1 .left) in
+    round-inside h w st (ok .place) more (editionOf (a .e)) v
+
+rest-next-function-requires : (t : ℕ) → rest-lts.Need-next-oracle-requires (calls t) (rest-at t) rest.Post
+rest-next-function-requires t c κs =
+    let r = c .before .before .before .before .before .before .before .before .before .before .before .before .before .before .before in
+    let s = r .before .before .before .before .before .before .before .before .before .before .before .before .before .before in
+    let a = s .args in
+    let w = a .w .now in
+    let h = sheetOf (editionOf (a .e)) w in
+    let st = a .state in
+    let v = s .pre .1 .0 in
+    let ok = s .pre .1 .1 .0 in
+    let more = not-last (st .level) (roundsOf h) (getD w 4 0) (v .rounds) (ok .place .level) (r .before .before .before .before .before .before .before .if1 .left) in
+    (round-inside h w st (ok .place) more (editionOf (a .e)) v, omega (arith, scale-small h w st (ok .place) (a .oracle .scale) (ok .scale)))
+
+rest-slice-aggregate-rest : (t : ℕ) → rest-lts.Need-slice-aggregate-decide-rest (calls t) (rest-at t) rest.Post
+rest-slice-aggregate-rest t c = sym (c .before .before .before .before .before .correction .kept .1 .1 .1 .1 .1 .1 .0 ∙ c .before .before .before .before .before .before .before .before .before .before .before .places .ensures)
+
+rest-slice-aggregate-rest-2 : (t : ℕ) → rest-lts.Need-slice-aggregate-decide-rest-2 (calls t) (rest-at t) rest.Post
+rest-slice-aggregate-rest-2 t c = sym (c .before .before .before .before .before .before .correction .kept .1 .1 .1 .1 .1 .1 .1 .0 ∙ c .before .before .before .before .before .before .before .before .before .before .before .double-places .ensures)
+
+rest-rest-requires : (t : ℕ) → rest-lts.Need-decide-rest-requires (calls t) (rest-at t) rest.Post
+rest-rest-requires t c κs =
+    let r = c .before .before .before .before .before .before .before .before .before .before .before .before .before .before .before .before .before .before in
+    let p = r .before .before .before .before .before .round-reads in
+    let q = r .next-samples in
+    let lx = q .kept .1 .1 .1 .1 .1 .1 .1 .1 .0 ∙ r .before .before .before .before .room .ensures in
+    let ly = q .kept .1 .1 .1 .1 .1 .1 .1 .1 .1 .0 ∙ r .before .before .before .room2 .ensures in
+    let s = r .before .before .before .before .before .before .before .before .before .before .before .before .before .before in
+    let a = s .args in
+    let w = a .w .now in
+    let h = sheetOf (editionOf (a .e)) w in
+    let st = a .state in
+    let v = s .pre .1 .0 in
+    let ok = s .pre .1 .1 .0 in
+    let more = not-last (st .level) (roundsOf h) (getD w 4 0) (v .rounds) (ok .place .level) (r .before .before .before .before .before .before .before .if1 .left) in
+    let n = r .before .before .before .before .before .before .next-state in
+    let px = q .last .1 .1 .1 .1 .1 .1 .1 .1 .0 in
+    let py = q .last .1 .1 .1 .1 .1 .1 .1 .1 .1 .0 in
+    let k = c .before .before .before .before .before .before .correction in
+    let la = k .kept .1 .1 .1 .1 .1 .1 .0 ∙ c .before .before .before .before .before .before .before .before .before .before .before .before .places .ensures in
+    let lv = k .kept .1 .1 .1 .1 .1 .1 .1 .0 ∙ c .before .before .before .before .before .before .before .before .before .before .before .double-places .ensures in
+    let g = c .before .before .before .before .before .before .before .before .before .before .before .before .before .before .g .given in
+    let way = c .before .before .next-oracle in
+    let ready = next-ready h w (a .pw .now) (a .ac .now) (a .vg .now) st (a .reads) (a .r) (a .oracle) ok more (n .result) (n .ensures) (q .result) (g .0 .0) (k .result) (way .result) (way .ensures)
+    px py (k .last .1 .1 .1 .1 .1 .1 .0) (k .last .1 .1 .1 .1 .1 .1 .1 .0) (g .1) (q .ensures .0) la lv (k .ensures .0) (k .ensures .1) (ly ∙ sym lx) (s .pre .1 .1 .1 .0) in
+    let most = most-next h w (a .pw .now) (a .ac .now) (a .vg .now) st (a .reads) (a .r) (a .oracle) ok more (n .result) (n .ensures) (q .result) (p .result) (p .ensures) (s .pre .1 .1 .1 .1) in
+    (omega (arith, s .pre .0, level-next h st (n .result) (n .ensures), more, ok .place .sheet .rounds), (v, (ready .0, (ready .1, most))))
+
+rest-returns-3 : (t : ℕ) → rest-lts.Need-returns-3 (calls t) (rest-at t) rest.Post
+rest-returns-3 t c =
+    let r = c .before .before .before .before .before .before .before .before .before .before .before .before .before .before .before .before .before .before .before in
+    let p = r .before .before .before .before .before .round-reads in
+    let q = r .next-samples in
+    let lx = q .kept .1 .1 .1 .1 .1 .1 .1 .1 .0 ∙ r .before .before .before .before .room .ensures in
+    let ly = q .kept .1 .1 .1 .1 .1 .1 .1 .1 .1 .0 ∙ r .before .before .before .room2 .ensures in
+    let s = r .before .before .before .before .before .before .before .before .before .before .before .before .before .before in
+    let a = s .args in
+    let w = a .w .now in
+    let h = sheetOf (editionOf (a .e)) w in
+    let st = a .state in
+    let v = s .pre .1 .0 in
+    let ok = s .pre .1 .1 .0 in
+    let more = not-last (st .level) (roundsOf h) (getD w 4 0) (v .rounds) (ok .place .level) (r .before .before .before .before .before .before .before .if1 .left) in
+    let n = r .before .before .before .before .before .before .next-state in
+    let px = q .last .1 .1 .1 .1 .1 .1 .1 .1 .0 in
+    let py = q .last .1 .1 .1 .1 .1 .1 .1 .1 .1 .0 in
+    let k = c .before .before .before .before .before .before .before .correction in
+    let la = k .kept .1 .1 .1 .1 .1 .1 .0 ∙ c .before .before .before .before .before .before .before .before .before .before .before .before .before .places .ensures in
+    let lv = k .kept .1 .1 .1 .1 .1 .1 .1 .0 ∙ c .before .before .before .before .before .before .before .before .before .before .before .before .double-places .ensures in
+    let g = c .before .before .before .before .before .before .before .before .before .before .before .before .before .before .before .g .given in
+    let way = c .before .before .before .next-oracle in
+    next-decided h w (a .pw .now) (a .ac .now) (a .vg .now) st (a .reads) (a .r) (a .oracle) ok more (n .result) (n .ensures) (q .result) (g .0 .0) (k .result) (way .result) (way .ensures)
+    px py (k .last .1 .1 .1 .1 .1 .1 .0) (k .last .1 .1 .1 .1 .1 .1 .1 .0) (g .1) (q .ensures .0) la lv (k .ensures .0) (k .ensures .1) (p .ensures) (c .before .before .before .before .next-coin .ensures) (c .decide-rest .ensures)
+
+pub +decide-rest-spec : {M : Type 1} → statement M
++decide-rest-spec = close μ-rest λ t. rest-lts.spec (calls t)
+    (rest-at t)
+    rest.Post
+    (rest-shared-slice-read-if1 t)
+    (rest-cast-if1 t)
+    (rest-last-requires t)
+    (rest-returns t)
+    (rest-next-state-requires t)
+    (rest-round-reads-requires t)
+    (rest-room-requires t)
+    (rest-room-requires-2 t)
+    (rest-slice-aggregate-round-at t)
+    (rest-slice-aggregate-round-at-2 t)
+    (rest-round-at-requires t)
+    (rest-enum-known-g t)
+    (rest-enum-told t)
+    (rest-returns-2 t)
+    (rest-places-requires t)
+    (rest-double-places-requires t)
+    (rest-slice-aggregate-correction t)
+    (rest-slice-aggregate-correction-2 t)
+    (rest-slice-aggregate-correction-3 t)
+    (rest-slice-aggregate-correction-4 t)
+    (rest-correction-requires t)
+    (rest-next-coin-requires t)
+    (rest-next-function-requires t)
+    (rest-slice-aggregate-rest t)
+    (rest-slice-aggregate-rest-2 t)
+    (rest-rest-requires t)
+    (rest-returns-3 t)
