@@ -60,8 +60,8 @@ def conversion(line):
     edition, file, length, answer, number, place, output = line.split()
     before = f"replicate {length} 165"
     after = before if output == int(length) * "a5" else data(output)
-    told = f"done {place}" if answer == "done" else f"refusal {number} {place}"
-    return f"toEdition{edition} ({data(file)}) ({before})", f"record {{ answer = {told}; output = {after} }}"
+    answered = f"done {place}" if answer == "done" else f"refusal {number} {place}"
+    return f"toEdition{edition} ({data(file)}) ({before})", f"record {{ answer = {answered}; output = {after} }}"
 
 
 def drawn_input(line):
