@@ -126,7 +126,7 @@ fn forward_tests(file: &[u8], words: &mut [u32], size: usize) -> Answer
     if let Outcome::Refused(number, place) = read {
         return Answer::Refusal(number, place);
     }
-    output_test(sheet::words_due(Edition::One, &words[..12]) + 6, size)
+    output_test(sizes::words_due(Edition::One, &words[..12]) + 6, size)
 }
 
 // All tests of the way to edition 1.
@@ -143,7 +143,7 @@ fn backward_tests(file: &[u8], words: &mut [u32], size: usize) -> Answer
     if let Found::At(level) = other {
         return Answer::Refusal(13, level);
     }
-    output_test(sheet::words_due(Edition::Two, head) - 6, size)
+    output_test(sizes::words_due(Edition::Two, head) - 6, size)
 }
 
 // Writes the file of the first `count` words at the front of the output. The answer is its number of blocks.

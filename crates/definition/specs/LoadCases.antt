@@ -54,15 +54,12 @@ pub record LoadCases : Type 0 where
   pub none·left·after·0 : drawOut (sheetOf edition1 sheetWords) (some 0) (out round) 0 3 ≡ record { value = 1; next = 811107 }
   -- where 1 is in the domain, as on no sheet, the smallest after 0 is 2
   pub smallest·2 : smallestAllowed (record { prime = 17; generator = 1; size = 16; degree = 8; folds = []; outCoins = 2; repetitions = [] }) (some 0) (out round) ≡ 2
-  -- modulo 1 every draw is a point of the domain: one draw and 64 more, which is 65 steps; modulo 2 a draw after 0 lies in the domain or is
-  -- 0 again, and both count
-  pub again·64 : drawKind (record { prime = 1; generator = 1; size = 2; degree = 2; folds = []; outCoins = 1; repetitions = [] }) none (out round) 1
-      ≡ record { value = 0; next = 244103520 }
+  -- modulo 2, with the domain of 1 alone, a draw after 0 lies in the domain or is 0 again, and both count: one draw and 64 more, which is 65
+  -- steps
   pub again·64·both : drawKind (record { prime = 2; generator = 1; size = 2; degree = 2; folds = []; outCoins = 2; repetitions = [] }) (some 0) (out round) 1
       ≡ record { value = 0; next = 244103520 }
   -- a run drawn from 849, and one from 6, which falls back to the worked sheet; one from 56080, whose second out coin was equal to the first
   -- when first drawn, then in the domain; two runs on one generator
-  pub sheet·849 : drawSheet 849 .value ≡ 0 ∷ 16 ∷ 8 ∷ 2 ∷ 1 ∷ 1 ∷ 1 ∷ 10 ∷ 0 ∷ 0 ∷ 0 ∷ 0 ∷ []
   pub input·849 : drawInput 849 ≡ record {
     value = record {
       sheet = 0 ∷ 16 ∷ 8 ∷ 2 ∷ 1 ∷ 1 ∷ 1 ∷ 10 ∷ 0 ∷ 0 ∷ 0 ∷ 0 ∷ [];
@@ -120,9 +117,7 @@ loadCases = record {
   none·left·second = refl;
   none·left·after·0 = refl;
   smallest·2 = refl;
-  again·64 = refl;
   again·64·both = refl;
-  sheet·849 = refl;
   input·849 = refl;
   input·6 = refl;
   input·56080 = refl;

@@ -73,7 +73,7 @@ fn prove_after_sheet(e: Edition, w: &[u32], f: &[u32], coins: &[u32], room: usiz
     if f.len() != w[2] as usize {
         return Outcome::Refused(10, 1);
     }
-    if coins.len() != sheet::coins_due(e, w) {
+    if coins.len() != sizes::coins_due(e, w) {
         return Outcome::Refused(10, 2);
     }
     let range = input_out_of_range(e, w, f, coins);
@@ -84,7 +84,7 @@ fn prove_after_sheet(e: Edition, w: &[u32], f: &[u32], coins: &[u32], room: usiz
     if let Outcome::Refused(number, place) = outs {
         return Outcome::Refused(number, place);
     }
-    let blocks = sheet::blocks_due(e, w);
+    let blocks = sizes::blocks_due(e, w);
     if room < 512 * blocks {
         return Outcome::Refused(11, blocks);
     }

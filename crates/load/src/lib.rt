@@ -75,7 +75,7 @@ pub fn run(generator: Generator) -> Ran
     let mut coins = coins_room();
     let mut output = file_room();
     let d = w[2] as usize;
-    let n = sheet::coins_due(Edition::One, &w);
+    let n = sizes::coins_due(Edition::One, &w);
     after_sheet(
         &w,
         next,

@@ -65,7 +65,7 @@ pub fn prove_in(
     if let Outcome::Refused(number, place) = tests {
         return Answer::Refusal(number, place);
     }
-    let due = sheet::words_due(e, sheet);
+    let due = sizes::words_due(e, sheet);
     if due <= 1016 {
         let mut few = small_room();
         return write(e, sheet, coefficients, coins, due, &mut few, output);

@@ -1,12 +1,11 @@
--- `sheet::next_degree` meets its contract. k_i is a power of two, by which a shift divides; its logarithm is at most 4. Past M nothing is said of the answer. Assumes nothing.
+-- `sizes::next_degree` meets its contract. k_i is a power of two, by which a shift divides; its logarithm is at most 4. Past M nothing is said of the answer. Assumes nothing.
 use native.Mathlib.Omega.{arith}
 use borrow.Author.Needs.{needs}
 use Rattle.layouts.specs.SheetRules.{folding-small, long-enough}
 use Rattle.edition.specs.Meaning.{editionOf}
-use Rattle.sheet.proofs.FoldLaws.{degree-moved, degree-past, folding}
-use Rattle.sheet.proofs.RuleLaws.{fold-one-bit, log-small}
-use Rattle.sheet.proofs.next_degree.Statement.{statement}
-use Rattle.sheet.proofs.next_degree.Tie as tie
+use Rattle.sizes.proofs.DegreeLaws.{degree-moved, degree-past, fold-one-bit, folding, log-small}
+use Rattle.sizes.proofs.next_degree.Statement.{statement}
+use Rattle.sizes.proofs.next_degree.Tie as tie
 
 shared-slice-read-if1 : tie.Need-shared-slice-read-if1
 shared-slice-read-if1 c = let s = c .before .before in omega (arith, long-enough (editionOf (s .args .e)) (s .args .w .now) (s .pre .0 .0))

@@ -1,11 +1,11 @@
--- `sheet::size_log` meets its contract. Assumes nothing.
-use Rattle.sheet.proofs.SizeLaws.{size-one-bit}
+-- `sizes::size_log` meets its contract. Assumes nothing.
+use Rattle.sizes.proofs.SizeLaws.{size-one-bit}
 use Rattle.edition.specs.Meaning.{editionOf}
 use native.Mathlib.Omega.{arith}
 use Rattle.layouts.specs.SheetRules.{long-enough}
 use borrow.Author.Needs.{needs}
-use Rattle.sheet.proofs.size_log.Statement.{statement}
-use Rattle.sheet.proofs.size_log.Tie as tie
+use Rattle.sizes.proofs.size_log.Statement.{statement}
+use Rattle.sizes.proofs.size_log.Tie as tie
 
 shared-slice-read-log2 : tie.Need-shared-slice-read-log2
 shared-slice-read-log2 c = let s = c .before .before in omega (arith, long-enough (editionOf (s .args .e)) (s .args .w .now) (s .pre .0))

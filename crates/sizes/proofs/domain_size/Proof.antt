@@ -1,12 +1,12 @@
--- `sheet::domain_size` meets its contract. Assumes nothing.
+-- `sizes::domain_size` meets its contract. Assumes nothing.
 use Prim.Native.Nat.{_-_, _^_}
 use native.Mathlib.Nat.{one-mul}
 use native.Mathlib.Omega.{arith}
 use mathlib.Core.Path.{_∙_}
 use lib.Pow.{shl-exact}
 use borrow.Author.Needs.{needs}
-use Rattle.sheet.proofs.domain_size.Statement.{statement}
-use Rattle.sheet.proofs.domain_size.Tie as tie
+use Rattle.sizes.proofs.domain_size.Statement.{statement}
+use Rattle.sizes.proofs.domain_size.Tie as tie
 
 sub-result : tie.Need-sub-result
 sub-result c = search needs

@@ -1,13 +1,13 @@
--- `sheet::blocks_due` meets its contract. A division of at most 8433 words. Assumes nothing.
+-- `sizes::blocks_due` meets its contract. A division of at most 8433 words. Assumes nothing.
 use native.Mathlib.Omega.{arith}
 use mathlib.Core.Path.{ap}
 use borrow.Author.Needs.{needs}
 use Rattle.layouts.specs.DueSizes.{blocks-most}
 use Rattle.definition.specs.Block.{blockCount}
 use Rattle.edition.specs.Meaning.{editionOf}
-use Rattle.sheet.proofs.SizeLaws.{blocks-least}
-use Rattle.sheet.proofs.blocks_due.Statement.{statement}
-use Rattle.sheet.proofs.blocks_due.Tie as tie
+use Rattle.sizes.proofs.SizeLaws.{blocks-least}
+use Rattle.sizes.proofs.blocks_due.Statement.{statement}
+use Rattle.sizes.proofs.blocks_due.Tie as tie
 
 words-due-requires : tie.Need-words-due-requires
 words-due-requires c κs = search needs

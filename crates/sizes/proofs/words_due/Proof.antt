@@ -1,13 +1,13 @@
--- `sheet::words_due` meets its contract. The invariant: what is counted is where round i + 1 begins. The measure is what is left of the rounds. Assumes nothing.
+-- `sizes::words_due` meets its contract. The invariant: what is counted is where round i + 1 begins. The measure is what is left of the rounds. Assumes nothing.
 use Prim.Native.Nat.{_+_, _-_}
 use native.Mathlib.Omega.{arith}
 use Rattle.layouts.specs.DueSizes.{words-most}
 use Rattle.layouts.specs.SheetRules.{long-enough, short-sheet}
 use Rattle.edition.specs.Meaning.{editionOf}
-use Rattle.sheet.proofs.FoldLaws.{fewer-folds, passed-folds}
-use Rattle.sheet.proofs.SizeLaws.{Counted, few, first-size, level-below, log-small, size-small, time-there, words-done, words-fit, words-start, words-turn}
-use Rattle.sheet.proofs.words_due.Statement.{statement}
-use Rattle.sheet.proofs.words_due.Tie as tie
+use Rattle.sizes.proofs.DegreeLaws.{fewer-folds, passed-folds}
+use Rattle.sizes.proofs.SizeLaws.{Counted, few, first-size, level-below, log-small, size-small, time-there, words-done, words-fit, words-start, words-turn}
+use Rattle.sizes.proofs.words_due.Statement.{statement}
+use Rattle.sizes.proofs.words_due.Tie as tie
 
 abbrev Inv-loop : tie.InvT-loop
 Inv-loop e w rounds s log due₀ d₀ i₀ due d i = Counted (editionOf e) w due d i

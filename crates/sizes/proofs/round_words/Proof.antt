@@ -1,8 +1,8 @@
--- `sheet::round_words` meets its contract. The sum is small, and so is each part of it. Assumes nothing.
+-- `sizes::round_words` meets its contract. The sum is small, and so is each part of it. Assumes nothing.
 use native.Mathlib.Omega.{arith}
-use Rattle.sheet.specs.Sizes.{roundWordCount}
-use Rattle.sheet.proofs.round_words.Statement.{statement}
-use Rattle.sheet.proofs.round_words.Tie as tie
+use Rattle.sizes.specs.Words.{roundWordCount}
+use Rattle.sizes.proofs.round_words.Statement.{statement}
+use Rattle.sizes.proofs.round_words.Tie as tie
 
 mul-result : tie.Need-mul-result
 unfolding roundWordCount

@@ -24,10 +24,10 @@ use Rattle.definition.specs.Lists.{productOf}
 use Rattle.definition.specs.Reading.{sheetTest}
 use Rattle.definition.specs.Sheet.{Edition, Sheet, edition1, edition2, finalCount, foldWords, sheetLength, sheetOf}
 use Rattle.definition.specs.Verdict.{accepted}
-use Rattle.sheet.specs.OneBit.{power-ones}
-use Rattle.sheet.specs.Rules.{DegreeAt}
-use Rattle.sheet.specs.Sizes.{roundWordCount}
-use Rattle.sheet.proofs.FoldLaws.{degree-first}
+use Rattle.sizes.specs.OneBit.{power-ones}
+use Rattle.sizes.specs.Degrees.{DegreeAt}
+use Rattle.sizes.specs.Words.{roundWordCount}
+use Rattle.sizes.proofs.DegreeLaws.{degree-first}
 
 factor-most : (x y n : ℕ) → x * y ≡ n → 0 < n → x ≤ n
 factor-most x zero n e h = absurd (omega (arith, mul-zero x))

@@ -1,11 +1,11 @@
--- `sheet::coins_due` meets its contract. The invariant: what is counted is the coins before table i + 1. The measure is what is left of the rounds. Assumes nothing.
+-- `sizes::coins_due` meets its contract. The invariant: what is counted is the coins before table i + 1. The measure is what is left of the rounds. Assumes nothing.
 use Prim.Native.Nat.{_+_, _-_}
 use native.Mathlib.Omega.{arith}
 use Rattle.layouts.specs.SheetRules.{long-enough}
 use Rattle.edition.specs.Meaning.{editionOf}
-use Rattle.sheet.proofs.SizeLaws.{CountedCoins, coins-done, coins-start, coins-turn, few, outs-small, time-small, time-there}
-use Rattle.sheet.proofs.coins_due.Statement.{statement}
-use Rattle.sheet.proofs.coins_due.Tie as tie
+use Rattle.sizes.proofs.SizeLaws.{CountedCoins, coins-done, coins-start, coins-turn, few, outs-small, time-small, time-there}
+use Rattle.sizes.proofs.coins_due.Statement.{statement}
+use Rattle.sizes.proofs.coins_due.Tie as tie
 
 abbrev Inv-loop : tie.InvT-loop
 Inv-loop w rounds s due₀ i₀ due i = CountedCoins w due i
