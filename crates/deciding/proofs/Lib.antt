@@ -1,2 +1,8 @@
-pub mod Made
+pub mod PrefixLaws
+pub mod Inside
+pub mod ReadsGrow
+pub mod Outs
+pub mod Divisors
+pub mod Steps
+pub mod First
 pub mod Ready

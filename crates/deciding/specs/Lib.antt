@@ -1,10 +1,2 @@
-pub mod PrefixInRange
-pub mod State
-pub mod Words
+pub mod Kinds
 pub mod Invariant
-pub mod Inside
-pub mod Reads
-pub mod Divisors
-pub mod Steps
-pub mod First
-pub mod Outs

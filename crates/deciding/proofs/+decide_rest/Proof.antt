@@ -1,14 +1,14 @@
 -- `deciding::decide_rest` meets its contract, by recursion over the rounds: the measure is what is left of 6 levels. Assumes nothing.
-use Prim.Native.Nat.{ℕ, _-_, _≤_, _<_}
+use Prim.Native.Nat.{ℕ, _-_, _<_}
 use mathlib.Core.Path.{_∙_, sym}
 use native.Mathlib.Omega.{arith}
-use lib.ListN.{length, getD}
+use lib.ListN.{getD}
 use Rattle.layouts.specs.Levels.{roundsOf}
 use Rattle.definition.specs.Sheet.{sheetOf}
 use Rattle.edition.specs.Meaning.{editionOf}
 use borrow.Author.Needs.{needs}
 use Rattle.outcome.specs.Meaning.{outcomeOf, verdictOf}
-use Rattle.deciding.specs.Inside.{final-inside, round-inside, scale-small}
+use Rattle.deciding.proofs.Inside.{final-inside, round-inside, scale-small}
 use Rattle.deciding.proofs.Ready.{apart-ready, clash-ready, level-next, most-next, next-decided, next-ready, not-last, room-in}
 use borrow.Fn.Kinds.{In}
 use borrow.Fn.PlainCycle.{Measures, is, falls, and}
@@ -16,13 +16,13 @@ use Rattle.deciding.proofs.decide_rest.Reads as rest
 use Rattle.deciding.proofs.decide_rest.Kinds as rest-kinds
 use Rattle.deciding.proofs.+decide_rest.Lts-decide_rest as rest-lts
 use Rattle.deciding.proofs.decide_final.Reads as last-reads
-use Rattle.deciding.proofs.next_coin.Reads as next-coin-reads
-use Rattle.deciding.proofs.next_oracle.Reads as next-function-reads
-use Rattle.deciding.proofs.next_state.Reads as next-state-reads
-use Rattle.deciding.proofs.round_reads.Reads as round-reads-reads
+use Rattle.level_words.proofs.next_coin.Reads as next-coin-reads
+use Rattle.level_words.proofs.next_oracle.Reads as next-function-reads
+use Rattle.level_words.proofs.next_state.Reads as next-state-reads
+use Rattle.level_words.proofs.round_reads.Reads as round-reads-reads
 use Rattle.deciding.proofs.room.Reads as room-reads
-use Rattle.deciding.proofs.next_samples.Reads as round-at-reads
-use Rattle.deciding.proofs.correction.Reads as correction-reads
+use Rattle.level_words.proofs.next_samples.Reads as round-at-reads
+use Rattle.level_words.proofs.correction.Reads as correction-reads
 use Rattle.lists.proofs.places.Reads as places-reads
 use Rattle.lists.proofs.double_places.Reads as double-places-reads
 use Rattle.deciding.proofs.+decide_rest.{statement}
@@ -125,7 +125,7 @@ rest-round-at-requires t c κs =
     let st = a .state in
     let v = s .pre .1 .0 in
     let ok = s .pre .1 .1 .0 in
-    (ok, (round-inside h w st (ok .place) (not-last (st .level) (roundsOf h) (getD w 4 0) (v .rounds) (ok .place .level) (c .before .before .before .before .before .before .if1 .left)) (editionOf (a .e)) v, ((c .before .before .before .room .ensures, c .before .before .room2 .ensures), s .pre .1 .1 .1 .0 .clear)))
+    (ok .inside, (round-inside h w st (ok .place) (not-last (st .level) (roundsOf h) (getD w 4 0) (v .rounds) (ok .place .level) (c .before .before .before .before .before .before .if1 .left)) (editionOf (a .e)) v, ((c .before .before .before .room .ensures, c .before .before .room2 .ensures), s .pre .1 .1 .1 .0 .clear)))
 
 rest-enum-known-g : (t : ℕ) → rest-lts.Need-enum-known-g (calls t) (rest-at t) rest.Post
 rest-enum-known-g t c = search needs

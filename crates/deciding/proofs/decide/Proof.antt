@@ -1,7 +1,7 @@
 -- `deciding::decide` meets its contract. Assumes nothing.
 use borrow.Author.Needs.{needs}
 use native.Mathlib.Omega.{arith}
-use mathlib.Core.Path.{_∙_, ap}
+use mathlib.Core.Path.{ap}
 use Prim.Native.Nat.{ℕ, _+_}
 use lib.ListN.{getD}
 use Rattle.edition.specs.Meaning.{editionOf}
@@ -19,7 +19,7 @@ first-state-requires : tie.Need-first-state-requires
 first-state-requires c κs =
     let s = c .before .before .before .before in
     let a = s .args in
-    (sheet-written (editionOf (a .e)) (a .w .now) (s .pre .0 .0) (s .pre .1 .0), sheet-shaped (editionOf (a .e)) (a .w .now) (s .pre .0 .0) (s .pre .1 .0))
+    (sheet-written (editionOf (a .e)) (a .w .now) (s .pre .0 .0) (s .pre .1 .0), sheet-shaped (editionOf (a .e)) (a .w .now) (s .pre .0 .0) (s .pre .1 .0) .law .small)
 
 sheet-words-requires : tie.Need-sheet-words-requires
 sheet-words-requires c κs = search needs
@@ -58,7 +58,8 @@ first-function-requires : tie.Need-first-oracle-requires
 first-function-requires c κs =
     let s = c .before .before .before .before .before .before .before .before in
     let a = s .args in
-    (sheet-written (editionOf (a .e)) (a .w .now) (s .pre .0 .0) (s .pre .1 .0), sheet-shaped (editionOf (a .e)) (a .w .now) (s .pre .0 .0) (s .pre .1 .0))
+    let x = sheet-shaped (editionOf (a .e)) (a .w .now) (s .pre .0 .0) (s .pre .1 .0) in
+    (sheet-written (editionOf (a .e)) (a .w .now) (s .pre .0 .0) (s .pre .1 .0), (x .law .small, omega (arith, x .folds 0 (omega arith) .large)))
 
 slice-aggregate-rest : tie.Need-slice-aggregate-decide-rest
 slice-aggregate-rest c = search needs

@@ -7,12 +7,12 @@ use Rattle.definition.specs.Sheet.{sheetOf}
 use Rattle.definition.specs.Verdict as definition
 use Rattle.edition.specs.Meaning.{editionOf}
 use Rattle.outcome.specs.Meaning.{outcomeOf, verdictOf}
-use Rattle.deciding.specs.State.{readsAfter}
-use Rattle.deciding.specs.Invariant.{Decided}
-use Rattle.deciding.specs.Steps.{differ-step, place-few, same-step}
+use Rattle.deciding.proofs.Steps.{differ-step, place-few, same-step}
 use Rattle.deciding.proofs.Ready.{differing-at, differing-nowhere, finals-whole}
 use Rattle.deciding.proofs.decide_final.Statement.{statement}
 use Rattle.deciding.proofs.decide_final.Tie as tie
+use Rattle.level_words.specs.State.{readsAfter}
+use Rattle.deciding.specs.Invariant.{Decided}
 
 final-at-requires : tie.Need-final-difference-requires
 final-at-requires c κs = search needs
