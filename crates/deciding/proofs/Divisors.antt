@@ -38,7 +38,7 @@ use Rattle.level_words.specs.declared.State.{State}
 use Rattle.deciding.proofs.Inside.{whole, words-there}
 use Rattle.deciding.proofs.Outs.{outs-next}
 use Rattle.level_words.specs.State.{currentFold, currentLevel, nextOracle, nextOuts, nextRound, nextShifts, nextSize, nextState, outsAt}
-use Rattle.level_words.specs.Inside.{NextSamples}
+use Rattle.round_words.specs.Handed.{NextSamples}
 use Rattle.deciding.specs.Kinds.{kindsOf, outsFrom}
 use Rattle.deciding.specs.Invariant.{Invariant, Represented}
 use Rattle.deciding.proofs.PrefixLaws.{prefix-after, prefix-front, prefix-run}

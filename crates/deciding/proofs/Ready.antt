@@ -37,9 +37,10 @@ use Rattle.deciding.proofs.Inside.{few-coins, invariant-next, words-the
 use Rattle.level_words.specs.Reads.{reads-most}
 use Rattle.list_laws.specs.Lists.{part-length}
 use Rattle.deciding.proofs.Outs.{outs-first}
-use Rattle.deciding.proofs.Steps.{clash-step, next-step, represented-next}
+use Rattle.deciding.proofs.Steps.{clash-step, differ-step, next-step, place-few, represented-next, same-step}
 use Rattle.level_words.specs.State.{afterFold, currentFold, currentRepetitions, finalsOf, firstOracle, firstState, nextCombination, nextDegree, nextFold, nextFoldCoin, nextOracle, nextShifts, nextState, readsAfter, shiftsAt}
-use Rattle.level_words.specs.Inside.{Differing, FinalInside, NextSamples, Written}
+use Rattle.level_words.specs.Inside.{FinalInside, Written}
+use Rattle.round_words.specs.Handed.{Differing, NextSamples}
 use Rattle.deciding.specs.Kinds.{kindsAfterFold}
 use Rattle.deciding.specs.Invariant.{Decided, Invariant, Represented, Shaped}
 
@@ -48,23 +49,40 @@ not-last level last word e h d = omega arith
 
 -- ---- answers
 
-pub finals-whole : (ed : Edition) (h : Sheet) (w : List ℕ) (st : State) → FinalInside ed h w st → {t : ℕ} → t ≡ currentRepetitions h st → take t (finalsOf h w st) ≡ finalsOf h w st
+pub room-in : (g : Gathered) (j : ℕ) → g ≡ From j → Room 50 50 g → j ≤ 50
+room-in g j e r = let q = subst (Room 50 50) e r in q .1
+
+-- ---- the final comparison
+
+finals-whole : (ed : Edition) (h : Sheet) (w : List ℕ) (st : State) → FinalInside ed h w st → {t : ℕ} → t ≡ currentRepetitions h st → take t (finalsOf h w st) ≡ finalsOf h w st
 unfolding finalsOf
 finals-whole ed h w st i {t} et =
     let long = part-length (st .at + nextDegree h st) (currentRepetitions h st) w (i .there) in
     take-all t (take (currentRepetitions h st) (drop (st .at + nextDegree h st) w)) (omega (arith, et, long))
 
-pub room-in : (g : Gathered) (j : ℕ) → g ≡ From j → Room 50 50 g → j ≤ 50
-room-in g j e r = let q = subst (Room 50 50) e r in q .1
-
-module _ (h : Sheet) (w pw ac vg : List ℕ) (st : State) (r : ℕ) (oracle : Oracle) {f : Found} where
-  pub differing-at : {i : ℕ} → f ≡ At i → Differing h w pw ac vg st r oracle (placeOf f) → Differing h w pw ac vg st r oracle (some i)
+module _ (h : Sheet) (w pw ac vg : List ℕ) (st : State) (reads r : ℕ) (oracle : Oracle) (ok : Invariant h w (length pw) (length ac) (length vg) st oracle) (end : st .level ≡ roundsOf h)
+    (f : Found) (a : Differing h w pw ac vg st r oracle (placeOf f)) where
+  differing-at : {i : ℕ} → f ≡ At i → Differing h w pw ac vg st r oracle (some i)
   unfolding placeOf
-  differing-at e a = λ ω b g sv. ap placeOf (sym e) ∙ a ω b g sv
+  differing-at e = λ ω b g sv. ap placeOf (sym e) ∙ a ω b g sv
 
-  pub differing-nowhere : f ≡ Nothing → Differing h w pw ac vg st r oracle (placeOf f) → Differing h w pw ac vg st r oracle none
+  differing-nowhere : f ≡ Nothing → Differing h w pw ac vg st r oracle none
   unfolding placeOf
-  differing-nowhere e a = λ ω b g sv. ap placeOf (sym e) ∙ a ω b g sv
+  differing-nowhere e = λ ω b g sv. ap placeOf (sym e) ∙ a ω b g sv
+
+  pub place-ready : {i : ℕ} → f ≡ At i → Represented h w pw ac vg st oracle → i < currentRepetitions h st
+  place-ready {i} e s = place-few h w pw ac vg st reads r oracle ok end i (differing-at e) s
+
+  pub differ-ready : {i now : ℕ} → f ≡ At i → now ≡ readsAfter h st reads (take (i + 1) (finalsOf h w st)) → Decided h w pw ac vg st reads r oracle (record { outcome = refused 9 i; reads = now })
+  differ-ready {i} e en =
+      subst (λ (n : ℕ). Decided h w pw ac vg st reads r oracle (record { outcome = refused 9 i; reads = n })) (sym en)
+      (differ-step h w pw ac vg st reads r oracle ok end i (differing-at e))
+
+  pub same-ready : (ed : Edition) → FinalInside ed h w st → {t now : ℕ} → t ≡ currentRepetitions h st → f ≡ Nothing → now ≡ readsAfter h st reads (take t (finalsOf h w st)) →
+      Decided h w pw ac vg st reads r oracle (record { outcome = accepted; reads = now })
+  same-ready ed inside et e en =
+      subst (λ (n : ℕ). Decided h w pw ac vg st reads r oracle (record { outcome = accepted; reads = n })) (sym (en ∙ ap (readsAfter h st reads) (finals-whole ed h w st inside et)))
+      (same-step h w pw ac vg st reads r oracle ok end (differing-nowhere e))
 
 -- ---- from a place to the next
 

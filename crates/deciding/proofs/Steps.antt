@@ -32,7 +32,7 @@ use Rattle.deciding.proofs.Divisors.{clear-next, outside-next}
 use Rattle.deciding.proofs.Inside.{final-there, finals-below, indices-below, words-there}
 use Rattle.level_words.specs.Words.{rest-end, rest-next}
 use Rattle.level_words.specs.State.{coefficientsOf, currentFold, currentLevel, currentRepetitions, currentTable, finalsOf, nextCombination, nextFold, nextFoldCoin, nextOracle, nextRound, nextShifts, nextSize, nextState, readsAfter, restOf}
-use Rattle.level_words.specs.Inside.{Differing, NextSamples}
+use Rattle.round_words.specs.Handed.{Differing, NextSamples}
 use Rattle.deciding.specs.Invariant.{Decided, Invariant, Represented}
 
 -- ---- the definition's steps

@@ -16,7 +16,7 @@ use Rattle.fractions.specs.Values.{Clear}
 use Rattle.rounds.specs.RoundLaws.{Represents}
 use Rattle.level_words.specs.declared.State.{State}
 use Rattle.level_words.specs.State.{currentFold, currentLevel, currentTable, restOf}
-use Rattle.level_words.specs.Inside.{TableInside}
+use Rattle.round_words.specs.Handed.{TableInside}
 use Rattle.deciding.specs.Kinds.{PrefixInRange, kindsOf, outsFrom}
 
 -- a folding number: a power of two from 2 to 16

@@ -49,16 +49,16 @@ fn decide_final(
     requires { ⌜ reads ≤ 768 * (state .level) ⌝ }
     ensures { λ v. ⌜ Decided (sheetOf (editionOf e) (now (w .entry))) (now (w .entry)) (now (pw .entry)) (now (ac .entry)) (now (vg .entry)) state reads r oracle (verdictOf v) ⌝ }
 {
-    let f = level_words::final_difference(e, w, pw, state, r, oracle, ac, vg);
+    let f = round_words::final_difference(e, w, pw, state, r, oracle, ac, vg);
     if let Found::At(i) = f {
         return Verdict {
             outcome: Outcome::Refused(9, i),
-            reads: level_words::final_reads(e, w, state, reads, i + 1),
+            reads: level_words::reads_after_finals(e, w, state, reads, i + 1),
         };
     }
     Verdict {
         outcome: Outcome::Accepted,
-        reads: level_words::final_reads(e, w, state, reads, w[6 + state.level] as usize),
+        reads: level_words::reads_after_finals(e, w, state, reads, w[6 + state.level] as usize),
     }
 }
 
@@ -84,10 +84,10 @@ fn decide_rest(
         return decide_final(e, w, pw, state, reads, r, oracle, ac, vg);
     }
     let next = level_words::next_state(e, w, state);
-    let now = level_words::round_reads(e, w, state, reads);
+    let now = level_words::reads_after_round(e, w, state, reads);
     let mut px = room();
     let mut py = room();
-    let g = level_words::next_samples(e, w, pw, state, r, oracle, ac, vg, &mut px, &mut py);
+    let g = round_words::next_samples(e, w, pw, state, r, oracle, ac, vg, &mut px, &mut py);
     let Gathered::From(j) = g else {
         return Verdict {
             outcome: Outcome::Refused(8, next.level),
@@ -96,7 +96,7 @@ fn decide_rest(
     };
     let mut pa = lists::places();
     let mut pv = lists::double_places();
-    let words = level_words::correction(e, w, state, &px, &py, j, &mut pa, &mut pv);
+    let words = round_words::correction(e, w, state, &px, &py, j, &mut pa, &mut pv);
     decide_rest(
         e,
         w,
@@ -112,7 +112,7 @@ fn decide_rest(
 
 // Deciding from table 0 on, by the table of points: refusals 8 and 9. Only the words after fold coin 0 need be in range. Past refusal 7 no out coin lies in its
 // round's domain, and so nothing is divided by 0.
-pub fn decide(e: Edition, w: &[u32], pw: &[u32]) -> Verdict
+fn decide_past_out_tests(e: Edition, w: &[u32], pw: &[u32]) -> Verdict
     requires { ⌜ (sheetTest (editionOf e) (now w) ≡ accepted) × (rangeTest (sheetOf (editionOf e) (now w)) (afterFold (sheetLength (editionOf e)) (sheetOf (editionOf e) (now w))) (kindsAfterFold (sheetOf (editionOf e) (now w))) (now w) ≡ accepted) ⌝ }
     requires { ⌜ wordsDue (editionOf e) (sheetOf (editionOf e) (now w)) ≤ length (now w) ⌝ }
     requires { ⌜ (Powers (getD (now w) 0 0) (rootOfUnity (sheetOf (editionOf e) (now w))) (now pw)) × (length (now pw) ≡ getD (now w) 1 0) ⌝ }
@@ -136,7 +136,7 @@ pub fn decide(e: Edition, w: &[u32], pw: &[u32]) -> Verdict
 }
 
 // The tests of out coins, then refusals 8 and 9, by the table of points.
-fn decide_with_points(e: Edition, w: &[u32], pw: &[u32]) -> Verdict
+fn test_outs_then_decide(e: Edition, w: &[u32], pw: &[u32]) -> Verdict
     requires { ⌜ (sheetTest (editionOf e) (now w) ≡ accepted) × (rangeTest (sheetOf (editionOf e) (now w)) (sheetLength (editionOf e)) (layout (sheetOf (editionOf e) (now w))) (now w) ≡ accepted) ⌝ }
     requires { ⌜ wordsDue (editionOf e) (sheetOf (editionOf e) (now w)) ≤ length (now w) ⌝ }
     requires { ⌜ (Powers (getD (now w) 0 0) (rootOfUnity (sheetOf (editionOf e) (now w))) (now pw)) × (length (now pw) ≡ getD (now w) 1 0) ⌝ }
@@ -149,7 +149,7 @@ fn decide_with_points(e: Edition, w: &[u32], pw: &[u32]) -> Verdict
             reads: 0,
         };
     }
-    decide(e, w, pw)
+    decide_past_out_tests(e, w, pw)
 }
 
 // Deciding, of the words of a stream that passes reading. A small sheet is spared the clearing of many places.
@@ -161,9 +161,9 @@ pub fn deciding(e: Edition, w: &[u32]) -> Verdict
     if w[1] <= 256 {
         let mut few = domain::few_points_room();
         let count = domain::of_sheet_within(w, &mut few);
-        return decide_with_points(e, w, &few[..count]);
+        return test_outs_then_decide(e, w, &few[..count]);
     }
     let mut pw = domain::points_room();
     let size = domain::of_sheet(w, &mut pw);
-    decide_with_points(e, w, &pw[..size])
+    test_outs_then_decide(e, w, &pw[..size])
 }

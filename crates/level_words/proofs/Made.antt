@@ -1,14 +1,12 @@
 -- The places, functions and parts that the code makes from the words are those of the sheet, where the words say what the sheet does.
 use Prim.Native.Nat.{ℕ, _+_, _*_, _/_}
-use mathlib.Core.Path.{_≡_, ap, subst}
+use mathlib.Core.Path.{_≡_, ap}
 use mathlib.Core.List.{List}
-use lib.ListN.{getD, take, drop}
-use Rattle.definition.specs.Polynomial.{Sample}
+use lib.ListN.{getD}
 use Rattle.definition.specs.Sheet.{Sheet}
-use Rattle.lists.specs.Correcting.{Correcting}
 use Rattle.fractions.specs.declared.Oracle.{Oracle}
 use Rattle.level_words.specs.declared.State.{State}
-use Rattle.level_words.specs.State.{coefficientsOf, nextCombination, finalsOf, firstOracle, firstState, nextFoldCoin, currentFold, nextFold, nextOracle, nextState, nextOuts, currentRepetitions, nextReplies, nextShifts}
+use Rattle.level_words.specs.State.{firstOracle, firstState, nextFoldCoin, currentFold, nextFold, nextOracle, nextState, currentRepetitions}
 
 pub first-place : (from : ℕ) (h : Sheet) {front n d : ℕ} → front ≡ from → n ≡ h .size → d ≡ h .degree →
     _≡_ {A = State} (record { level = 0; size = n; degree = d; table = front; at = front + n + 1 }) (firstState from h)
@@ -45,27 +43,3 @@ module _ (h : Sheet) (st : State) where
 module _ (h : Sheet) (w : List ℕ) (st : State) where
   pub coin-part : {s : ℕ} → s ≡ h .outCoins → getD w (st .at + st .size / 2 + s + s + 1) 0 ≡ nextFoldCoin h w st
   coin-part es = ap (λ (n : ℕ). getD w (st .at + st .size / 2 + n + n + 1) 0) es
-
-  pub combined-part : {s field n : ℕ} {g : List (Sample ℕ)} {pa pv : List ℕ} → s ≡ h .outCoins →
-      Correcting field g (getD w (st .at + st .size / 2 + s + s) 0) n pa pv → Correcting field g (nextCombination h w st) n pa pv
-  combined-part {s} {field} {n} {g} {pa} {pv} es c = subst (λ (m : ℕ). Correcting field g (getD w (st .at + st .size / 2 + m + m) 0) n pa pv) es c
-
-  pub outs-part : {s : ℕ} → s ≡ h .outCoins → take s (drop (st .at + st .size / 2) w) ≡ nextOuts h w st
-  unfolding nextOuts
-  outs-part es = λ i. take (es i) (drop (st .at + st .size / 2) w)
-
-  pub replies-part : {s : ℕ} → s ≡ h .outCoins → take s (drop (st .at + st .size / 2 + s) w) ≡ nextReplies h w st
-  unfolding nextReplies
-  replies-part es = λ i. take (es i) (drop (st .at + st .size / 2 + es i) w)
-
-  pub shifts-part : {s t : ℕ} → s ≡ h .outCoins → t ≡ currentRepetitions h st → take t (drop (st .at + st .size / 2 + s + s + 2) w) ≡ nextShifts h w st
-  unfolding nextShifts
-  shifts-part es et = λ i. take (et i) (drop (st .at + st .size / 2 + es i + es i + 2) w)
-
-  pub coefficients-part : {k : ℕ} → k ≡ currentFold h st → take (st .degree / k) (drop (st .at) w) ≡ coefficientsOf h w st
-  unfolding coefficientsOf
-  coefficients-part ek = λ i. take (st .degree / ek i) (drop (st .at) w)
-
-  pub finals-part : {k t : ℕ} → k ≡ currentFold h st → t ≡ currentRepetitions h st → take t (drop (st .at + st .degree / k) w) ≡ finalsOf h w st
-  unfolding finalsOf
-  finals-part ek et = λ i. take (et i) (drop (st .at + st .degree / ek i) w)

@@ -89,3 +89,8 @@ module _ (h : Sheet) (w : List ℕ) (st : State) (p : Paired h) where
   rest-end e =
       ap (λ (ls : List Level). readRest (h .outCoins) (currentLevel h st) ls (drop (st .at) w)) (levels-end h st p e)
       ∙ ap (λ (l : List ℕ). final (take (nextDegree h st) (drop (st .at) w)) (take (currentRepetitions h st) l)) (drop-drop (nextDegree h st) (st .at) w)
+
+-- the shift indices of the next round, by the sheet's words
+pub shifts-part : (h : Sheet) (w : List ℕ) (st : State) {s t : ℕ} → s ≡ h .outCoins → t ≡ currentRepetitions h st → take t (drop (st .at + st .size / 2 + s + s + 2) w) ≡ nextShifts h w st
+unfolding nextShifts
+shifts-part h w st es et = λ i. take (et i) (drop (st .at + st .size / 2 + es i + es i + 2) w)

@@ -19,10 +19,10 @@ use Rattle.deciding.proofs.decide_final.Reads as last-reads
 use Rattle.level_words.proofs.next_coin.Reads as next-coin-reads
 use Rattle.level_words.proofs.next_oracle.Reads as next-function-reads
 use Rattle.level_words.proofs.next_state.Reads as next-state-reads
-use Rattle.level_words.proofs.round_reads.Reads as round-reads-reads
+use Rattle.level_words.proofs.reads_after_round.Reads as after-reads-after-round
 use Rattle.deciding.proofs.room.Reads as room-reads
-use Rattle.level_words.proofs.next_samples.Reads as round-at-reads
-use Rattle.level_words.proofs.correction.Reads as correction-reads
+use Rattle.round_words.proofs.next_samples.Reads as round-at-reads
+use Rattle.round_words.proofs.correction.Reads as correction-reads
 use Rattle.lists.proofs.places.Reads as places-reads
 use Rattle.lists.proofs.double_places.Reads as double-places-reads
 use Rattle.deciding.proofs.+decide_rest.{statement}
@@ -43,8 +43,8 @@ calls t = (
   last-reads.Learnt,
   next-state-reads.Asked,
   next-state-reads.Learnt,
-  round-reads-reads.Asked,
-  round-reads-reads.Learnt,
+  after-reads-after-round.Asked,
+  after-reads-after-round.Learnt,
   room-reads.Asked,
   room-reads.Learnt,
   round-at-reads.Asked,
@@ -93,8 +93,8 @@ rest-next-state-requires t c κs =
     let ok = s .pre .1 .1 .0 in
     round-inside h w st (ok .place) (not-last (st .level) (roundsOf h) (getD w 4 0) (v .rounds) (ok .place .level) (c .if1 .left)) (editionOf (a .e)) v
 
-rest-round-reads-requires : (t : ℕ) → rest-lts.Need-round-reads-requires (calls t) (rest-at t) rest.Post
-rest-round-reads-requires t c κs =
+rest-reads-after-round-requires : (t : ℕ) → rest-lts.Need-reads-after-round-requires (calls t) (rest-at t) rest.Post
+rest-reads-after-round-requires t c κs =
     let s = c .before .before .before .before .before .before .before .before in
     let a = s .args in
     let w = a .w .now in
@@ -146,7 +146,7 @@ rest-returns-2 t c =
     let ok = s .pre .1 .1 .0 in
     let more = not-last (st .level) (roundsOf h) (getD w 4 0) (v .rounds) (ok .place .level) (r .before .before .before .before .before .before .before .if1 .left) in
     let n = r .before .before .before .before .before .before .next-state in
-    let p = r .before .before .before .before .before .round-reads in
+    let p = r .before .before .before .before .before .reads-after-round in
     let q = r .next-samples in
     clash-ready h w (a .pw .now) (a .ac .now) (a .vg .now) st (a .reads) (a .r) (a .oracle) ok more (n .result) (n .ensures) (q .result)
     (q .last .1 .1 .1 .1 .1 .1 .1 .1 .0) (q .last .1 .1 .1 .1 .1 .1 .1 .1 .1 .0) (p .result) (p .ensures) (c .enum-told .given .1) (q .ensures .0)
@@ -231,7 +231,7 @@ rest-slice-aggregate-rest-2 t c = sym (c .before .before .before .before .before
 rest-rest-requires : (t : ℕ) → rest-lts.Need-decide-rest-requires (calls t) (rest-at t) rest.Post
 rest-rest-requires t c κs =
     let r = c .before .before .before .before .before .before .before .before .before .before .before .before .before .before .before .before .before .before in
-    let p = r .before .before .before .before .before .round-reads in
+    let p = r .before .before .before .before .before .reads-after-round in
     let q = r .next-samples in
     let lx = q .kept .1 .1 .1 .1 .1 .1 .1 .1 .0 ∙ r .before .before .before .before .room .ensures in
     let ly = q .kept .1 .1 .1 .1 .1 .1 .1 .1 .1 .0 ∙ r .before .before .before .room2 .ensures in
@@ -259,7 +259,7 @@ rest-rest-requires t c κs =
 rest-returns-3 : (t : ℕ) → rest-lts.Need-returns-3 (calls t) (rest-at t) rest.Post
 rest-returns-3 t c =
     let r = c .before .before .before .before .before .before .before .before .before .before .before .before .before .before .before .before .before .before .before in
-    let p = r .before .before .before .before .before .round-reads in
+    let p = r .before .before .before .before .before .reads-after-round in
     let q = r .next-samples in
     let lx = q .kept .1 .1 .1 .1 .1 .1 .1 .1 .0 ∙ r .before .before .before .before .room .ensures in
     let ly = q .kept .1 .1 .1 .1 .1 .1 .1 .1 .1 .0 ∙ r .before .before .before .room2 .ensures in
@@ -291,7 +291,7 @@ pub +decide-rest-spec : {M : Type 1} → statement M
     (rest-last-requires t)
     (rest-returns t)
     (rest-next-state-requires t)
-    (rest-round-reads-requires t)
+    (rest-reads-after-round-requires t)
     (rest-room-requires t)
     (rest-room-requires-2 t)
     (rest-slice-aggregate-round-at t)

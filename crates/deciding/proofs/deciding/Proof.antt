@@ -26,10 +26,10 @@ of-sheet-within-requires c κs =
 array-share-prefix-few : tie.Need-array-share-prefix-few
 array-share-prefix-few c = search needs
 
-slice-aggregate-decide-by : tie.Need-slice-aggregate-decide-with-points
+slice-aggregate-decide-by : tie.Need-slice-aggregate-test-outs-then-decide
 slice-aggregate-decide-by c = search needs
 
-decide-by-requires : tie.Need-decide-with-points-requires
+decide-by-requires : tie.Need-test-outs-then-decide-requires
 decide-by-requires c κs =
     let s = c .before .before .before .before .before .before .before .before in
     let a = s .args in
@@ -53,10 +53,10 @@ of-sheet-requires c κs =
 array-share-prefix-pw : tie.Need-array-share-prefix-pw
 array-share-prefix-pw c = search needs
 
-slice-aggregate-decide-by-2 : tie.Need-slice-aggregate-decide-with-points-2
+slice-aggregate-decide-by-2 : tie.Need-slice-aggregate-test-outs-then-decide-2
 slice-aggregate-decide-by-2 c = search needs
 
-decide-by-requires-2 : tie.Need-decide-with-points-requires-2
+decide-by-requires-2 : tie.Need-test-outs-then-decide-requires-2
 decide-by-requires-2 c κs =
     let s = c .before .before .before .before .before .before .before .before in
     let a = s .args in

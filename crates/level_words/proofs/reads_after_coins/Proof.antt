@@ -1,4 +1,4 @@
--- `level_words::reads_after` meets its contract. Assumes nothing.
+-- `level_words::reads_after_coins` meets its contract. Assumes nothing.
 use borrow.Author.Needs.{needs}
 use native.Mathlib.Omega.{arith}
 use mathlib.Core.Path.{_∙_, ap, subst, sym}
@@ -7,8 +7,8 @@ use lib.ListN.{length}
 use Rattle.list_laws.specs.All.{All}
 use Rattle.list_laws.specs.Lists.{part-length}
 use Rattle.level_words.proofs.Ready.{product-most, after-is}
-use Rattle.level_words.proofs.reads_after.Statement.{statement}
-use Rattle.level_words.proofs.reads_after.Tie as tie
+use Rattle.level_words.proofs.reads_after_coins.Statement.{statement}
+use Rattle.level_words.proofs.reads_after_coins.Tie as tie
 
 part-requires : tie.Need-part-requires
 part-requires c κs = search needs
@@ -41,5 +41,5 @@ returns c =
     let p = c .before .before .part in
     after-is _ (s .args .state) (s .args .reads) (p .result .now) (c .before .count .ensures) (p .ensures) (c .fold .ensures .0 ∙ s .pre .0 .0 .fold)
 
-pub reads-after-spec : {M : Type 1} → statement M
-reads-after-spec = tie.close (tie.spec part-requires count-requires fold-requires mul-result add-result returns)
+pub reads-after-coins-spec : {M : Type 1} → statement M
+reads-after-coins-spec = tie.close (tie.spec part-requires count-requires fold-requires mul-result add-result returns)

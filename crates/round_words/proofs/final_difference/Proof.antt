@@ -1,15 +1,15 @@
--- `level_words::final_difference` meets its contract. Assumes nothing.
+-- `round_words::final_difference` meets its contract. Assumes nothing.
 use borrow.Author.Needs.{needs}
 use Prim.Native.Nat.{ℕ, _/_}
 use native.Mathlib.Omega.{arith}
 use mathlib.Core.Path.{_∙_, ap}
 use Rattle.definition.specs.Sheet.{sheetOf}
 use Rattle.edition.specs.Meaning.{editionOf}
 use Rattle.level_words.specs.State.{currentTable}
-use Rattle.level_words.proofs.Made.{coefficients-part, finals-part}
-use Rattle.level_words.proofs.Ready.{clear-table, differing-parts, final-ready}
-use Rattle.level_words.proofs.final_difference.Statement.{statement}
-use Rattle.level_words.proofs.final_difference.Tie as tie
+use Rattle.round_words.proofs.Made.{coefficients-part, finals-part}
+use Rattle.round_words.proofs.Ready.{clear-table, differing-parts, final-ready}
+use Rattle.round_words.proofs.final_difference.Statement.{statement}
+use Rattle.round_words.proofs.final_difference.Tie as tie
 
 fold-requires : tie.Need-fold-requires
 fold-requires c κs = search needs

@@ -1,4 +1,4 @@
--- `level_words::next_samples` meets its contract. Assumes nothing.
+-- `round_words::next_samples` meets its contract. Assumes nothing.
 use borrow.Author.Needs.{needs}
 use Prim.Native.Nat.{_+_}
 use native.Mathlib.Omega.{arith}
@@ -7,11 +7,12 @@ use lib.ListN.{length}
 use Rattle.definition.specs.Sheet.{sheetOf}
 use Rattle.edition.specs.Meaning.{editionOf}
 use Rattle.samples.specs.Samples.{kept}
 use Rattle.level_words.specs.State.{currentTable}
-use Rattle.level_words.proofs.Made.{outs-part, replies-part, shifts-part}
-use Rattle.level_words.proofs.Ready.{answer-ready, clear-table, room-most, distinct-parts}
-use Rattle.level_words.proofs.next_samples.Statement.{statement}
-use Rattle.level_words.proofs.next_samples.Tie as tie
+use Rattle.level_words.specs.Words.{shifts-part}
+use Rattle.round_words.proofs.Made.{outs-part, replies-part}
+use Rattle.round_words.proofs.Ready.{answer-ready, clear-table, room-most, distinct-parts}
+use Rattle.round_words.proofs.next_samples.Statement.{statement}
+use Rattle.round_words.proofs.next_samples.Tie as tie
 
 shared-slice-read-s : tie.Need-shared-slice-read-s
 shared-slice-read-s c = search needs

@@ -1,10 +1,10 @@
--- `deciding::decide_with_points` meets its contract. Assumes nothing.
+-- `deciding::test_outs_then_decide` meets its contract. Assumes nothing.
 use borrow.Author.Needs.{needs}
 use Rattle.outcome.specs.Meaning.{outcomeOf, verdictOf}
 use Rattle.edition.specs.Meaning.{editionOf}
 use Rattle.deciding.proofs.Ready.{out-passed, out-refused, outside-passed, range-rest}
-use Rattle.deciding.proofs.decide_with_points.Statement.{statement}
-use Rattle.deciding.proofs.decide_with_points.Tie as tie
+use Rattle.deciding.proofs.test_outs_then_decide.Statement.{statement}
+use Rattle.deciding.proofs.test_outs_then_decide.Tie as tie
 
 tests-requires : tie.Need-tests-requires
 tests-requires c κs = search needs
@@ -22,8 +22,8 @@ returns c =
 enum-told : tie.Need-enum-told
 enum-told c = search needs
 
-decide-requires : tie.Need-decide-requires
-decide-requires c κs =
+decide-past-out-tests-requires : tie.Need-decide-past-out-tests-requires
+decide-past-out-tests-requires c κs =
     let s = c .before .before .before .before .before in
     let a = s .args in
     let q = c .before .before .tests in (
@@ -35,9 +35,9 @@ returns-2 : tie.Need-returns-2
 returns-2 c =
     let a = c .before .before .before .before .before .before .args in
     let q = c .before .before .before .tests in
-    out-passed (editionOf (a .e)) (a .w .now) (q .result) (q .ensures) (c .before .enum-told .given .1) (c .decide .ensures)
+    out-passed (editionOf (a .e)) (a .w .now) (q .result) (q .ensures) (c .before .enum-told .given .1) (c .decide-past-out-tests .ensures)
 
-pub decide-with-points-spec : {M : Type 1} → statement M
-decide-with-points-spec =
+pub test-outs-then-decide-spec : {M : Type 1} → statement M
+test-outs-then-decide-spec =
     tie.close
-    (tie.spec tests-requires enum-known-outs returns enum-told decide-requires returns-2)
+    (tie.spec tests-requires enum-known-outs returns enum-told decide-past-out-tests-requires returns-2)

@@ -1,4 +1,4 @@
--- `level_words::correction` meets its contract. Assumes nothing.
+-- `round_words::correction` meets its contract. Assumes nothing.
 use borrow.Author.Needs.{needs}
 use Prim.Native.Nat.{ℕ}
 use native.Mathlib.Omega.{arith}
@@ -8,9 +8,9 @@ use Rattle.definition.specs.Polynomial.{pair}
 use Rattle.definition.specs.Sheet.{sheetOf}
 use Rattle.edition.specs.Meaning.{editionOf}
 use Rattle.lists.specs.Correcting.{Columned}
-use Rattle.level_words.proofs.Made.{combined-part}
-use Rattle.level_words.proofs.correction.Statement.{statement}
-use Rattle.level_words.proofs.correction.Tie as tie
+use Rattle.round_words.proofs.Made.{combined-part}
+use Rattle.round_words.proofs.correction.Statement.{statement}
+use Rattle.round_words.proofs.correction.Tie as tie
 
 add-fold : tie.Need-add-fold
 add-fold c = search needs

@@ -1,4 +1,4 @@
--- `deciding::decide` meets its contract. Assumes nothing.
+-- `deciding::decide_past_out_tests` meets its contract. Assumes nothing.
 use borrow.Author.Needs.{needs}
 use native.Mathlib.Omega.{arith}
 use mathlib.Core.Path.{ap}
@@ -6,8 +6,8 @@ use Prim.Native.Nat.{ℕ, _+_}
 use lib.ListN.{getD}
 use Rattle.edition.specs.Meaning.{editionOf}
 use Rattle.deciding.proofs.Ready.{coin-there, first-decided, first-ready, sheet-shaped, sheet-written}
-use Rattle.deciding.proofs.decide.Statement.{statement}
-use Rattle.deciding.proofs.decide.Tie as tie
+use Rattle.deciding.proofs.decide_past_out_tests.Statement.{statement}
+use Rattle.deciding.proofs.decide_past_out_tests.Tie as tie
 
 places-requires : tie.Need-places-requires
 places-requires c κs = search needs
@@ -90,8 +90,8 @@ returns c =
     first-decided (editionOf (a .e)) (a .w .now) (s .pre .0 .0) (s .pre .1 .0) (a .pw .now) (ac .result) (vg .result) (s .pre .0 .1) (s .pre .1 .1 .0 .0) (s .pre .1 .1 .0 .1) (s .pre .1 .1 .1)
     (st .result) (st .ensures) (oracle .result) (oracle .ensures) (ap (λ (n : ℕ). getD (a .w .now) (n + getD (a .w .now) 1 0) 0) (c .before .before .before .before .before .before .sheet-words .ensures)) (c .decide-rest .ensures)
 
-pub decide-spec : {M : Type 1} → statement M
-decide-spec =
+pub decide-past-out-tests-spec : {M : Type 1} → statement M
+decide-past-out-tests-spec =
     tie.close
     (tie.spec
     places-requires
