@@ -24,12 +24,12 @@ use Rattle.rounds.specs.NextRound.{represents-first}
 use Rattle.fractions.specs.Values.{Fits}
 use Rattle.rounds.specs.RoundLaws.{Represents}
 use Rattle.level_words.specs.declared.State.{State}
-use Rattle.deciding.proofs.Inside.{divided}
+use Rattle.decide_rounds.specs.Sizes.{divided}
 use Rattle.level_words.specs.State.{afterFold, currentFold, currentLevel, currentTable, firstOracle, firstState, laterLevelsAt, restOf}
 use Rattle.level_words.specs.Inside.{Written}
-use Rattle.deciding.specs.Kinds.{PrefixInRange, kindsAfterFold, kindsOf, outsFrom}
-use Rattle.deciding.specs.Invariant.{Decided, Folding, Invariant, Placed, Represented, Shaped}
-use Rattle.deciding.proofs.PrefixLaws.{prefix-tested, tested-after}
+use Rattle.decide_rounds.specs.Kinds.{PrefixInRange, kindsAfterFold, kindsOf, outsFrom}
+use Rattle.decide_rounds.specs.Invariant.{Decided, Folding, Invariant, Placed, Represented, Shaped}
+use Rattle.deciding.proofs.Tested.{prefix-tested, tested-after}
 
 -- ---- the sheet of given words
 

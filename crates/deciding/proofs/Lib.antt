@@ -1,8 +1,4 @@
-pub mod PrefixLaws
-pub mod Inside
-pub mod ReadsGrow
-pub mod Outs
-pub mod Divisors
-pub mod Steps
+pub mod Tested
 pub mod First
+pub mod Outs
 pub mod Ready

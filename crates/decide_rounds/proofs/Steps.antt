@@ -27,13 +27,13 @@ use Rattle.rounds.specs.NextRound.{represents-next}
 use Rattle.fractions.specs.Values.{Fits}
 use Rattle.rounds.specs.RoundLaws.{Represents}
 use Rattle.level_words.specs.declared.State.{State}
-use Rattle.deciding.proofs.ReadsGrow.{reads-grow, tables-grow}
-use Rattle.deciding.proofs.Divisors.{clear-next, outside-next}
-use Rattle.deciding.proofs.Inside.{final-there, finals-below, indices-below, words-there}
+use Rattle.decide_rounds.proofs.ReadsGrow.{reads-grow, tables-grow}
+use Rattle.decide_rounds.proofs.Divisors.{clear-next, outside-next}
+use Rattle.decide_rounds.proofs.Inside.{final-there, finals-below, indices-below, words-there}
 use Rattle.level_words.specs.Words.{rest-end, rest-next}
 use Rattle.level_words.specs.State.{coefficientsOf, currentFold, currentLevel, currentRepetitions, currentTable, finalsOf, nextCombination, nextFold, nextFoldCoin, nextOracle, nextRound, nextShifts, nextSize, nextState, readsAfter, restOf}
 use Rattle.round_words.specs.Handed.{Differing, NextSamples}
-use Rattle.deciding.specs.Invariant.{Decided, Invariant, Represented}
+use Rattle.decide_rounds.specs.Invariant.{Decided, Invariant, Represented}
 
 -- ---- the definition's steps
 

@@ -35,13 +35,13 @@ use Rattle.folds.specs.PointsIn.{pointIn, point-in}
 use Rattle.fractions.specs.Values.{Clear, point-room}
 use Rattle.rounds.specs.RoundLaws.{opposite-signs}
 use Rattle.level_words.specs.declared.State.{State}
-use Rattle.deciding.proofs.Inside.{whole, words-there}
-use Rattle.deciding.proofs.Outs.{outs-next}
+use Rattle.decide_rounds.proofs.Inside.{whole, words-there}
+use Rattle.decide_rounds.proofs.Outs.{outs-next}
 use Rattle.level_words.specs.State.{currentFold, currentLevel, nextOracle, nextOuts, nextRound, nextShifts, nextSize, nextState, outsAt}
 use Rattle.round_words.specs.Handed.{NextSamples}
-use Rattle.deciding.specs.Kinds.{kindsOf, outsFrom}
-use Rattle.deciding.specs.Invariant.{Invariant, Represented}
-use Rattle.deciding.proofs.PrefixLaws.{prefix-after, prefix-front, prefix-run}
+use Rattle.decide_rounds.specs.Kinds.{kindsOf, outsFrom}
+use Rattle.decide_rounds.specs.Invariant.{Invariant, Represented}
+use Rattle.decide_rounds.proofs.PrefixLaws.{prefix-after, prefix-front, prefix-run}
 
 -- ---- test 7 found nothing
 

@@ -1,11 +1,11 @@
--- `deciding::decide_final` meets its contract. Assumes nothing.
+-- `decide_rounds::decide_final` meets its contract. Assumes nothing.
 use borrow.Author.Needs.{needs}
 use native.Mathlib.Omega.{arith}
 use Rattle.edition.specs.Meaning.{editionOf}
 use Rattle.outcome.specs.Meaning.{outcomeOf, verdictOf}
-use Rattle.deciding.proofs.Ready.{differ-ready, place-ready, same-ready}
-use Rattle.deciding.proofs.decide_final.Statement.{statement}
-use Rattle.deciding.proofs.decide_final.Tie as tie
+use Rattle.decide_rounds.proofs.Ready.{differ-ready, place-ready, same-ready}
+use Rattle.decide_rounds.proofs.decide_final.Statement.{statement}
+use Rattle.decide_rounds.proofs.decide_final.Tie as tie
 
 final-at-requires : tie.Need-final-difference-requires
 final-at-requires c κs = search needs

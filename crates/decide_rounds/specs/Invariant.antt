@@ -17,7 +17,7 @@ use Rattle.rounds.specs.RoundLaws.{Represents}
 use Rattle.level_words.specs.declared.State.{State}
 use Rattle.level_words.specs.State.{currentFold, currentLevel, currentTable, restOf}
 use Rattle.round_words.specs.Handed.{TableInside}
-use Rattle.deciding.specs.Kinds.{PrefixInRange, kindsOf, outsFrom}
+use Rattle.decide_rounds.specs.Kinds.{PrefixInRange, kindsOf, outsFrom}
 
 -- a folding number: a power of two from 2 to 16
 pub record Folding (k : ℕ) : Type 0 where

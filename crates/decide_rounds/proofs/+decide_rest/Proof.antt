@@ -1,4 +1,4 @@
--- `deciding::decide_rest` meets its contract, by recursion over the rounds: the measure is what is left of 6 levels. Assumes nothing.
+-- `decide_rounds::decide_rest` meets its contract, by recursion over the rounds: the measure is what is left of 6 levels. Assumes nothing.
 use Prim.Native.Nat.{ℕ, _-_, _<_}
 use mathlib.Core.Path.{_∙_, sym}
 use native.Mathlib.Omega.{arith}
@@ -8,25 +8,25 @@ use Rattle.definition.specs.Sheet.{sheetOf}
 use Rattle.edition.specs.Meaning.{editionOf}
 use borrow.Author.Needs.{needs}
 use Rattle.outcome.specs.Meaning.{outcomeOf, verdictOf}
-use Rattle.deciding.proofs.Inside.{final-inside, round-inside, scale-small}
-use Rattle.deciding.proofs.Ready.{apart-ready, clash-ready, level-next, most-next, next-decided, next-ready, not-last, room-in}
+use Rattle.decide_rounds.proofs.Inside.{final-inside, round-inside, scale-small}
+use Rattle.decide_rounds.proofs.Ready.{apart-ready, clash-ready, level-next, most-next, next-decided, next-ready, not-last, room-in}
 use borrow.Fn.Kinds.{In}
 use borrow.Fn.PlainCycle.{Measures, is, falls, and}
-use Rattle.deciding.proofs.decide_rest.Reads as rest
-use Rattle.deciding.proofs.decide_rest.Kinds as rest-kinds
-use Rattle.deciding.proofs.+decide_rest.Lts-decide_rest as rest-lts
-use Rattle.deciding.proofs.decide_final.Reads as last-reads
+use Rattle.decide_rounds.proofs.decide_rest.Reads as rest
+use Rattle.decide_rounds.proofs.decide_rest.Kinds as rest-kinds
+use Rattle.decide_rounds.proofs.+decide_rest.Lts-decide_rest as rest-lts
+use Rattle.decide_rounds.proofs.decide_final.Reads as last-reads
 use Rattle.level_words.proofs.next_coin.Reads as next-coin-reads
 use Rattle.level_words.proofs.next_oracle.Reads as next-function-reads
 use Rattle.level_words.proofs.next_state.Reads as next-state-reads
 use Rattle.level_words.proofs.reads_after_round.Reads as after-reads-after-round
-use Rattle.deciding.proofs.room.Reads as room-reads
+use Rattle.decide_rounds.proofs.room.Reads as room-reads
 use Rattle.round_words.proofs.next_samples.Reads as round-at-reads
 use Rattle.round_words.proofs.correction.Reads as correction-reads
 use Rattle.lists.proofs.places.Reads as places-reads
 use Rattle.lists.proofs.double_places.Reads as double-places-reads
-use Rattle.deciding.proofs.+decide_rest.{statement}
-use Rattle.deciding.proofs.+decide_rest.Tie.{close}
+use Rattle.decide_rounds.proofs.+decide_rest.{statement}
+use Rattle.decide_rounds.proofs.+decide_rest.Tie.{close}
 
 abbrev μ-rest : Measures 4 rest-kinds.ps ℕ
 μ-rest κs a = 6 - a .1 .1 .1 .0 .level

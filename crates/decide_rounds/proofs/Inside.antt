@@ -1,18 +1,17 @@
 -- The words of the next round, or of the final comparison, are there and in range; and what is known at a place is known at the next.
 use Prim.Native.Nat.{ℕ, _+_, _*_, _/_, _^_, _≤_, _<_}
-use native.Mathlib.Nat.{div-mul-le-self, mul-comm, mul-le-mul-left, pow-suc}
+use native.Mathlib.Nat.{div-mul-le-self, mul-le-mul-left, pow-suc}
 use native.Mathlib.Numerals.{add-one}
 use native.Mathlib.Omega.{arith}
-use mathlib.Core.Path.{_≡_, refl, sym, ap, _∙_, subst}
+use mathlib.Core.Path.{_≡_, refl, ap, _∙_, subst}
 use mathlib.Core.List.{List, _∷_, _++_}
-use lib.ListN.{length, getD, take, drop, replicate, length-append, length-drop, length-replicate}
+use lib.ListN.{length, take, drop, replicate, length-append, length-drop, length-replicate}
 use lib.Pow.{pow-mono}
 use lib.Seq.{drop-drop}
 use Rattle.list_laws.specs.All.{at-place}
 use Rattle.layouts.specs.LayoutFacts.{round-length}
-use Rattle.layouts.specs.LevelsByNumber.{Paired, halved}
+use Rattle.layouts.specs.LevelsByNumber.{Paired}
 use Rattle.layouts.specs.Levels.{roundsOf}
-use Rattle.layouts.specs.SheetLevels.{sized}
 use Rattle.definition.specs.Layout.{coin, index, laterCount, limit, message, out, restLayout, roundLayout}
 use Rattle.definition.specs.Sheet.{Edition, Level, Sheet, finalCount, shiftCount}
 use Rattle.lists.specs.Correcting.{Columned}
@@ -22,9 +21,10 @@ use Rattle.level_words.specs.declared.State.{State}
 use Rattle.level_words.specs.Words.{levels-end, levels-next, third-drop}
 use Rattle.level_words.specs.State.{currentFold, currentLevel, currentRepetitions, finalsOf, nextDegree, nextFold, nextOracle, nextShifts, nextSize, nextState, shiftsAt}
 use Rattle.level_words.specs.Inside.{FinalInside, Numbers, RoundInside, Written}
-use Rattle.deciding.specs.Kinds.{PrefixInRange, kindsOf}
-use Rattle.deciding.specs.Invariant.{Folding, Invariant, Placed, Shaped}
-use Rattle.deciding.proofs.PrefixLaws.{prefix-after, prefix-front, prefix-long, prefix-run, prefix-tail}
+use Rattle.decide_rounds.specs.Kinds.{PrefixInRange, kindsOf}
+use Rattle.decide_rounds.specs.Invariant.{Folding, Invariant, Placed}
+use Rattle.decide_rounds.proofs.PrefixLaws.{prefix-after, prefix-front, prefix-long, prefix-run, prefix-tail}
+use Rattle.decide_rounds.specs.Sizes.{divided, even-size, halved-size}
 
 -- a run of n indices below c in a list
 run-below : (p n c : ℕ) (w : List ℕ) → PrefixInRange p (replicate n (index c)) w → Below c (take n w)
@@ -164,25 +164,6 @@ module _ (h : Sheet) (w : List ℕ) (st : State) (ok : Placed h w st) (end : st 
 
   pub final-inside : (ed : Edition) → Written ed h w → FinalInside ed h w st
   final-inside ed v = record { numbers = numbers h w st ok ed v; there = final-there; below = finals-below }
-
--- n_i is n0 over 2^i, of which at every level k_i is a part
-module _ (h : Sheet) (x : Shaped h) (i n : ℕ) (size : n ≡ h .size / 2 ^ i) where
-  pub divided : i ≤ roundsOf h → getD (h .folds) i 0 * (n / getD (h .folds) i 0) ≡ n
-  divided l =
-      let k = getD (h .folds) i 0 in
-      rw size (mul-comm k (h .size / 2 ^ i / k) ∙ sized h (x .law) i l .folds)
-
-  pub halved-size : n / 2 ≡ h .size / 2 ^ (i + 1)
-  halved-size = ap (λ (m : ℕ). m / 2) size ∙ halved (h .size) i ∙ ap (λ (m : ℕ). h .size / 2 ^ m) (sym (add-one i))
-
-  pub even-size : i ≤ roundsOf h → 2 * (n / 2) ≡ n
-  even-size l =
-      let k = x .folds i l in
-      let c = n / getD (h .folds) i 0 in
-      go (2 ^ k .log) c (ap (λ (y : ℕ). y * c) (sym (k .two ∙ pow-suc 2 (k .log))) ∙ divided l)
-    where
-      go : (q c : ℕ) → q * 2 * c ≡ n → 2 * (n / 2) ≡ n
-      go q c e = omega (arith, e)
 
 -- the next level's points are in the table of points
 next-fits : (points n k k′ words : ℕ) (oracle : Oracle) → Folding k′ → Fits points n oracle k → 2 * (n / 2) ≡ n → k′ * (n / 2 / k′) ≡ n / 2 → Columned k′ words →
