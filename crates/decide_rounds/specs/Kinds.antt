@@ -6,17 +6,13 @@ use lib.ListN.{drop}
 use Rattle.definition.specs.Deciding.{outInDomain}
 use Rattle.definition.specs.Layout.{Kind, limit, restLayout}
 use Rattle.definition.specs.Lists.{firstTrue}
-use Rattle.definition.specs.Sheet.{Sheet, firstLevel, laterLevels}
+use Rattle.definition.specs.Sheet.{Sheet}
 use Rattle.level_words.specs.declared.State.{State}
 use Rattle.level_words.specs.State.{currentLevel, laterLevelsAt}
 
 -- the kinds of the words from here on
 abbrev pub kindsOf : Sheet → State → List Kind
 kindsOf h st = restLayout (h .outCoins) (currentLevel h st) (laterLevelsAt h st)
-
--- the kinds of all words after fold coin 0
-abbrev pub kindsAfterFold : Sheet → List Kind
-kindsAfterFold h = restLayout (h .outCoins) (firstLevel h) (laterLevels h)
 
 -- the words begin with one word below its limit for each kind
 abbrev pub PrefixInRange : ℕ → List Kind → List ℕ → Type 0

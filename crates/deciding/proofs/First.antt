@@ -27,7 +27,8 @@ use Rattle.level_words.specs.declared.State.{State}
 use Rattle.decide_rounds.specs.Sizes.{divided}
 use Rattle.level_words.specs.State.{afterFold, currentFold, currentLevel, currentTable, firstOracle, firstState, laterLevelsAt, restOf}
 use Rattle.level_words.specs.Inside.{Written}
-use Rattle.decide_rounds.specs.Kinds.{PrefixInRange, kindsAfterFold, kindsOf, outsFrom}
+use Rattle.decide_rounds.specs.Kinds.{PrefixInRange, kindsOf, outsFrom}
+use Rattle.out_coins.specs.Kinds.{kindsAfterFold}
 use Rattle.decide_rounds.specs.Invariant.{Decided, Folding, Invariant, Placed, Represented, Shaped}
 use Rattle.deciding.proofs.Tested.{prefix-tested, tested-after}
 

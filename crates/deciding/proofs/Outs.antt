@@ -11,7 +11,8 @@ use Rattle.definition.specs.Sheet.{Sheet}
 use Rattle.domain.specs.OutCoins.{coin-not-out, messages-not-outs, passed-over}
 use Rattle.deciding.proofs.First.{first-kinds, first-room}
 use Rattle.level_words.specs.State.{afterFold, firstState}
-use Rattle.decide_rounds.specs.Kinds.{kindsAfterFold, outsFrom}
+use Rattle.decide_rounds.specs.Kinds.{outsFrom}
+use Rattle.out_coins.specs.Kinds.{kindsAfterFold}
 
 -- table 0 and fold coin 0 are no out coins
 module _ (from : ℕ) (h : Sheet) (w : List ℕ) (due : from + length (layout h) ≤ length w) where

@@ -23,7 +23,7 @@ use Rattle.deciding.proofs.First.{first-room, first-step, range-after, 
 use Rattle.deciding.proofs.Outs.{outs-first}
 use Rattle.level_words.specs.State.{afterFold, firstOracle, firstState}
 use Rattle.level_words.specs.Inside.{Written}
-use Rattle.decide_rounds.specs.Kinds.{kindsAfterFold}
+use Rattle.out_coins.specs.Kinds.{kindsAfterFold}
 use Rattle.decide_rounds.specs.Invariant.{Decided, Invariant, Represented, Shaped}
 
 -- ---- before round 1

@@ -15,7 +15,7 @@ ghost use Rattle.domain.specs.Powers.{Powers};
 ghost use Rattle.edition.specs.Meaning.{editionOf};
 ghost use Rattle.outcome.specs.Meaning.{verdictOf};
 ghost use Rattle.level_words.specs.State.{afterFold};
-ghost use Rattle.decide_rounds.specs.Kinds.{kindsAfterFold};
+ghost use Rattle.out_coins.specs.Kinds.{kindsAfterFold};
 
 // Deciding from table 0 on, by the table of points: refusals 8 and 9. Only the words after fold coin 0 need be in range. Past refusal 7 no out coin lies in its
 // round's domain, and so nothing is divided by 0.

@@ -1,3 +1,4 @@
+pub mod OneBit
 pub mod RuleLaws
 pub mod FirstBroken
 pub mod FoldLaws

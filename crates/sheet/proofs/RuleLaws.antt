@@ -19,7 +19,7 @@ use Rattle.definition.specs.Sheet.{Edition, between, degreeRule, edition1, edit
 use Rattle.edition.specs.declared.Edition as code
 use Rattle.edition.specs.declared.Edition.the-variants.{One, Two}
 use Rattle.edition.specs.Meaning.{editionOf}
-use Rattle.sheet.specs.OneBit.{power-one-bit}
+use Rattle.sheet.proofs.OneBit.{power-one-bit}
 use Rattle.sheet.specs.Rules.{DegreeAt}
 
 -- what a call's answer b says of the test t that it stands for, where the code asks for `not b`

@@ -24,7 +24,7 @@ use Rattle.definition.specs.Lists.{productOf}
 use Rattle.definition.specs.Reading.{sheetTest}
 use Rattle.definition.specs.Sheet.{Edition, Sheet, edition1, edition2, finalCount, foldWords, sheetLength, sheetOf}
 use Rattle.definition.specs.Verdict.{accepted}
-use Rattle.sheet.specs.OneBit.{power-ones}
+use Rattle.sheet.proofs.OneBit.{power-ones}
 use Rattle.sheet.specs.Rules.{DegreeAt}
 use Rattle.sheet.specs.Sizes.{roundWordCount}
 use Rattle.sheet.proofs.FoldLaws.{degree-first}

@@ -1,4 +1,3 @@
 pub mod Rules
-pub mod OneBit
 pub mod Sizes
 pub mod Front

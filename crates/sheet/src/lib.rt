@@ -21,7 +21,7 @@ ghost use Rattle.sheet.specs.Rules.{DegreeAt, Folds, Shape, frontRules, 
 ghost use Rattle.sheet.specs.Sizes.{roundWordCount};
 
 // The logarithm of a power of two, read off its single one bit.
-pub fn log2(x: u32) -> u32
+fn log2(x: u32) -> u32
     requires { ⌜ ones x ≡ 1 ⌝ }
     ensures { λ r. ⌜ x ≡ 2 ^ r ⌝ }
 {

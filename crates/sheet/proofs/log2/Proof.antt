@@ -1,5 +1,5 @@
 -- `sheet::log2` meets its contract. The one bit stands above the trailing zeros. Assumes nothing.
-use Rattle.sheet.specs.OneBit.{one-bit}
+use Rattle.sheet.proofs.OneBit.{one-bit}
 use Rattle.sheet.proofs.log2.Statement.{statement}
 use Rattle.sheet.proofs.log2.Tie as tie
 
