@@ -7,8 +7,8 @@ use Rattle.decide_rounds.proofs.Ready.{differ-ready, place-ready, same-
 use Rattle.decide_rounds.proofs.decide_final.Statement.{statement}
 use Rattle.decide_rounds.proofs.decide_final.Tie as tie
 
-final-at-requires : tie.Need-final-difference-requires
-final-at-requires c κs = search needs
+final-difference-requires : tie.Need-final-difference-requires
+final-difference-requires c κs = search needs
 
 enum-known-f : tie.Need-enum-known-f
 enum-known-f c = search needs
@@ -75,7 +75,7 @@ pub decide-final-spec : {M : Type 1} → statement M
 decide-final-spec =
     tie.close
     (tie.spec
-    final-at-requires
+    final-difference-requires
     enum-known-f
     add-reads-after-finals
     reads-after-finals-requires

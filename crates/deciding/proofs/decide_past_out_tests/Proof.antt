@@ -54,8 +54,8 @@ shared-slice-read-rest-2 c =
     let v = sheet-written (editionOf (a .e)) (a .w .now) (s .pre .0 .0) (s .pre .1 .0) in
     omega (arith, v .size, coin-there (editionOf (a .e)) (a .w .now) (s .pre .0 .0) (s .pre .1 .0), c .before .before .sheet-words .ensures)
 
-first-function-requires : tie.Need-first-oracle-requires
-first-function-requires c κs =
+first-oracle-requires : tie.Need-first-oracle-requires
+first-oracle-requires c κs =
     let s = c .before .before .before .before .before .before .before .before in
     let a = s .args in
     let x = sheet-shaped (editionOf (a .e)) (a .w .now) (s .pre .0 .0) (s .pre .1 .0) in
@@ -103,7 +103,7 @@ decide-past-out-tests-spec =
     add-rest
     mul-rest
     shared-slice-read-rest-2
-    first-function-requires
+    first-oracle-requires
     slice-aggregate-rest
     slice-aggregate-rest-2
     rest-requires
