@@ -17,7 +17,7 @@ use Rattle.layouts.specs.LevelsByNumber.{Paired}
 use Rattle.layouts.specs.Levels.{levelOf, outCoinCount}
 use Rattle.generator.specs.Draws.{drawMany, indices-drawn, messages-drawn}
 use Rattle.draws.specs.AtLevel.{AtLevel, rounds-are, times-are}
-use Rattle.draws.specs.Kinds.{after-append, after-coin, after-later, drawn-both, drawn-length, one-coin, outAfter, two-coins}
+use Rattle.draws.proofs.KindsDrawn.{after-append, after-coin, after-later, drawn-both, drawn-length, one-coin, outAfter, two-coins}
 
 -- what is drawn and the generator as it then is, against what the definition draws
 abbrev pub Is : List ℕ → ℕ → Drawn (List ℕ) → Type 0

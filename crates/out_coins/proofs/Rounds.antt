@@ -26,7 +26,7 @@ use Rattle.domain.specs.Powers.{Powers}
 use Rattle.outcome.specs.declared.Found.{Found}
 use Rattle.outcome.specs.declared.Found.the-variants.{At, Nothing}
 use Rattle.outcome.specs.Meaning.{placeOf}
-use Rattle.out_coins.specs.Kinds.{afterFold, kinds-first, kinds-last, messagesIn, round-count, roundWordCount}
+use Rattle.out_coins.specs.Kinds.{kindsAfterFold, kinds-first, kinds-last, messagesIn, round-count, roundWordCount}
 use Rattle.out_coins.specs.Walks.{equal-none, equal-step, equalAt, equalFrom, inside-none, inside-step, insideFrom, rest-there, tests-rest}
 
 or-none : (a : Option ℕ) → orElse a none ≡ a
@@ -77,18 +77,18 @@ ended-nowhere e q = sym (ap (λ (x : Found). refuseAt 7 none then refuseAt 14 (p
 pub record Asked (ed : Edition) (w : List ℕ) (alone : Bool) (words : List ℕ) (start : ℕ) : Type 0 where
   pub long : sheetLength ed ≤ length w
   pub passed : sheetTest ed w ≡ accepted
-  pub due : start + length (chosen alone (afterFold (sheetOf ed w))) ≤ length words
+  pub due : start + length (chosen alone (kindsAfterFold (sheetOf ed w))) ≤ length words
 
 pub asked : {ed : Edition} {w : List ℕ} {alone : Bool} {words : List ℕ} {start : ℕ} → (sheetLength ed ≤ length w) × (sheetTest ed w ≡ accepted) →
-    start + length (chosen alone (afterFold (sheetOf ed w))) ≤ length words → Asked ed w alone words start
+    start + length (chosen alone (kindsAfterFold (sheetOf ed w))) ≤ length words → Asked ed w alone words start
 asked a d = record { long = a .0; passed = a .1; due = d }
 
 -- i rounds are behind without an out coin in its domain, the second of two equal out coins is found or none is, and the next word is number `at`
 pub record AtRound (h : Sheet) (alone : Bool) (words : List ℕ) (start : ℕ) (equal : Option ℕ) (at scale i : ℕ) : Type 0 where
   pub within : i ≤ roundsOf h
   pub scaled : scale ≡ 2 ^ i
-  pub inside : insideFrom h (chosen alone (wordsAfter h i)) words at ≡ insideFrom h (chosen alone (afterFold h)) words start
-  pub same : orElse equal (equalFrom (chosen alone (wordsAfter h i)) words at) ≡ equalFrom (chosen alone (afterFold h)) words start
+  pub inside : insideFrom h (chosen alone (wordsAfter h i)) words at ≡ insideFrom h (chosen alone (kindsAfterFold h)) words start
+  pub same : orElse equal (equalFrom (chosen alone (wordsAfter h i)) words at) ≡ equalFrom (chosen alone (kindsAfterFold h)) words start
   pub there : at + length (chosen alone (wordsAfter h i)) ≤ length words
 
 -- the loop's invariant: so it is in each edition whose rules the words keep
@@ -138,7 +138,7 @@ module _ {ed : Edition} {w : List ℕ} {alone : Bool} {words : List ℕ} {start 
 
   module _ {equal : Option ℕ} {at scale i : ℕ} (r : AtRound (sheetOf ed w) alone words start equal at scale i) where
     -- after the last round
-    pub ended : getD w 4 0 ≤ i → (refuseAt 7 none then refuseAt 14 equal) ≡ outTests (sheetOf ed w) start (chosen alone (afterFold (sheetOf ed w))) words
+    pub ended : getD w 4 0 ≤ i → (refuseAt 7 none then refuseAt 14 equal) ≡ outTests (sheetOf ed w) start (chosen alone (kindsAfterFold (sheetOf ed w))) words
     unfolding outTests outTest equalTest
     ended last =
         let k = kinds-last alone h i (omega (arith, rounds)) in
@@ -215,13 +215,13 @@ module _ {ed : Edition} {w : List ℕ} {alone : Bool} {words : List ℕ} {start 
               first (getD w 0 0) (rootOfUnity h) l (rw (same-root ed ed′ w) points-are) (sym scale-next) (sym table-size ∙ ap (λ (n : ℕ). n / (scale * 2)) (sym many))
               ∙ ap (λ (n : ℕ). firstInside (getD w 0 0) (rootOfUnity h) l words (at + n) (h .outCoins)) eh
 
-          found-as : orElse o (insideFrom (sheetOf ed w) rest words next) ≡ insideFrom (sheetOf ed w) (chosen alone (afterFold (sheetOf ed w))) words start
+          found-as : orElse o (insideFrom (sheetOf ed w) rest words next) ≡ insideFrom (sheetOf ed w) (chosen alone (kindsAfterFold (sheetOf ed w))) words start
           found-as = ap (λ (x : Option ℕ). orElse x (insideFrom h rest words next)) of-round ∙ sym by-inside ∙ r .inside
 
-          pub found : {place : ℕ} → some place ≡ o → refused 7 place ≡ outTests (sheetOf ed w) start (chosen alone (afterFold (sheetOf ed w))) words
+          pub found : {place : ℕ} → some place ≡ o → refused 7 place ≡ outTests (sheetOf ed w) start (chosen alone (kindsAfterFold (sheetOf ed w))) words
           unfolding outTests outTest refuseAt _then_
           found e =
-              ap (λ (x : Option ℕ). refuseAt 7 x then equalTest h start (chosen alone (afterFold h)) words)
+              ap (λ (x : Option ℕ). refuseAt 7 x then equalTest h start (chosen alone (kindsAfterFold h)) words)
               (ap (λ (x : Option ℕ). orElse x (insideFrom h rest words next)) e ∙ found-as)
 
           pub turned : none ≡ o → {equal′ here : Option ℕ} {next′ : ℕ} → equal′ ≡ orElse equal here → here ≡ equalAt words (at + heads) (getD w 5 0) → next′ ≡ at + heads + roundWordCount alone w i →
@@ -253,13 +253,13 @@ module _ (ed : Edition) (w : List ℕ) (due : wordsDue ed (sheetOf ed w) ≤ len
     unfolding messagesIn sheetOf
     start-is = ap (λ (n : ℕ). n + getD w 1 0 + 1) ef
 
-    pub stream-start : from + getD w 1 0 + 1 + length (chosen false (afterFold (sheetOf ed w))) ≤ length w
+    pub stream-start : from + getD w 1 0 + 1 + length (chosen false (kindsAfterFold (sheetOf ed w))) ≤ length w
     stream-start = omega (arith, start-is, rest-there false (sheetOf ed w) w (sheetLength ed) all-there)
 
-    pub stream-rest : outTests (sheetOf ed w) (from + getD w 1 0 + 1) (chosen false (afterFold (sheetOf ed w))) w ≡ outTests (sheetOf ed w) (sheetLength ed) (layout (sheetOf ed w)) w
+    pub stream-rest : outTests (sheetOf ed w) (from + getD w 1 0 + 1) (chosen false (kindsAfterFold (sheetOf ed w))) w ≡ outTests (sheetOf ed w) (sheetLength ed) (layout (sheetOf ed w)) w
     unfolding chosen
     stream-rest =
-        ap (λ (n : ℕ). outTests (sheetOf ed w) n (chosen false (afterFold (sheetOf ed w))) w) start-is ∙ tests-rest false (sheetOf ed w) w (sheetLength ed) all-there
+        ap (λ (n : ℕ). outTests (sheetOf ed w) n (chosen false (kindsAfterFold (sheetOf ed w))) w) start-is ∙ tests-rest false (sheetOf ed w) w (sheetLength ed) all-there
 
 -- a full coin list
 module _ (ed : Edition) (w coins : List ℕ) (full : length coins ≡ length (coinKinds (layout (sheetOf ed w)))) where
@@ -267,10 +267,10 @@ module _ (ed : Edition) (w coins : List ℕ) (full : length coins ≡ length (co
   unfolding chosen
   all-coins = omega (arith, full)
 
-  pub coins-start : 1 + length (chosen true (afterFold (sheetOf ed w))) ≤ length coins
+  pub coins-start : 1 + length (chosen true (kindsAfterFold (sheetOf ed w))) ≤ length coins
   unfolding messagesIn
   coins-start = rest-there true (sheetOf ed w) coins 0 all-coins
 
-  pub coins-rest : outTests (sheetOf ed w) 1 (chosen true (afterFold (sheetOf ed w))) coins ≡ outTests (sheetOf ed w) 0 (coinKinds (layout (sheetOf ed w))) coins
+  pub coins-rest : outTests (sheetOf ed w) 1 (chosen true (kindsAfterFold (sheetOf ed w))) coins ≡ outTests (sheetOf ed w) 0 (coinKinds (layout (sheetOf ed w))) coins
   unfolding messagesIn chosen
   coins-rest = tests-rest true (sheetOf ed w) coins 0 all-coins

@@ -14,8 +14,8 @@ use Rattle.definition.specs.Layout.{Kind, coin, coinKinds, index, layout, messa
 use Rattle.definition.specs.Sheet.{Level, Sheet, finalCount, firstLevel, laterLevels, shiftCount}
 
 -- the kinds of the words after fold coin 0
-abbrev pub afterFold : Sheet → List Kind
-afterFold h = restLayout (h .outCoins) (firstLevel h) (laterLevels h)
+abbrev pub kindsAfterFold : Sheet → List Kind
+kindsAfterFold h = restLayout (h .outCoins) (firstLevel h) (laterLevels h)
 
 -- how many of n messages stand among the words
 unfoldable pub messagesIn : Bool → ℕ → ℕ
@@ -103,7 +103,7 @@ module _ (alone : Bool) (h : Sheet) where
       (all-append Silent (replicate (messagesIn alone (finalCount b)) message) _ (all-replicate Silent (messagesIn alone (finalCount b)) message tt)
       (all-replicate Silent (b .repetitions) (index (shiftCount b)) tt))
 
-  pub kinds-first : Paired h → chosen alone (afterFold h) ≡ chosen alone (wordsAfter h 0)
+  pub kinds-first : Paired h → chosen alone (kindsAfterFold h) ≡ chosen alone (wordsAfter h 0)
   kinds-first long = ap (chosen alone) (words-first h long)
 
   -- the number of words of a round
@@ -126,10 +126,10 @@ module _ (alone : Bool) (h : Sheet) where
       )
 
   -- table 0 and fold coin 0 come first, or fold coin 0 alone
-  pub kinds-all : chosen alone (layout h) ≡ replicate (messagesIn alone (h .size)) message ++ (coin ∷ chosen alone (afterFold h))
+  pub kinds-all : chosen alone (layout h) ≡ replicate (messagesIn alone (h .size)) message ++ (coin ∷ chosen alone (kindsAfterFold h))
   unfolding chosen messagesIn layout coinKinds
   kinds-all = go alone
     where
-      go : (a : Bool) → chosen a (layout h) ≡ replicate (messagesIn a (h .size)) message ++ (coin ∷ chosen a (afterFold h))
+      go : (a : Bool) → chosen a (layout h) ≡ replicate (messagesIn a (h .size)) message ++ (coin ∷ chosen a (kindsAfterFold h))
       go false = refl
-      go true = coins-append (replicate (h .size) message) (coin ∷ afterFold h) ∙ ap {B = List Kind} (λ ks. ks ++ coinKinds (coin ∷ afterFold h)) (coins-messages (h .size))
+      go true = coins-append (replicate (h .size) message) (coin ∷ kindsAfterFold h) ∙ ap {B = List Kind} (λ ks. ks ++ coinKinds (coin ∷ kindsAfterFold h)) (coins-messages (h .size))

@@ -19,7 +19,7 @@ use Rattle.definition.specs.Lists.{firstTrue}
 use Rattle.definition.specs.Sheet.{Level, Sheet, rootOfUnity}
 use Rattle.definition.specs.Verdict.{_then_, refuseAt}
 use Rattle.domain.specs.OutCoins.{all-passed-over, firstInside, orElse, outs-run, passed-over}
-use Rattle.out_coins.specs.Kinds.{Ends, Silent, afterFold, headKinds, kinds-all, kinds-next, messagesIn, silent-head, tail-count, tail-ends, tailKinds}
+use Rattle.out_coins.specs.Kinds.{Ends, Silent, kindsAfterFold, headKinds, kinds-all, kinds-next, messagesIn, silent-head, tail-count, tail-ends, tailKinds}
 
 -- of the words from number `at` on, which are of these kinds: the first out coin in its domain, and the first that repeats the one before it in its round
 abbrev pub insideFrom : Sheet → List Kind → List ℕ → ℕ → Option ℕ
@@ -165,12 +165,12 @@ module _ (alone : Bool) (h : Sheet) (w : List ℕ) (from : ℕ) (there : from + 
   abbrev table : ℕ
   table = messagesIn alone (h .size)
 
-  pub rest-there : from + messagesIn alone (h .size) + 1 + length (chosen alone (afterFold h)) ≤ length w
+  pub rest-there : from + messagesIn alone (h .size) + 1 + length (chosen alone (kindsAfterFold h)) ≤ length w
   rest-there =
-      omega (arith, there, ap length (kinds-all alone h), length-append (replicate table message) (coin ∷ chosen alone (afterFold h)), length-replicate table message)
+      omega (arith, there, ap length (kinds-all alone h), length-append (replicate table message) (coin ∷ chosen alone (kindsAfterFold h)), length-replicate table message)
 
   -- the tests of all words are those of the words after fold coin 0
-  pub tests-rest : outTests h (from + messagesIn alone (h .size) + 1) (chosen alone (afterFold h)) w ≡ outTests h from (chosen alone (layout h)) w
+  pub tests-rest : outTests h (from + messagesIn alone (h .size) + 1) (chosen alone (kindsAfterFold h)) w ≡ outTests h from (chosen alone (layout h)) w
   unfolding outTests outTest equalTest
   tests-rest = sym (
       ap (λ (ks : List Kind). refuseAt 7 (insideFrom h ks w from) then refuseAt 14 (equalFrom ks w from)) (kinds-all alone h)
@@ -179,12 +179,12 @@ module _ (alone : Bool) (h : Sheet) (w : List ℕ) (from : ℕ) (there : from + 
       silent : All Silent (replicate table message)
       silent = all-replicate Silent table message tt
 
-      inside-first : insideFrom h (replicate table message ++ (coin ∷ chosen alone (afterFold h))) w from ≡ insideFrom h (chosen alone (afterFold h)) w (from + table + 1)
+      inside-first : insideFrom h (replicate table message ++ (coin ∷ chosen alone (kindsAfterFold h))) w from ≡ insideFrom h (chosen alone (kindsAfterFold h)) w (from + table + 1)
       inside-first =
-          inside-over h (replicate table message) (coin ∷ chosen alone (afterFold h)) w from table (length-replicate table message) silent (omega (arith, rest-there))
-          ∙ inside-over h (coin ∷ []) (chosen alone (afterFold h)) w (from + table) 1 refl (tt, tt) (omega (arith, rest-there))
+          inside-over h (replicate table message) (coin ∷ chosen alone (kindsAfterFold h)) w from table (length-replicate table message) silent (omega (arith, rest-there))
+          ∙ inside-over h (coin ∷ []) (chosen alone (kindsAfterFold h)) w (from + table) 1 refl (tt, tt) (omega (arith, rest-there))
 
-      equal-first : equalFrom (replicate table message ++ (coin ∷ chosen alone (afterFold h))) w from ≡ equalFrom (chosen alone (afterFold h)) w (from + table + 1)
+      equal-first : equalFrom (replicate table message ++ (coin ∷ chosen alone (kindsAfterFold h))) w from ≡ equalFrom (chosen alone (kindsAfterFold h)) w (from + table + 1)
       equal-first =
-          equal-over (replicate table message) (coin ∷ chosen alone (afterFold h)) w from table (length-replicate table message) silent (omega (arith, rest-there))
-          ∙ equal-over (coin ∷ []) (chosen alone (afterFold h)) w (from + table) 1 refl (tt, tt) (omega (arith, rest-there))
+          equal-over (replicate table message) (coin ∷ chosen alone (kindsAfterFold h)) w from table (length-replicate table message) silent (omega (arith, rest-there))
+          ∙ equal-over (coin ∷ []) (chosen alone (kindsAfterFold h)) w (from + table) 1 refl (tt, tt) (omega (arith, rest-there))

@@ -15,7 +15,7 @@ ghost use Rattle.domain.specs.OutCoins.{orElse};
 ghost use Rattle.domain.specs.Powers.{Powers};
 ghost use Rattle.edition.specs.Meaning.{editionOf};
 ghost use Rattle.outcome.specs.Meaning.{outcomeOf, placeOf};
-ghost use Rattle.out_coins.specs.Kinds.{afterFold, messagesIn, roundWordCount};
+ghost use Rattle.out_coins.specs.Kinds.{kindsAfterFold, messagesIn, roundWordCount};
 ghost use Rattle.out_coins.specs.Walks.{equalAt};
 
 // How many of n messages stand among the words: none where the coins stand alone.
@@ -62,7 +62,7 @@ fn first_of(earlier: Found, later: Found) -> Found
 }
 
 // The tests of the out coins among the words from number `start` on, the first after fold coin 0. The words are those of a stream, or coins alone.
-pub fn after_fold(
+fn after_fold(
     e: Edition,
     w: &[u32],
     pw: &[u32],
@@ -71,9 +71,9 @@ pub fn after_fold(
     start: usize,
 ) -> Outcome
     requires { ⌜ (sheetLength (editionOf e) ≤ length (now w)) × (sheetTest (editionOf e) (now w) ≡ accepted) ⌝ }
-    requires { ⌜ start + length (chosen alone (afterFold (sheetOf (editionOf e) (now w)))) ≤ length (now words) ⌝ }
+    requires { ⌜ start + length (chosen alone (kindsAfterFold (sheetOf (editionOf e) (now w)))) ≤ length (now words) ⌝ }
     requires { ⌜ (Powers (getD (now w) 0 0) (rootOfUnity (sheetOf (editionOf e) (now w))) (now pw)) × (length (now pw) ≡ getD (now w) 1 0) ⌝ }
-    ensures { λ r. ⌜ outcomeOf r ≡ outTests (sheetOf (editionOf e) (now (w .entry))) start (chosen alone (afterFold (sheetOf (editionOf e) (now (w .entry))))) (now (words .entry)) ⌝ }
+    ensures { λ r. ⌜ outcomeOf r ≡ outTests (sheetOf (editionOf e) (now (w .entry))) start (chosen alone (kindsAfterFold (sheetOf (editionOf e) (now (w .entry))))) (now (words .entry)) ⌝ }
 {
     let rounds = w[4] as usize;
     let s = w[5] as usize;

@@ -6,7 +6,7 @@ use outcome::Verdict;
 ghost use Prim.Native.Nat.{_≤_};
 
 // A verdict as a line: the outcome, its number and place, and the reads.
-pub fn print(v: Verdict) {
+fn print(v: Verdict) {
     send(STDOUT_FILENO, line::of_verdict(v));
 }
 

@@ -13,7 +13,7 @@ use Rattle.definition.specs.Load.{Drawn, drawKind, drawKinds}
 use Rattle.definition.specs.Sheet.{edition1, sheetOf}
 use Rattle.layouts.specs.Levels.{levelOf}
 use Rattle.draws.specs.AtLevel.{bounded, suits}
-use Rattle.draws.specs.Kinds.{after-more, drawn-more, outAfter}
+use Rattle.draws.proofs.KindsDrawn.{after-more, drawn-more, outAfter}
 use Rattle.draws.specs.OutCoin.{StandsFor}
 use Rattle.draws.proofs.Joins.{Is}
 use Rattle.draws.proofs.out_coins.Statement.{statement}

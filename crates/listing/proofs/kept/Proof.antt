@@ -7,7 +7,7 @@ use Rattle.definition.specs.Sheet.{edition1}
 use Rattle.domain.specs.OfSheet.{fitting, points-of-sheet}
 use Rattle.line.specs.Text.{begun}
 use Rattle.listing.specs.Listing.{keptText}
-use Rattle.listing.specs.TableLaws.{text-of-sheet}
+use Rattle.listing.proofs.TableLaws.{text-of-sheet}
 use Rattle.listing.proofs.kept.Statement.{statement}
 use Rattle.listing.proofs.kept.Tie as tie
 
