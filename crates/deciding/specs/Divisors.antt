@@ -136,7 +136,7 @@ module _ (h : Sheet) (w pw ac vg : List ℕ) (st : State) (oracle : Oracle) (ok 
   module _ (r : ℕ) (px py : List ℕ) (j : ℕ) (long : length py ≡ length px) (a : NextSamples h w pw ac vg st r oracle (some (pair (drop j px) (drop j py)))) where
     kept-is : pair (drop j px) (drop j py) ≡ distinct F (answers F (s .ω) b (s .f) r (nextRound h w st))
     unfolding nextRound
-    kept-is = some-distinct field (answers F (s .ω) b (s .f) r (nextRound h w st)) (pair (drop j px) (drop j py)) (a (s .ω) b (s .f) (nextRound h w st) refl refl refl (s .represents)) .1
+    kept-is = some-distinct F (answers F (s .ω) b (s .f) r (nextRound h w st)) (pair (drop j px) (drop j py)) (a (s .ω) b (s .f) (nextRound h w st) refl refl refl (s .represents)) .1
 
     points-are : points (distinct F (answers F (s .ω) b (s .f) r (nextRound h w st))) ≡ drop j px
     points-are = ap (λ (g : List (Sample ℕ)). points g) (sym kept-is) ∙ points-pair (drop j px) (drop j py) (omega (arith, length-drop j px, length-drop j py))

@@ -11,6 +11,7 @@ use lib.ListN.{length, drop, getD, drop-of-length-le}
 use lib.Seq.{drop-cons}
 use Rattle.definition.specs.Field.{Field, fieldOf}
 use Rattle.definition.specs.Polynomial.{Sample, pair}
+use Rattle.algebra.specs.Laws.{FieldLaws}
 use Rattle.list_laws.specs.Backwards.{drop-back}
 use Rattle.samples.specs.Samples.{put, distinctOrClash, Room}
 use Rattle.samples.specs.declared.Gathered.{Gathered}
@@ -99,29 +100,30 @@ module _ (field : ℕ) (pw table ac vg : List ℕ) (oracle : Oracle) (k r : ℕ)
       }
 
   pub answer-is : (outs replies : List ℕ) {v : Option (List (Sample ℕ))} → Below (oracle .step) js →
-      v ≡ distinctOrClash field (pair outs replies ++ numbered (sampleBy field pw roots oracle k r) 0 js) → Answered field pw table ac vg oracle k r js outs replies v
+      v ≡ distinctOrClash (fieldOf field) (pair outs replies ++ numbered (sampleBy field pw roots oracle k r) 0 js) → Answered field pw table ac vg oracle k r js outs replies v
   answer-is outs replies below e =
       answered field pw table ac vg oracle k r fits js outs replies below
-      (e ∙ ap (λ (t : List (Sample ℕ)). distinctOrClash field (pair outs replies ++ t)) (numbered-map (sampleBy field pw roots oracle k r) (sampleIn field pw table ac vg oracle k r) js sample-same))
+      (e ∙ ap (λ (t : List (Sample ℕ)). distinctOrClash (fieldOf field) (pair outs replies ++ t)) (numbered-map (sampleBy field pw roots oracle k r) (sampleIn field pw table ac vg oracle k r) js sample-same))
 
 -- ---- putting the samples, from the last index to the first
 
-module _ (field : ℕ) (S : ℕ → ℕ → Sample ℕ) (shifts : List ℕ) where
-  pub shifts-end : (px py : List ℕ) (k : ℕ) → length px ≡ k → some (pair (drop k px) (drop k py)) ≡ distinctOrClash field (numbered S (length shifts) (drop (length shifts) shifts))
+module _ {A : Type 0} (F : Field A) (S : ℕ → ℕ → Sample A) (shifts : List ℕ) where
+  pub shifts-end : (px py : List A) (k : ℕ) → length px ≡ k → some (pair (drop k px) (drop k py)) ≡ distinctOrClash F (numbered S (length shifts) (drop (length shifts) shifts))
   unfolding pair zipWith numbered
   shifts-end px py k e =
       let h : length px ≤ k = omega arith in
-      rw (drop-of-length-le px h, drop-of-length-le shifts (le-refl (length shifts))) (distinct-nil field)
+      rw (drop-of-length-le px h, drop-of-length-le shifts (le-refl (length shifts))) (distinct-nil F)
 
-  pub shifts-turn : (i : ℕ) {g : List (Sample ℕ)} {o : Option (List (Sample ℕ))} {s : Sample ℕ} → 0 < i → i ≤ length shifts →
-      some g ≡ distinctOrClash field (numbered S i (drop i shifts)) → s ≡ S (i - 1) (getD shifts (i - 1) 0) → o ≡ put s g → o ≡ distinctOrClash field (numbered S (i - 1) (drop (i - 1) shifts))
-  shifts-turn i {g} {s = s} h l e es eo =
-      eo ∙ put-ok field s (numbered S i (drop i shifts)) g e
-      ∙ ap (λ (t : Sample ℕ). distinctOrClash field (t ∷ numbered S i (drop i shifts))) es
-      ∙ ap (distinctOrClash field) (sym (numbered-back S shifts i h l))
+  pub shifts-turn : FieldLaws F → (i : ℕ) {g : List (Sample A)} {o : Option (List (Sample A))} {s : Sample A} → 0 < i → i ≤ length shifts →
+      some g ≡ distinctOrClash F (numbered S i (drop i shifts)) → s ≡ S (i - 1) (getD shifts (i - 1) 0) → o ≡ put (F .equal) s g →
+      o ≡ distinctOrClash F (numbered S (i - 1) (drop (i - 1) shifts))
+  shifts-turn L i {g} {s = s} h l e es eo =
+      eo ∙ put-ok F L s (numbered S i (drop i shifts)) g e
+      ∙ ap (λ (t : Sample A). distinctOrClash F (t ∷ numbered S i (drop i shifts))) es
+      ∙ ap (distinctOrClash F) (sym (numbered-back S shifts i h l))
 
-  pub shifts-clash : (i : ℕ) → none ≡ distinctOrClash field (numbered S i (drop i shifts)) → none ≡ distinctOrClash field (numbered S 0 shifts)
-  shifts-clash i e = clash-drop field i (numbered S 0 shifts) (e ∙ ap (distinctOrClash field) (sym (numbered-drop S i shifts)))
+  pub shifts-clash : (i : ℕ) → none ≡ distinctOrClash F (numbered S i (drop i shifts)) → none ≡ distinctOrClash F (numbered S 0 shifts)
+  shifts-clash i e = clash-drop F i (numbered S 0 shifts) (e ∙ ap (distinctOrClash F) (sym (numbered-drop S i shifts)))
 
 -- samples put in front of samples
 pub room-add : {n k : ℕ} (t u : ℕ) (r : Gathered) → (n ≤ k + t) × (k ≤ n) → Room k u r → Room n (u + t) r

@@ -39,7 +39,7 @@ pub record Represents (field ω : ℕ) (b : Level) (f : ℕ → ℕ) (pw table a
 abbrev pub Answered : ℕ → List ℕ → List ℕ → List ℕ → List ℕ → Oracle → ℕ → ℕ → List ℕ → List ℕ → List ℕ → Option (List (Sample ℕ)) → Type 0
 Answered field pw table ac vg oracle k r shifts outs replies v =
     (ω : ℕ) (b : Level) (f : ℕ → ℕ) (ρ : Round ℕ) → ρ .coins .outs ≡ outs → ρ .replies ≡ replies → ρ .coins .shifts ≡ shifts →
-    Represents field ω b f pw table ac vg oracle k → v ≡ distinctOrClash field (answers (fieldOf field) ω b f r ρ)
+    Represents field ω b f pw table ac vg oracle k → v ≡ distinctOrClash (fieldOf field) (answers (fieldOf field) ω b f r ρ)
 
 -- v is the place of the definition's first difference, for every level and function that the words are those of
 abbrev pub Compared : ℕ → List ℕ → List ℕ → List ℕ → List ℕ → Oracle → ℕ → ℕ → List ℕ → List ℕ → Option ℕ → Type 0
@@ -101,12 +101,12 @@ module _ {field ω : ℕ} {b : Level} {f : ℕ → ℕ} {pw table ac vg : List �
 
 module _ (field : ℕ) (pw table ac vg : List ℕ) (oracle : Oracle) (k r : ℕ) (fits : Fits (length pw) (length table) oracle k) where
   pub answered : (shifts outs replies : List ℕ) {v : Option (List (Sample ℕ))} → Below (oracle .step) shifts →
-      v ≡ distinctOrClash field (pair outs replies ++ map (sampleIn field pw table ac vg oracle k r) shifts) → Answered field pw table ac vg oracle k r shifts outs replies v
+      v ≡ distinctOrClash (fieldOf field) (pair outs replies ++ map (sampleIn field pw table ac vg oracle k r) shifts) → Answered field pw table ac vg oracle k r shifts outs replies v
   unfolding answers
   answered shifts outs replies l e = λ ω b f ρ eo er es s.
       let sample : ℕ → Sample ℕ = λ j. record { point = shiftPoint (fieldOf field) ω b j; value = foldAt (fieldOf field) ω b f r j } in
-      e ∙ ap (λ (t : List (Sample ℕ)). distinctOrClash field (pair outs replies ++ t)) (samples-are s fits r shifts l)
-      ∙ (λ i. distinctOrClash field (pair (sym eo i) (sym er i) ++ map sample (sym es i)))
+      e ∙ ap (λ (t : List (Sample ℕ)). distinctOrClash (fieldOf field) (pair outs replies ++ t)) (samples-are s fits r shifts l)
+      ∙ (λ i. distinctOrClash (fieldOf field) (pair (sym eo i) (sym er i) ++ map sample (sym es i)))
 
   pub compared : (coefficients finals : List ℕ) {v : Option ℕ} → Below (oracle .step) finals →
       v ≡ firstTrue 0 (map (λ j. differsIn field coefficients (sampleIn field pw table ac vg oracle k r j)) finals) →

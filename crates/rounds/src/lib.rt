@@ -8,6 +8,7 @@ ghost use mathlib.Core.Path.{_≡_};
 ghost use mathlib.Core.List.{_++_};
 ghost use Prim.Native.Nat.{ℕ, _+_, _*_, _≤_, _<_};
 ghost use lib.ListN.{length};
+ghost use Rattle.definition.specs.Field.{fieldOf};
 ghost use Rattle.definition.specs.Polynomial.{pair};
 ghost use Rattle.fractions.specs.Values.{Fits, Below, Clear};
 ghost use Rattle.samples.specs.Samples.{kept, distinctOrClash, Room};
@@ -84,7 +85,7 @@ fn put_shifts(
     requires { ⌜ Fits (length (now pw)) (length (now values) * oracle .step) oracle (length (now values)) ⌝ }
     requires { ⌜ Below (oracle .step) (now shifts) ⌝ }
     requires { ⌜ (length (now py) ≡ length (now px)) × (length (now shifts) ≤ length (now px)) ⌝ }
-    ensures { λ v. ⌜ kept v (now (px .exit)) (now (py .exit)) ≡ distinctOrClash field (numbered (sampleBy field (now (pw .entry)) (now (roots .entry)) oracle (length (now (values .entry))) r) 0 (now (shifts .entry))) ⌝ }
+    ensures { λ v. ⌜ kept v (now (px .exit)) (now (py .exit)) ≡ distinctOrClash (fieldOf field) (numbered (sampleBy field (now (pw .entry)) (now (roots .entry)) oracle (length (now (values .entry))) r) 0 (now (shifts .entry))) ⌝ }
     ensures { λ v. ⌜ Room (length (now (px .entry))) (length (now (shifts .entry))) v ⌝ }
 {
     let mut k = px.len();
@@ -128,7 +129,7 @@ fn answer_by(
     requires { ⌜ Fits (length (now pw)) (length (now values) * oracle .step) oracle (length (now values)) ⌝ }
     requires { ⌜ Below (oracle .step) (now shifts) ⌝ }
     requires { ⌜ (length (now py) ≡ length (now px)) × ((length (now replies) ≡ length (now outs)) × (length (now outs) + length (now shifts) ≤ length (now px))) ⌝ }
-    ensures { λ v. ⌜ kept v (now (px .exit)) (now (py .exit)) ≡ distinctOrClash field (pair (now (outs .entry)) (now (replies .entry)) ++ numbered (sampleBy field (now (pw .entry)) (now (roots .entry)) oracle (length (now (values .entry))) r) 0 (now (shifts .entry))) ⌝ }
+    ensures { λ v. ⌜ kept v (now (px .exit)) (now (py .exit)) ≡ distinctOrClash (fieldOf field) (pair (now (outs .entry)) (now (replies .entry)) ++ numbered (sampleBy field (now (pw .entry)) (now (roots .entry)) oracle (length (now (values .entry))) r) 0 (now (shifts .entry))) ⌝ }
     ensures { λ v. ⌜ Room (length (now (px .entry))) (length (now (outs .entry)) + length (now (shifts .entry))) v ⌝ }
 {
     let s = put_shifts(field, pw, roots, oracle, r, shifts, values, px, py);

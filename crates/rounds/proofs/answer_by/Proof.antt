@@ -2,6 +2,7 @@
 use mathlib.Core.List.{List}
 use native.Mathlib.Omega.{arith}
 use lib.ListN.{length}
+use Rattle.definition.specs.Field.{fieldOf}
 use Rattle.definition.specs.Polynomial.{Sample, pair}
 use Rattle.samples.specs.Samples.{distinctOrClash}
 use Rattle.samples.specs.SampleLaws.{clash-append}
@@ -38,8 +39,8 @@ returns c =
     let a = c .before .before .before .before .before .before .before .before .before .before .before .before .before .before .before .before .before .before .before .before .args in
     let p = c .before .before .before .before .before .before .before .before .put-shifts in
     let shifted : List (Sample _) = numbered (sampleBy (a .field) (a .pw .now) (a .roots .now) (a .oracle) (length (a .values .now)) (a .r)) 0 (a .shifts .now) in
-    let clash = kept-clash (p .last .1 .1 .1 .1 .1 .1 .1 .0) (p .last .1 .1 .1 .1 .1 .1 .1 .1 .0) {o = distinctOrClash (a .field) shifted} (c .enum-told .given .1) (p .ensures .0) in
-    (kept-none _ _ (clash-append (a .field) (pair (a .outs .now) (a .replies .now)) shifted clash), tt)
+    let clash = kept-clash (p .last .1 .1 .1 .1 .1 .1 .1 .0) (p .last .1 .1 .1 .1 .1 .1 .1 .1 .0) {o = distinctOrClash (fieldOf (a .field)) shifted} (c .enum-told .given .1) (p .ensures .0) in
+    (kept-none _ _ (clash-append (fieldOf (a .field)) (pair (a .outs .now) (a .replies .now)) shifted clash), tt)
 
 push-all-requires : tie.Need-push-all-requires
 push-all-requires c κs =
@@ -67,7 +68,7 @@ returns-2 c =
     let shifted : List (Sample _) = numbered (sampleBy (a .field) (a .pw .now) (a .roots .now) (a .oracle) (length (a .values .now)) (a .r)) 0 (a .shifts .now) in
     let all = c .before .before .before .before .push-all in
     let first = c .before .before .before .before .before .before .before .before .s .given .1 in (
-      all .ensures .0 (a .field) shifted (kept-from (p .last .1 .1 .1 .1 .1 .1 .1 .0) (p .last .1 .1 .1 .1 .1 .1 .1 .1 .0) {o = distinctOrClash (a .field) shifted} first (p .ensures .0)),
+      all .ensures .0 (a .field) shifted (kept-from (p .last .1 .1 .1 .1 .1 .1 .1 .0) (p .last .1 .1 .1 .1 .1 .1 .1 .1 .0) {o = distinctOrClash (fieldOf (a .field)) shifted} first (p .ensures .0)),
       room-add {n = length (a .px .now)} (length (a .shifts .now)) (length (a .outs .now)) (all .result) (room (length (a .px .now)) (length (a .shifts .now)) first (p .ensures .1)) (all .ensures .1),
     )
 
