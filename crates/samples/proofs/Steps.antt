@@ -63,7 +63,7 @@ pair-back : (xs ys : List ℕ) (i : ℕ) → 0 < i → i ≤ length xs → lengt
     pair (drop (i - 1) xs) (drop (i - 1) ys) ≡ record { point = getD xs (i - 1) 0; value = getD ys (i - 1) 0 } ∷ pair (drop i xs) (drop i ys)
 pair-back xs ys i h l m =
     let k : i ≤ length ys = omega arith in
-    rw (drop-back xs i h l, drop-back ys i h k) (pair-cons _ _ _ _)
+    rw (drop-back xs 0 i h l, drop-back ys 0 i h k) (pair-cons _ _ _ _)
 
 pair-drop : (xs ys : List ℕ) (i : ℕ) → length ys ≡ length xs → drop i (pair xs ys) ≡ pair (drop i xs) (drop i ys)
 unfolding pair zipWith
