@@ -38,7 +38,7 @@ module _ (f : ℕ → ℕ) (xs kept : List ℕ) where
       l ≡ keepPoints (map f (drop i xs)) kept → x ≡ f (getD xs (i - 1) 0) → l′ ≡ keepPoint x l →
       l′ ≡ keepPoints (map f (drop (i - 1) xs)) kept
   unfolding keepPoints
-  keep-turn i h l d v e = rw (drop-back xs i h l) (e ∙ (λ j. keepPoint (v j) (d j)))
+  keep-turn i h l d v e = rw (drop-back xs 0 i h l) (e ∙ (λ j. keepPoint (v j) (d j)))
 
   pub keep-end : (i : ℕ) {l : List ℕ} → i ≤ 0 → l ≡ keepPoints (map f (drop i xs)) kept → l ≡ keepPoints (map f xs) kept
   keep-end zero h d = d

@@ -73,7 +73,7 @@ module _ (field d : ℕ) (w₀ : List ℕ) where
 pub dividing-more : (field d : ℕ) (all w₀ w : List ℕ) (i : ℕ) → 0 < i → i ≤ length all → length all - (i - 1) + 1 ≤ length w₀ → Dividing field (drop i all) w₀ →
     Filled (raisedAt field d w₀) w₀ w (length all - (i - 1) + 1) → d ≡ fieldOf field ._⊖_ 0 (getD all (i - 1) 0) → Dividing field (drop (i - 1) all) w
 dividing-more field d all w₀ w i pos few room before fill ed =
-    subst (λ (l : List ℕ). Dividing field l w) (sym (drop-back all i pos few))
+    subst (λ (l : List ℕ). Dividing field l w) (sym (drop-back all 0 i pos few))
     (dividing-next field d w₀ (drop i all) w (length all - (i - 1) + 1) (omega (arith, length-drop i all)) room before fill (getD all (i - 1) 0) ed)
 
 -- the powers of 0 are 1 and then noughts
@@ -160,7 +160,7 @@ module _ (field : ℕ) where
   unfolding fieldOf primeField
   summing-next w f₀ count f i {s} {v} more few inside h es ev = record {
     same = length-set f (i - 1) v ∙ h .same;
-    below = unchanged f f₀ i v (h .below) (omega arith);
+    below = unchanged 0 f f₀ i v (h .below) (omega arith);
     above = λ xs d.
         let q = quotient G (take count f₀) xs in
         let j = i - 1 - length w in

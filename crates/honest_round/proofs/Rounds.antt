@@ -88,7 +88,7 @@ module _ {ed : Edition} {w pw : List ℕ} {i scale : ℕ} (st : Invariant ed w p
 
   pub corrected-is : (g xs out : List ℕ) →
       xs ≡ different eqb (take s coins ++ map (shiftIn pw scale k) (take (s + 2 + t - (s + 2)) (drop (s + 2) coins))) →
-      Corrected (getD w 0 0) xs (getD coins s 0) g out → out ≡ correctedFrom (sheetOf ed w) i g coins
+      Corrected (fieldOf (getD w 0 0)) xs (getD coins s 0) g out → out ≡ correctedFrom (sheetOf ed w) i g coins
   unfolding correctedFrom nextPoly coinsNext roundCoins laterCount
   corrected-is g xs out e c =
       let G = distinct (sheetField h) (honestAnswers (sheetField h) (sheetRoot h) (levelOf h i) g (coinsNext h i coins)) in

@@ -30,7 +30,7 @@ module _ (field : ℕ) (values : List ℕ) where
 
   pub product-turn : (i : ℕ) {p r : ℕ} → 0 < i → i ≤ length values → p ≡ product F (drop i values) → r ≡ F ._⊗_ (getD values (i - 1) 0) p → r ≡ product F (drop (i - 1) values)
   unfolding product
-  product-turn i h l ep er = er ∙ ap (λ (q : ℕ). F ._⊗_ (getD values (i - 1) 0) q) ep ∙ sym (ap (product F) (drop-back values i h l))
+  product-turn i h l ep er = er ∙ ap (λ (q : ℕ). F ._⊗_ (getD values (i - 1) 0) q) ep ∙ sym (ap (product F) (drop-back values 0 i h l))
 
   pub behind-turn : (behind : List ℕ) (i p : ℕ) → 0 < i → i ≤ length values → length values ≤ length behind → p ≡ product F (drop i values) → Behind behind i → Behind (set behind (i - 1) p) (i - 1)
   behind-turn behind i p pos few long ep h m a b = go (ℕ-discrete m (i - 1))

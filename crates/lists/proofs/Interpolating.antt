@@ -96,7 +96,7 @@ module _ (field : ℕ) (xs : List ℕ) where
   differed-next old out j pos few d t = record {
     same = t .same ∙ d .same;
     before = λ i l. t .passed i l ∙ ap (λ (v : ℕ). F ._⊗_ (F ._⊖_ (getD xs i 0) (getD xs (j - 1) 0)) v) (d .before i (omega arith))
-        ∙ sym (ap (λ (l : List ℕ). vanishAt F l (getD xs i 0)) (drop-back xs j pos few));
+        ∙ sym (ap (λ (l : List ℕ). vanishAt F l (getD xs i 0)) (drop-back xs 0 j pos few));
     done = λ i a b. t .left i a ∙ later i a b (decLt i j);
   }
     where
@@ -213,8 +213,8 @@ module _ (field : ℕ) where
         let gq : Filled (sumAt field s d q₀ v₀) q₀ q (n + 2) = subst (λ (m : ℕ). Filled (sumAt field s d q₀ v₀) q₀ q (m + 2)) size fq in
         let gv : Filled (raisedAt field s d q₀ v₀) v₀ v (n + 2) = subst (λ (m : ℕ). Filled (raisedAt field s d q₀ v₀) v₀ v (m + 2)) size fv in
         let long : suc (suc n) ≤ length q₀ = omega (arith, size) in
-        let ex = drop-back xs i pos inside in
-        let ey = drop-back ys i pos (omega arith) in
+        let ex = drop-back xs 0 i pos inside in
+        let ey = drop-back ys 0 i pos (omega arith) in
         let long-x : length (drop (i - 1) xs) ≡ suc n = ap length ex in
         let even : length (drop i ys) ≡ length (drop i xs) = omega (arith, length-drop i ys, length-drop i xs) in
         let factor : s ≡ (b ⊖ evaluate K (interpolate K (pair (drop i xs) (drop i ys))) a) ⊗ reciprocal K (vanishAt K (drop i xs) a) =

@@ -60,7 +60,7 @@ module _ {A : Type 0} (f : ℕ → ℕ → A) where
   unfolding numbered
   numbered-back js i h l =
       let next : suc (i - 1) ≡ i = omega arith in
-      ap (numbered f (i - 1)) (drop-back js i h l) ∙ ap (λ (n : ℕ). f (i - 1) (getD js (i - 1) 0) ∷ numbered f n (drop i js)) next
+      ap (numbered f (i - 1)) (drop-back js 0 i h l) ∙ ap (λ (n : ℕ). f (i - 1) (getD js (i - 1) 0) ∷ numbered f n (drop i js)) next
 
   pub numbered-front : (js : List ℕ) (i : ℕ) → i < length js → numbered f i (drop i js) ≡ f i (getD js i 0) ∷ numbered f (i + 1) (drop (i + 1) js)
   unfolding numbered
