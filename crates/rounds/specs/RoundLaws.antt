@@ -14,7 +14,7 @@ use Rattle.definition.specs.Polynomial.{Sample, pair, evaluate}
 use Rattle.definition.specs.Domain.{shiftPoint, foldAt}
 use Rattle.definition.specs.Transcript.{Round}
 use Rattle.definition.specs.Deciding.{answers, differences}
-use Rattle.algebra.specs.PrimeField.{laws, signs-differ, suited}
+use Rattle.algebra.specs.PrimeField.{laws, opposite-signs}
 use Rattle.algebra.specs.RootsOfUnity.{minusOne}
 use Rattle.samples.specs.Samples.{distinctOrClash}
 use Rattle.fractions.specs.declared.Oracle.{Oracle}
@@ -51,10 +51,6 @@ unfoldable pub differsIn : ℕ → List ℕ → Sample ℕ → Bool
 differsIn field coefficients s = not (eqb (evaluate (fieldOf field) coefficients (s .point)) (s .value))
 
 -- ---- folds and samples
-
-pub opposite-signs : (field : ℕ) → minusOne (fieldOf field) ≡ fieldOf field .𝟙 → ⊥
-unfolding fieldOf
-opposite-signs field = signs-differ (primeOf field) (suited field .large)
 
 module _ {field ω : ℕ} {b : Level} {f : ℕ → ℕ} {pw table ac vg : List ℕ} {oracle : Oracle} {k : ℕ} (s : Represents field ω b f pw table ac vg oracle k)
     (fits : Fits (length pw) (length table) oracle k) (r : ℕ) where
