@@ -66,15 +66,17 @@ module _ {A : Type 0} (F : Field A) (L : FieldLaws F) where
         w .entry (e % length pw) (mod-lt e long) ∙ around F L ω 1 e (length pw) (w .round)
         ∙ ap (power F ω) times ∙ sym (power-mul F L ω (1 + scale * j) k)
 
-    -- the elements of the table are the definition's points and shift points
-    module _ (b : Level) {scale : ℕ} (scaled : scale ≡ 2 ^ b .number) where
-      pub point-in : (m : ℕ) → scale * m < length pw → pointIn 𝟘 pw scale m ≡ point F ω b m
-      unfolding pointIn
-      point-in m l = point-at F ω b pw scale m w (sym scaled) l
+-- the elements of the table are the definition's points and shift points
+module _ {A : Type 0} (F : Field A) {ω : A} {pw : List A} (w : PowersOver F ω pw) (b : Level) {scale : ℕ} (scaled : scale ≡ 2 ^ b .number) where
+  open Field F using (𝟘)
 
-      pub shift-in : {k : ℕ} → k ≡ b .fold → (j : ℕ) → 0 < k → 0 < length pw → shiftIn 𝟘 pw scale k j ≡ shiftPoint F ω b j
-      unfolding shiftPoint point
-      shift-in {k} folded j some long = shift-power scale k j some long ∙ (λ i. power F (power F ω (1 + scaled i * j)) (folded i))
+  pub point-in : (m : ℕ) → scale * m < length pw → pointIn 𝟘 pw scale m ≡ point F ω b m
+  unfolding pointIn
+  point-in m l = point-at F ω b pw scale m w (sym scaled) l
+
+  pub shift-in : FieldLaws F → {k : ℕ} → k ≡ b .fold → (j : ℕ) → 0 < k → 0 < length pw → shiftIn 𝟘 pw scale k j ≡ shiftPoint F ω b j
+  unfolding shiftPoint point
+  shift-in L {k} folded j some long = shift-power F L w scale k j some long ∙ (λ i. power F (power F ω (1 + scaled i * j)) (folded i))
 
 -- v is the k-th power of ω^(1 + scale·j), for every ω that the table is of
 abbrev pub ShiftPoint : List ℕ → ℕ → ℕ → ℕ → ℕ → Type 0

@@ -9,9 +9,10 @@ use native.Mathlib.Numerals.{add-one}
 use native.Mathlib.Omega.{arith}
 use lib.ListN.{length, drop, getD, drop-of-length-le}
 use lib.Seq.{drop-cons}
-use Rattle.definition.specs.Field.{Field, fieldOf}
+use Rattle.definition.specs.Field.{Field}
 use Rattle.definition.specs.Polynomial.{Sample, pair}
 use Rattle.algebra.specs.Laws.{FieldLaws}
+use Rattle.algebra.specs.RootsOfUnity.{minusOne}
 use Rattle.list_laws.specs.Backwards.{drop-back}
 use Rattle.samples.specs.Samples.{put, distinctOrClash, Room}
 use Rattle.samples.specs.declared.Gathered.{Gathered}
@@ -21,11 +22,11 @@ use Rattle.fractions.specs.declared.Oracle.{Oracle}
 use Rattle.folds.specs.Halving.{halving, exponentOf}
 use Rattle.folds.specs.HalvingLaw.{halving-same}
 use Rattle.folds.specs.PointsIn.{inversePowerIn, shiftIn}
-use Rattle.root_values.specs.Places.{Prepared}
+use Rattle.root_values.specs.Places.{PreparedOver}
 use Rattle.rounds.specs.SamplesIn.{foldBy, numbered, sampleBy, foldIn, sampleIn}
 use Rattle.fractions.specs.Values.{Fits, Below, power-of, rootIn}
 use Rattle.folds.specs.OneHalf.{halfOf}
-use Rattle.rounds.specs.RoundLaws.{Answered, answered}
+use Rattle.rounds.specs.RoundLaws.{AnsweredOver, answered}
 
 -- ---- the fold and the sample at an index
 
@@ -33,25 +34,27 @@ use Rattle.rounds.specs.RoundLaws.{Answered, answered}
 pub fits-as : {points n : ℕ} {oracle : Oracle} {k k′ : ℕ} → k′ ≡ k → Fits points n oracle k → Fits points (k′ * oracle .step) oracle k′
 fits-as {points} {n} {oracle} {k} e h = rw e (subst (λ (n : ℕ). Fits points n oracle k) (sym (h .roots)) h)
 
-module _ (field : ℕ) (pw roots : List ℕ) (oracle : Oracle) where
-  pub folded : (k r i j : ℕ) (values : List ℕ) {points n v : ℕ} → Fits points n oracle k → length values ≡ k → ((m : ℕ) → m < k → getD values m 0 ≡ getD roots (i * k + 1 * m) 0) →
-      v ≡ halving (fieldOf field) (halfOf field) (inversePowerIn pw) (exponentOf (length values)) (1 + oracle .scale * j) (oracle .scale * oracle .step) r (λ m. getD values m 0) →
-      v ≡ foldBy field pw roots oracle k r i j
+module _ {A : Type 0} (F : Field A) (pw roots : List A) (oracle : Oracle) where
+  open Field F using (𝟘)
+
+  pub folded : (k : ℕ) (r : A) (i j : ℕ) (values : List A) {points n : ℕ} {v : A} → Fits points n oracle k → length values ≡ k → ((m : ℕ) → m < k → getD values m 𝟘 ≡ getD roots (i * k + 1 * m) 𝟘) →
+      v ≡ halving F (halfOf F) (inversePowerIn 𝟘 pw) (exponentOf (length values)) (1 + oracle .scale * j) (oracle .scale * oracle .step) r (λ m. getD values m 𝟘) →
+      v ≡ foldBy F pw roots oracle k r i j
   unfolding foldBy
   folded k r i j values fits long there e =
       let d = oracle .scale * oracle .step in
-      let w : ℕ → ℕ = λ m. getD values m 0 in
-      e ∙ ap (λ (l : ℕ). halving (fieldOf field) (halfOf field) (inversePowerIn pw) (exponentOf l) (1 + oracle .scale * j) d r w) long
-      ∙ halving-same (fieldOf field) (halfOf field) (inversePowerIn pw) (exponentOf k) (1 + oracle .scale * j) d r w (λ m. getD roots (i * k + m) 0)
-      (λ m l. there m (omega (arith, power-of fits)) ∙ ap (λ (n : ℕ). getD roots (i * k + n) 0) (Nat.one-mul m))
+      let w : ℕ → A = λ m. getD values m 𝟘 in
+      e ∙ ap (λ (l : ℕ). halving F (halfOf F) (inversePowerIn 𝟘 pw) (exponentOf l) (1 + oracle .scale * j) d r w) long
+      ∙ halving-same F (halfOf F) (inversePowerIn 𝟘 pw) (exponentOf k) (1 + oracle .scale * j) d r w (λ m. getD roots (i * k + m) 𝟘)
+      (λ m l. there m (omega (arith, power-of fits)) ∙ ap (λ (n : ℕ). getD roots (i * k + n) 𝟘) (Nat.one-mul m))
 
-  pub sampled : (k r i j : ℕ) {x y : ℕ} → x ≡ shiftIn pw (oracle .scale) k j → y ≡ foldBy field pw roots oracle k r i j →
-      record { point = x; value = y } ≡ sampleBy field pw roots oracle k r i j
+  pub sampled : (k : ℕ) (r : A) (i j : ℕ) {x y : A} → x ≡ shiftIn 𝟘 pw (oracle .scale) k j → y ≡ foldBy F pw roots oracle k r i j →
+      record { point = x; value = y } ≡ sampleBy F pw roots oracle k r i j
   unfolding sampleBy
   sampled k r i j ex ey = λ z. record { point = ex z; value = ey z }
 
-  pub sample-for : (r k i : ℕ) {k′ j j′ : ℕ} {s : Sample ℕ} → s ≡ sampleBy field pw roots oracle k r i j → k ≡ k′ → j ≡ j′ → s ≡ sampleBy field pw roots oracle k′ r i j′
-  sample-for r k i e ek ej = e ∙ (λ z. sampleBy field pw roots oracle (ek z) r i (ej z))
+  pub sample-for : (r : A) (k i : ℕ) {k′ j j′ : ℕ} {s : Sample A} → s ≡ sampleBy F pw roots oracle k r i j → k ≡ k′ → j ≡ j′ → s ≡ sampleBy F pw roots oracle k′ r i j′
+  sample-for r k i e ek ej = e ∙ (λ z. sampleBy F pw roots oracle (ek z) r i (ej z))
 
 -- ---- numbered elements
 
@@ -87,23 +90,25 @@ module _ {A : Type 0} (f : ℕ → ℕ → A) where
   numbered-map g js h = numbered-same g 0 js (λ i l. ap (λ (m : ℕ). f m (getD js i 0)) (Nat.zero-add i) ∙ h i l)
 
 -- the samples by the values at the roots
-module _ (field : ℕ) (pw table ac vg : List ℕ) (oracle : Oracle) (k r : ℕ) (js roots : List ℕ) (fits : Fits (length pw) (length table) oracle k)
-    (ready : Prepared k (rootIn field pw table ac vg oracle) js roots) where
-  pub sample-same : (i : ℕ) → i < length js → sampleBy field pw roots oracle k r i (getD js i 0) ≡ sampleIn field pw table ac vg oracle k r (getD js i 0)
+module _ {A : Type 0} (F : Field A) (pw table ac vg : List A) (oracle : Oracle) (k : ℕ) (r : A) (js : List ℕ) (roots : List A) (fits : Fits (length pw) (length table) oracle k)
+    (ready : PreparedOver (F .𝟘) k (rootIn F pw table ac vg oracle) js roots) where
+  open Field F using (𝟘, 𝟙)
+
+  pub sample-same : (i : ℕ) → i < length js → sampleBy F pw roots oracle k r i (getD js i 0) ≡ sampleIn F pw table ac vg oracle k r (getD js i 0)
   unfolding sampleBy sampleIn foldBy foldIn
   sample-same i l =
       let j = getD js i 0 in
       λ z. record {
-        point = shiftIn pw (oracle .scale) k j;
-        value = halving-same (fieldOf field) (halfOf field) (inversePowerIn pw) (exponentOf k) (1 + oracle .scale * j) (oracle .scale * oracle .step) r
-            (λ m. getD roots (i * k + m) 0) (rootIn field pw table ac vg oracle j) (λ m h. ready i m l (omega (arith, power-of fits))) z;
+        point = shiftIn 𝟘 pw (oracle .scale) k j;
+        value = halving-same F (halfOf F) (inversePowerIn 𝟘 pw) (exponentOf k) (1 + oracle .scale * j) (oracle .scale * oracle .step) r
+            (λ m. getD roots (i * k + m) 𝟘) (rootIn F pw table ac vg oracle j) (λ m h. ready i m l (omega (arith, power-of fits))) z;
       }
 
-  pub answer-is : (outs replies : List ℕ) {v : Option (List (Sample ℕ))} → Below (oracle .step) js →
-      v ≡ distinctOrClash (fieldOf field) (pair outs replies ++ numbered (sampleBy field pw roots oracle k r) 0 js) → Answered field pw table ac vg oracle k r js outs replies v
-  answer-is outs replies below e =
-      answered field pw table ac vg oracle k r fits js outs replies below
-      (e ∙ ap (λ (t : List (Sample ℕ)). distinctOrClash (fieldOf field) (pair outs replies ++ t)) (numbered-map (sampleBy field pw roots oracle k r) (sampleIn field pw table ac vg oracle k r) js sample-same))
+  pub answer-is : FieldLaws F → (minusOne F ≡ 𝟙 → ⊥) → (outs replies : List A) {v : Option (List (Sample A))} → Below (oracle .step) js →
+      v ≡ distinctOrClash F (pair outs replies ++ numbered (sampleBy F pw roots oracle k r) 0 js) → AnsweredOver F pw table ac vg oracle k r js outs replies v
+  answer-is L signs outs replies below e =
+      answered F L signs pw table ac vg oracle k r fits js outs replies below
+      (e ∙ ap (λ (t : List (Sample A)). distinctOrClash F (pair outs replies ++ t)) (numbered-map (sampleBy F pw roots oracle k r) (sampleIn F pw table ac vg oracle k r) js sample-same))
 
 -- ---- putting the samples, from the last index to the first
 

@@ -29,7 +29,7 @@ pub fn fold_at(
     requires { ⌜ i * length (now values) + length (now values) ≤ length (now roots) ⌝ }
     requires { ⌜ Fits (length (now pw)) (length (now values) * oracle .step) oracle (length (now values)) ⌝ }
     requires { ⌜ j < oracle .step ⌝ }
-    ensures { λ v. ⌜ v ≡ foldBy field (now (pw .entry)) (now (roots .entry)) oracle (length (now (values .entry))) r i j ⌝ }
+    ensures { λ v. ⌜ v ≡ foldBy (fieldOf field) (now (pw .entry)) (now (roots .entry)) oracle (length (now (values .entry))) r i j ⌝ }
 {
     fractions::gather(roots, 1, i * values.len(), values);
     folds::fold_values(
@@ -62,7 +62,7 @@ fn sample_at(
     requires { ⌜ i * length (now values) + length (now values) ≤ length (now roots) ⌝ }
     requires { ⌜ Fits (length (now pw)) (length (now values) * oracle .step) oracle (length (now values)) ⌝ }
     requires { ⌜ j < oracle .step ⌝ }
-    ensures { λ v. ⌜ record { point = v .x; value = v .y } ≡ sampleBy field (now (pw .entry)) (now (roots .entry)) oracle (length (now (values .entry))) r i j ⌝ }
+    ensures { λ v. ⌜ record { point = v .x; value = v .y } ≡ sampleBy (fieldOf field) (now (pw .entry)) (now (roots .entry)) oracle (length (now (values .entry))) r i j ⌝ }
 {
     let x = folds::shift_point(pw, oracle.scale, j, values.len());
     let y = fold_at(field, pw, roots, oracle, i, j, r, values);
@@ -85,7 +85,7 @@ fn put_shifts(
     requires { ⌜ Fits (length (now pw)) (length (now values) * oracle .step) oracle (length (now values)) ⌝ }
     requires { ⌜ Below (oracle .step) (now shifts) ⌝ }
     requires { ⌜ (length (now py) ≡ length (now px)) × (length (now shifts) ≤ length (now px)) ⌝ }
-    ensures { λ v. ⌜ kept v (now (px .exit)) (now (py .exit)) ≡ distinctOrClash (fieldOf field) (numbered (sampleBy field (now (pw .entry)) (now (roots .entry)) oracle (length (now (values .entry))) r) 0 (now (shifts .entry))) ⌝ }
+    ensures { λ v. ⌜ kept v (now (px .exit)) (now (py .exit)) ≡ distinctOrClash (fieldOf field) (numbered (sampleBy (fieldOf field) (now (pw .entry)) (now (roots .entry)) oracle (length (now (values .entry))) r) 0 (now (shifts .entry))) ⌝ }
     ensures { λ v. ⌜ Room (length (now (px .entry))) (length (now (shifts .entry))) v ⌝ }
 {
     let mut k = px.len();
@@ -129,7 +129,7 @@ fn answer_by(
     requires { ⌜ Fits (length (now pw)) (length (now values) * oracle .step) oracle (length (now values)) ⌝ }
     requires { ⌜ Below (oracle .step) (now shifts) ⌝ }
     requires { ⌜ (length (now py) ≡ length (now px)) × ((length (now replies) ≡ length (now outs)) × (length (now outs) + length (now shifts) ≤ length (now px))) ⌝ }
-    ensures { λ v. ⌜ kept v (now (px .exit)) (now (py .exit)) ≡ distinctOrClash (fieldOf field) (pair (now (outs .entry)) (now (replies .entry)) ++ numbered (sampleBy field (now (pw .entry)) (now (roots .entry)) oracle (length (now (values .entry))) r) 0 (now (shifts .entry))) ⌝ }
+    ensures { λ v. ⌜ kept v (now (px .exit)) (now (py .exit)) ≡ distinctOrClash (fieldOf field) (pair (now (outs .entry)) (now (replies .entry)) ++ numbered (sampleBy (fieldOf field) (now (pw .entry)) (now (roots .entry)) oracle (length (now (values .entry))) r) 0 (now (shifts .entry))) ⌝ }
     ensures { λ v. ⌜ Room (length (now (px .entry))) (length (now (outs .entry)) + length (now (shifts .entry))) v ⌝ }
 {
     let s = put_shifts(field, pw, roots, oracle, r, shifts, values, px, py);

@@ -2,6 +2,8 @@
 use native.Mathlib.Omega.{arith}
 use mathlib.Core.Path.{refl}
 use lib.ListN.{length}
+use Rattle.definition.specs.Field.{fieldOf, primeField}
+use Rattle.algebra.specs.PrimeField.{laws, opposite-signs}
 use Rattle.samples.specs.Samples.{kept}
 use Rattle.rounds.proofs.Shifts.{answer-is, fits-as}
 use borrow.Author.Needs.{needs}
@@ -35,13 +37,14 @@ same-length-6 : tie.Need-same-length-6
 same-length-6 c = search needs
 
 returns : tie.Need-returns
+unfolding fieldOf primeField
 returns c =
     let s = c .before .before .before .before .before .before .before .before .before .before .before .before .before .before .before .before .before .before .before .before .before .before .before .before .before .before .before .before .before .before .before .before .before .before in
     let a = s .args in
     let p = c .before .before .before .before .before .before .before .before .before .before .before .before .before .before .before .before .before .prepare in
     let g = c .before .before .before .before .before .before .answer-by in (
-      answer-is (a .field) (a .pw .now) (a .table .now) (a .ac .now) (a .vg .now) (a .oracle) (length (a .values .now)) (a .r) (a .shifts .now) (p .last .1 .1 .1 .1 .1 .1 .1 .1 .0) (s .pre .1 .0) (p .ensures)
-          (a .outs .now) (a .replies .now) {v = kept (g .result) (g .last .1 .1 .1 .1 .1 .1 .1 .1 .1 .0) (g .last .1 .1 .1 .1 .1 .1 .1 .1 .1 .1 .0)} (s .pre .1 .1 .0) (g .ensures .0),
+      answer-is (fieldOf (a .field)) (a .pw .now) (a .table .now) (a .ac .now) (a .vg .now) (a .oracle) (length (a .values .now)) (a .r) (a .shifts .now) (p .last .1 .1 .1 .1 .1 .1 .1 .1 .0) (s .pre .1 .0) (p .ensures)
+          (laws (a .field)) (opposite-signs (a .field)) (a .outs .now) (a .replies .now) {v = kept (g .result) (g .last .1 .1 .1 .1 .1 .1 .1 .1 .1 .0) (g .last .1 .1 .1 .1 .1 .1 .1 .1 .1 .1 .0)} (s .pre .1 .1 .0) (g .ensures .0),
       g .ensures .1,
     )
 

@@ -38,7 +38,7 @@ returns : tie.Need-returns
 returns c =
     let a = c .before .before .before .before .before .before .before .before .before .before .before .before .before .before .before .before .before .before .before .before .args in
     let p = c .before .before .before .before .before .before .before .before .put-shifts in
-    let shifted : List (Sample _) = numbered (sampleBy (a .field) (a .pw .now) (a .roots .now) (a .oracle) (length (a .values .now)) (a .r)) 0 (a .shifts .now) in
+    let shifted : List (Sample _) = numbered (sampleBy (fieldOf (a .field)) (a .pw .now) (a .roots .now) (a .oracle) (length (a .values .now)) (a .r)) 0 (a .shifts .now) in
     let clash = kept-clash (p .last .1 .1 .1 .1 .1 .1 .1 .0) (p .last .1 .1 .1 .1 .1 .1 .1 .1 .0) {o = distinctOrClash (fieldOf (a .field)) shifted} (c .enum-told .given .1) (p .ensures .0) in
     (kept-none _ _ (clash-append (fieldOf (a .field)) (pair (a .outs .now) (a .replies .now)) shifted clash), tt)
 
@@ -65,7 +65,7 @@ returns-2 : tie.Need-returns-2
 returns-2 c =
     let a = c .before .before .before .before .before .before .before .before .before .before .before .before .before .before .before .before .before .before .before .before .before .before .before .before .before .before .before .before .args in
     let p = c .before .before .before .before .before .before .before .before .before .before .before .before .before .before .before .before .put-shifts in
-    let shifted : List (Sample _) = numbered (sampleBy (a .field) (a .pw .now) (a .roots .now) (a .oracle) (length (a .values .now)) (a .r)) 0 (a .shifts .now) in
+    let shifted : List (Sample _) = numbered (sampleBy (fieldOf (a .field)) (a .pw .now) (a .roots .now) (a .oracle) (length (a .values .now)) (a .r)) 0 (a .shifts .now) in
     let all = c .before .before .before .before .push-all in
     let first = c .before .before .before .before .before .before .before .before .s .given .1 in (
       all .ensures .0 (a .field) shifted (kept-from (p .last .1 .1 .1 .1 .1 .1 .1 .0) (p .last .1 .1 .1 .1 .1 .1 .1 .1 .0) {o = distinctOrClash (fieldOf (a .field)) shifted} first (p .ensures .0)),
