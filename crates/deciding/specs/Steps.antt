@@ -95,7 +95,7 @@ module _ (h : Sheet) (w pw ac vg : List ℕ) (st : State) (reads r : ℕ) (oracl
       let g = some-distinct F (answers F ω b f r ρ) (pair (drop j px) (drop j py)) e .1 in
       let there = words-there h w st (ok .place) more in
       let n = part-length w (st .at) (nextSize st) (omega arith) in
-      represents-next field ω ρ pw pa pv (nextOracle h st (oracle .scale) words) more-words (subst (λ (t : List (Sample ℕ)). Correcting field t (nextCombination h w st) words pa pv) g given)
+      represents-next F ω ρ pw pa pv (nextOracle h st (oracle .scale) words) more-words (subst (λ (t : List (Sample ℕ)). Correcting field t (nextCombination h w st) words pa pv) g given)
       (sv .powers) (next .scale) (nextFold h st) refl refl (subst (λ (m : ℕ). Fits (length pw) m (nextOracle h st (oracle .scale) words) (nextFold h st)) (sym n) (next .fits))
 
   module _ (px py pa pv : List ℕ) (j words : ℕ) (next : Invariant h w (length pw) (length pa) (length pv) (nextState h st) (nextOracle h st (oracle .scale) words))

@@ -2,6 +2,8 @@
 use native.Mathlib.Omega.{arith}
 use mathlib.Core.Path.{refl}
 use lib.ListN.{length}
+use Rattle.definition.specs.Field.{fieldOf, primeField}
+use Rattle.algebra.specs.PrimeField.{laws, opposite-signs}
 use Rattle.rounds.proofs.Shifts.{fits-as}
 use Rattle.comparison.proofs.Comparing.{comparison-is}
 use borrow.Author.Needs.{needs}
@@ -30,11 +32,12 @@ same-length-4 : tie.Need-same-length-4
 same-length-4 c = search needs
 
 returns : tie.Need-returns
+unfolding fieldOf primeField
 returns c =
     let s = c .before .before .before .before .before .before .before .before .before .before .before .before .before .before .before .before .before .before .before .before .before .before .before .before .before in
     let a = s .args in
     let p = c .before .before .before .before .before .before .before .before .before .before .before .prepare in
-    comparison-is (a .field) (a .pw .now) (a .table .now) (a .ac .now) (a .vg .now) (a .oracle) (length (a .values .now)) (a .r) (a .finals .now) (p .last .1 .1 .1 .1 .1 .1 .1 .1 .0) (s .pre .1 .0) (p .ensures)
+    comparison-is (fieldOf (a .field)) (laws (a .field)) (opposite-signs (a .field)) (a .pw .now) (a .table .now) (a .ac .now) (a .vg .now) (a .oracle) (length (a .values .now)) (a .r) (a .finals .now) (p .last .1 .1 .1 .1 .1 .1 .1 .1 .0) (s .pre .1 .0) (p .ensures)
     (a .coefficients .now) (s .pre .1 .1 .0) (c .before .before .compare .ensures)
 
 pub first-difference-spec : {M : Type 1} → statement M
