@@ -42,7 +42,7 @@ fn final_value(
 }
 
 // The first final index at whose shift point the final polynomial differs from the fold, by the values at the roots.
-fn compare(
+fn compare_by_roots(
     field: u32,
     pw: &[u32],
     roots: &[u32],
@@ -107,5 +107,5 @@ pub fn first_difference(
         bottoms,
         behind,
     );
-    compare(field, pw, tops, oracle, r, coefficients, finals, values)
+    compare_by_roots(field, pw, tops, oracle, r, coefficients, finals, values)
 }

@@ -43,9 +43,9 @@ pub fn fold_at(
 }
 
 // A sample: a point, and the value there.
-pub struct Point {
-    pub x: u32,
-    pub y: u32,
+struct Point {
+    x: u32,
+    y: u32,
 }
 
 // The sample at shift index j, number i of a list: the shift point, and the fold there.
@@ -112,7 +112,7 @@ fn put_shifts(
 }
 
 // G of a round by the values at the roots: the out coins with their replies, then the shift points with the folds there.
-fn answer_by(
+fn gather_by_roots(
     field: u32,
     pw: &[u32],
     roots: &[u32],
@@ -140,7 +140,7 @@ fn answer_by(
 }
 
 // G of a round in the last places of px and py: the out coins with their replies, then the shift points with the folds there.
-pub fn answer(
+pub fn gather_samples(
     field: u32,
     pw: &[u32],
     table: &[u32],
@@ -180,7 +180,7 @@ pub fn answer(
         bottoms,
         behind,
     );
-    answer_by(
+    gather_by_roots(
         field,
         pw,
         tops,

@@ -1,4 +1,4 @@
--- `comparison::compare` meets its contract: the first difference from number i on is the first of all. Assumes nothing.
+-- `comparison::compare_by_roots` meets its contract: the first difference from number i on is the first of all. Assumes nothing.
 use Prim.Native.Nat.{_-_, _≤_}
 use mathlib.Core.Path.{_≡_, _∙_, refl, sym, ap}
 use mathlib.Core.Bool.{not}
@@ -15,8 +15,8 @@ use Rattle.root_values.specs.Places.{places-for}
 use Rattle.rounds.specs.SamplesIn.{numbered, sampleBy}
 use Rattle.rounds.proofs.Shifts.{fits-as}
 use Rattle.comparison.proofs.Comparing.{tested, first-here, first-later, first-nowhere}
-use Rattle.comparison.proofs.compare.Statement.{statement}
-use Rattle.comparison.proofs.compare.Tie as tie
+use Rattle.comparison.proofs.compare_by_roots.Statement.{statement}
+use Rattle.comparison.proofs.compare_by_roots.Tie as tie
 
 abbrev Inv-loop : tie.InvT-loop
 Inv-loop field pw roots oracle r coefficients finals values₀ i₀ values i =
@@ -103,8 +103,8 @@ returns-2 c =
     let h : length (a .finals .now) ≤ l .i = omega arith in
     first-nowhere (λ i j. differsIn (fieldOf (a .field)) (a .coefficients .now) (sampleBy (fieldOf (a .field)) (a .pw .now) (a .roots .now) (a .oracle) (length (a .values .now)) (a .r) i j)) (a .finals .now) (l .i) h ∙ l .inv .1 .1
 
-pub compare-spec : {M : Type 1} → statement M
-compare-spec =
+pub compare-by-roots-spec : {M : Type 1} → statement M
+compare-by-roots-spec =
     tie.close
     (tie.spec
     Inv-loop

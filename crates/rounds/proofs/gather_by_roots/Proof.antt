@@ -1,4 +1,4 @@
--- `rounds::answer_by` meets its contract. Assumes nothing.
+-- `rounds::gather_by_roots` meets its contract. Assumes nothing.
 use mathlib.Core.List.{List}
 use native.Mathlib.Omega.{arith}
 use lib.ListN.{length}
@@ -10,8 +10,8 @@ use Rattle.samples.specs.Answers.{kept-from, kept-clash, kept-none, room}
 use Rattle.rounds.specs.SamplesIn.{numbered, sampleBy}
 use Rattle.rounds.proofs.Shifts.{room-add}
 use borrow.Author.Needs.{needs}
-use Rattle.rounds.proofs.answer_by.Statement.{statement}
-use Rattle.rounds.proofs.answer_by.Tie as tie
+use Rattle.rounds.proofs.gather_by_roots.Statement.{statement}
+use Rattle.rounds.proofs.gather_by_roots.Tie as tie
 
 put-shifts-requires : tie.Need-put-shifts-requires
 put-shifts-requires c κs =
@@ -72,8 +72,8 @@ returns-2 c =
       room-add {n = length (a .px .now)} (length (a .shifts .now)) (length (a .outs .now)) (all .result) (room (length (a .px .now)) (length (a .shifts .now)) first (p .ensures .1)) (all .ensures .1),
     )
 
-pub answer-by-spec : {M : Type 1} → statement M
-answer-by-spec =
+pub gather-by-roots-spec : {M : Type 1} → statement M
+gather-by-roots-spec =
     tie.close
     (tie.spec
     put-shifts-requires
