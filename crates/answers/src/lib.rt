@@ -32,7 +32,7 @@ fn few() -> [u32; 64]
 }
 
 // G of a round in the last places of px and py, with places of its own for k values. The caller lends places for the fractions.
-fn answer_in(
+fn gather_in_places(
     field: u32,
     pw: &[u32],
     table: &[u32],
@@ -59,7 +59,7 @@ fn answer_in(
     ensures { λ v. ⌜ Room (length (now (px .entry))) (length (now (outs .entry)) + length (now (shifts .entry))) v ⌝ }
 {
     let mut values = roots();
-    rounds::answer(
+    rounds::gather_samples(
         field,
         pw,
         table,
@@ -80,7 +80,7 @@ fn answer_in(
 }
 
 // G of a round in the last places of px and py.
-pub fn answer(
+pub fn gather_round(
     field: u32,
     pw: &[u32],
     table: &[u32],
@@ -107,7 +107,7 @@ pub fn answer(
         let mut tops = few();
         let mut bottoms = few();
         let mut behind = few();
-        return answer_in(
+        return gather_in_places(
             field,
             pw,
             table,
@@ -129,7 +129,7 @@ pub fn answer(
     let mut tops = many();
     let mut bottoms = many();
     let mut behind = many();
-    answer_in(
+    gather_in_places(
         field,
         pw,
         table,
@@ -150,7 +150,7 @@ pub fn answer(
 }
 
 // The first final index at which the final polynomial differs, with places of its own for k values. The caller lends places for the fractions.
-fn difference_in(
+fn compare_in_places(
     field: u32,
     pw: &[u32],
     table: &[u32],
@@ -190,7 +190,7 @@ fn difference_in(
 }
 
 // The first final index at which the final polynomial differs.
-pub fn difference(
+pub fn compare_finals(
     field: u32,
     pw: &[u32],
     table: &[u32],
@@ -211,7 +211,7 @@ pub fn difference(
         let mut tops = few();
         let mut bottoms = few();
         let mut behind = few();
-        return difference_in(
+        return compare_in_places(
             field,
             pw,
             table,
@@ -230,7 +230,7 @@ pub fn difference(
     let mut tops = many();
     let mut bottoms = many();
     let mut behind = many();
-    difference_in(
+    compare_in_places(
         field,
         pw,
         table,

@@ -27,7 +27,7 @@ fn final_value(
 ) -> u32
     requires { ⌜ (scale * j < length (now pw)) × ((length (now pw) ≤ 4096) × ((0 < k) × (k ≤ 16))) ⌝ }
     requires { ⌜ PowerTable field (now pw) ⌝ }
-    ensures { λ v. ⌜ v ≡ evaluate (fieldOf field) (now (coefficients .entry)) (shiftIn (now (pw .entry)) scale k j) ⌝ }
+    ensures { λ v. ⌜ v ≡ evaluate (fieldOf field) (now (coefficients .entry)) (shiftIn 0 (now (pw .entry)) scale k j) ⌝ }
 {
     let n = coefficients.len();
     if 8 < n {
@@ -42,7 +42,7 @@ fn final_value(
 }
 
 // The first final index at whose shift point the final polynomial differs from the fold, by the values at the roots.
-fn compare(
+fn compare_by_roots(
     field: u32,
     pw: &[u32],
     roots: &[u32],
@@ -56,7 +56,7 @@ fn compare(
     requires { ⌜ Fits (length (now pw)) (length (now values) * oracle .step) oracle (length (now values)) ⌝ }
     requires { ⌜ Below (oracle .step) (now finals) ⌝ }
     requires { ⌜ PowerTable field (now pw) ⌝ }
-    ensures { λ v. ⌜ placeOf v ≡ firstTrue 0 (numbered (λ i j. differsIn field (now (coefficients .entry)) (sampleBy field (now (pw .entry)) (now (roots .entry)) oracle (length (now (values .entry))) r i j)) 0 (now (finals .entry))) ⌝ }
+    ensures { λ v. ⌜ placeOf v ≡ firstTrue 0 (numbered (λ i j. differsIn (fieldOf field) (now (coefficients .entry)) (sampleBy (fieldOf field) (now (pw .entry)) (now (roots .entry)) oracle (length (now (values .entry))) r i j)) 0 (now (finals .entry))) ⌝ }
 {
     let mut i = 0;
     while i < finals.len() {
@@ -107,5 +107,5 @@ pub fn first_difference(
         bottoms,
         behind,
     );
-    compare(field, pw, tops, oracle, r, coefficients, finals, values)
+    compare_by_roots(field, pw, tops, oracle, r, coefficients, finals, values)
 }

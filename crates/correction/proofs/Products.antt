@@ -15,28 +15,28 @@ use Rattle.correction.specs.Corrected.{corrected-is}
 use Rattle.correction.proofs.Recurrence.{at, shifted, recurrence}
 
 -- a list behind n noughts, at a place among these and at one behind them
-pub among-zeros : (l : List ℕ) (n i : ℕ) → i < n → getD (replicate n 0 ++ l) i 0 ≡ 0
-among-zeros l n i h = getD-run 0 n 0 l i h
+pub among-zeros : {A : Type 0} (z : A) (l : List A) (n i : ℕ) → i < n → getD (replicate n z ++ l) i z ≡ z
+among-zeros z l n i h = getD-run z n z l i h
 
-pub behind-zeros : (l : List ℕ) (n i : ℕ) → n ≤ i → getD (replicate n 0 ++ l) i 0 ≡ getD l (i - n) 0
-behind-zeros l n i h = let e : n + (i - n) ≡ i = omega arith in rw e at (getD-after-run 0 n 0 l (i - n))
+pub behind-zeros : {A : Type 0} (z : A) (l : List A) (n i : ℕ) → n ≤ i → getD (replicate n z ++ l) i z ≡ getD l (i - n) z
+behind-zeros z l n i h = let e : n + (i - n) ≡ i = omega arith in rw e at (getD-after-run z n z l (i - n))
 
-pub take-end : (l m : List ℕ) (i : ℕ) → length l ≤ i → length m ≤ i → take i l ≡ take i m → l ≡ m
+pub take-end : {A : Type 0} (l m : List A) (i : ℕ) → length l ≤ i → length m ≤ i → take i l ≡ take i m → l ≡ m
 take-end l m i hl hm e = sym (take-all i l hl) ∙ e ∙ take-all i m hm
 
-module _ (F : Field ℕ) (L : FieldLaws F) where
+module _ {A : Type 0} (F : Field A) (L : FieldLaws F) where
   infixl 65 _⊕_ _⊖_
   infixl 70 _⊗_
   open Field F using (𝟘, _⊕_, _⊖_, _⊗_)
 
-  pub product-length : (q : List ℕ) (c e : ℕ) → 0 < length q → length (mulPoly F q (geometric F c e)) ≡ length q + e
+  pub product-length : (q : List A) (c : A) (e : ℕ) → 0 < length q → length (mulPoly F q (geometric F c e)) ≡ length q + e
   product-length q c e h =
       let n : length (geometric F c e) ≡ suc e = length-geometric F c e in
       let m : length (mulPoly F q (geometric F c e)) + 1 ≡ length q + length (geometric F c e) = length-mul-pos F q (geometric F c e) h (omega arith) in
       omega arith
 
   -- one coefficient more by the recurrence
-  pub product-turn : (q out : List ℕ) (c e i : ℕ) {t u v fresh last next : ℕ} → 0 < length q → length out ≡ length q + e → i < length out →
+  pub product-turn : (q out : List A) (c : A) (e i : ℕ) {t u v fresh last next : A} → 0 < length q → length out ≡ length q + e → i < length out →
       let p = mulPoly F q (geometric F c e) in
       take i out ≡ take i p → last ≡ at F (𝟘 ∷ p) i → t ≡ 𝟘 ⊖ power F c (e + 1) → u ≡ shifted F 0 q i → v ≡ shifted F (e + 1) q i → fresh ≡ u ⊕ t ⊗ v →
       next ≡ fresh ⊕ c ⊗ last → (take (i + 1) (set out i next) ≡ take (i + 1) p) × (next ≡ at F (𝟘 ∷ p) (i + 1))
@@ -47,7 +47,7 @@ module _ (F : Field ℕ) (L : FieldLaws F) where
       rw (add-one i, take-suc-set out i next hi, take-suc p i 𝟘 inside) ((λ k. et k ++ (is k ∷ [])), is)
 
   -- quotient and product make the corrected polynomial
-  pub corrected-end : (xs f f' out : List ℕ) (from c n : ℕ) → take n f' ≡ quotient F f (drop from xs) →
-      out ≡ mulPoly F (take n f') (geometric F c (length xs - from)) → (g : List (Sample ℕ)) → points g ≡ drop from xs → out ≡ correctedPoly F g c f
+  pub corrected-end : (xs f f' out : List A) (from : ℕ) (c : A) (n : ℕ) → take n f' ≡ quotient F f (drop from xs) →
+      out ≡ mulPoly F (take n f') (geometric F c (length xs - from)) → (g : List (Sample A)) → points g ≡ drop from xs → out ≡ correctedPoly F g c f
   corrected-end xs f f' out from c n eq eo g e =
       eo ∙ (λ i. mulPoly F (eq i) (geometric F c (sym (length-drop from xs) i))) ∙ corrected-is F L f (drop from xs) c g e

@@ -156,7 +156,7 @@ pub fn corrected(
 )
     requires { ⌜ (from ≤ length (now xs)) × (length (now xs) - from < count) ⌝ }
     requires { ⌜ (count ≤ length (now f)) × (length (now out) ≡ count) ⌝ }
-    ensures { λ _. ⌜ Corrected field (drop from (now (xs .entry))) c (take count (now (f .entry))) (now (out .exit)) ⌝ }
+    ensures { λ _. ⌜ Corrected (fieldOf field) (drop from (now (xs .entry))) c (take count (now (f .entry))) (now (out .exit)) ⌝ }
 {
     let e = xs.len() - from;
     let n = count - e;

@@ -12,7 +12,7 @@ use lib.ListN.{length, getD, take, drop, replicate, length-drop, length-replicat
 use lib.Seq.{drop-cons, drop-drop}
 use Rattle.definition.specs.Deciding.{answers}
 use Rattle.definition.specs.Domain.{inDomain, point, shiftPoint}
-use Rattle.definition.specs.Field.{Field, fieldOf, power, primeOf}
+use Rattle.definition.specs.Field.{Field, fieldOf, power, primeField, primeOf}
 use Rattle.definition.specs.Layout.{limit, message, out, roundLayout}
 use Rattle.definition.specs.Polynomial.{Sample, distinct, pair, points}
 use Rattle.definition.specs.Sheet.{Level, Sheet, rootOfUnity}
@@ -21,7 +21,7 @@ use Rattle.algebra.specs.Division.{vanishing-nonzero}
 use Rattle.algebra.specs.Evaluation.{reduce-evaluate}
 use Rattle.algebra.specs.Laws.{FieldLaws}
 use Rattle.list_laws.specs.All.{All, all-append, all-map, all-map₂, all-of-map, everywhere}
-use Rattle.algebra.specs.PrimeField.{laws}
+use Rattle.algebra.specs.PrimeField.{laws, opposite-signs}
 use Rattle.algebra.specs.RootsOfUnity.{odd-even-differ, power-mul}
 use Rattle.completeness.specs.Divisors as completeness
 use Rattle.completeness.specs.AdmissibleCoins.{outside-differs, reduced}
@@ -33,7 +33,6 @@ use Rattle.samples.specs.SampleLaws.{some-distinct}
 use Rattle.fractions.specs.declared.Oracle.{Oracle}
 use Rattle.folds.specs.PointsIn.{pointIn, point-in}
 use Rattle.fractions.specs.Values.{Clear, point-room}
-use Rattle.rounds.specs.RoundLaws.{opposite-signs}
 use Rattle.level_words.specs.declared.State.{State}
 use Rattle.decide_rounds.proofs.Inside.{whole, words-there}
 use Rattle.decide_rounds.proofs.Outs.{outs-next}
@@ -138,7 +137,7 @@ module _ (h : Sheet) (w pw ac vg : List ℕ) (st : State) (oracle : Oracle) (ok 
   module _ (r : ℕ) (px py : List ℕ) (j : ℕ) (long : length py ≡ length px) (a : NextSamples h w pw ac vg st r oracle (some (pair (drop j px) (drop j py)))) where
     kept-is : pair (drop j px) (drop j py) ≡ distinct F (answers F (s .ω) b (s .f) r (nextRound h w st))
     unfolding nextRound
-    kept-is = some-distinct field (answers F (s .ω) b (s .f) r (nextRound h w st)) (pair (drop j px) (drop j py)) (a (s .ω) b (s .f) (nextRound h w st) refl refl refl (s .represents)) .1
+    kept-is = some-distinct F (answers F (s .ω) b (s .f) r (nextRound h w st)) (pair (drop j px) (drop j py)) (a (s .ω) b (s .f) (nextRound h w st) refl refl refl (s .represents)) .1
 
     points-are : points (distinct F (answers F (s .ω) b (s .f) r (nextRound h w st))) ≡ drop j px
     points-are = ap (λ (g : List (Sample ℕ)). points g) (sym kept-is) ∙ points-pair (drop j px) (drop j py) (omega (arith, length-drop j px, length-drop j py))
@@ -157,13 +156,13 @@ module _ (h : Sheet) (w pw ac vg : List ℕ) (st : State) (oracle : Oracle) (ok 
 
     pub clear-next : (c words : ℕ) (pa pv : List ℕ) → Invariant h w (length pw) (length pa) (length pv) (nextState h st) (nextOracle h st (oracle .scale) words) →
         Correcting field (pair (drop j px) (drop j py)) c words pa pv → Clear field pw (nextState h st .size) pv (nextOracle h st (oracle .scale) words)
-    unfolding pointIn currentLevel nextOracle
+    unfolding pointIn currentLevel nextOracle fieldOf primeField
     clear-next c words pa pv next given = record {
       ω = s .ω;
       powers = s .represents .powers;
       nonzero = λ m within some z.
           let x = getD pw (2 * oracle .scale * m) 0 in
-          let at : x ≡ point F (s .ω) l m = point-in (s .represents .powers) l (next .scale) m (point-room (next .inside .fits) m within) in
+          let at : x ≡ point F (s .ω) l m = point-in F (s .represents .powers) l (next .scale) m (point-room (next .inside .fits) m within) in
           vanishing-nonzero F L (points (pair (drop j px) (drop j py))) x
           (subst (λ (y : ℕ). All (λ a. Differ F y a) (points (pair (drop j px) (drop j py)))) (sym at) (points-off m within))
           (sym (given .vanish x) ∙ sym (reduce-evaluate F L _ x) ∙ z);

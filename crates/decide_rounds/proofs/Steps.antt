@@ -71,7 +71,7 @@ module _ (h : Sheet) (w pw ac vg : List ℕ) (st : State) (reads r : ℕ) (oracl
       let b = currentLevel h st in
       let ρ = nextRound h w st in
       let fn : Function ℕ = record { value = f; places = ownPlace b } in
-      let c = none-clash field (answers F ω b f r ρ) (a ω b f ρ refl refl refl sv) in
+      let c = none-clash F (answers F ω b f r ρ) (a ω b f ρ refl refl refl sv) in
       sym (ap counted (ap (decideRest F ω b fn r used) (rest-next h w st (ok .place .sheet .law .paired) more) ∙ round-clash F ω b fn r used ρ (restOf h w (nextState h st)) c)
       ∙ (λ i. record { outcome = refused 8 (nextState h st .level); reads = sym (reads-after used before e) i }))
 
@@ -89,10 +89,10 @@ module _ (h : Sheet) (w pw ac vg : List ℕ) (st : State) (reads r : ℕ) (oracl
       let b = currentLevel h st in
       let ρ = nextRound h w st in
       let e = a ω b f ρ refl refl refl sv in
-      let g = some-distinct field (answers F ω b f r ρ) (pair (drop j px) (drop j py)) e .1 in
+      let g = some-distinct F (answers F ω b f r ρ) (pair (drop j px) (drop j py)) e .1 in
       let there = words-there h w st (ok .place) more in
       let n = part-length (st .at) (nextSize st) w (omega arith) in
-      represents-next field ω ρ pw pa pv (nextOracle h st (oracle .scale) words) more-words (subst (λ (t : List (Sample ℕ)). Correcting field t (nextCombination h w st) words pa pv) g given)
+      represents-next F ω ρ pw pa pv (nextOracle h st (oracle .scale) words) more-words (subst (λ (t : List (Sample ℕ)). Correcting field t (nextCombination h w st) words pa pv) g given)
       (sv .powers) (next .scale) (nextFold h st) refl refl (subst (λ (m : ℕ). Fits (length pw) m (nextOracle h st (oracle .scale) words) (nextFold h st)) (sym n) (next .inside .fits))
 
   module _ (px py pa pv : List ℕ) (j words : ℕ) (next : Invariant h w (length pw) (length pa) (length pv) (nextState h st) (nextOracle h st (oracle .scale) words))
@@ -120,7 +120,7 @@ module _ (h : Sheet) (w pw ac vg : List ℕ) (st : State) (reads r : ℕ) (oracl
         let fn : Function ℕ = record { value = f; places = ownPlace b } in
         let g = distinct F (answers F ω b f r ρ) in
         let now = used ++ placesOf b (ownPlace b) (nextShifts h w st) in
-        let c = some-distinct field (answers F ω b f r ρ) (pair (drop j px) (drop j py)) (a ω b f ρ refl refl refl sv) in
+        let c = some-distinct F (answers F ω b f r ρ) (pair (drop j px) (drop j py)) (a ω b f ρ refl refl refl sv) in
         d ω (definition.nextFunction F ω g ρ .value) now (represents-after px py pa pv j words ω f next a more-words given sv) (reads-after used before e)
         (tables-grow h st used before (nextShifts h w st))
         ∙ ap (λ (fn′ : Function ℕ). counted (decideRest F ω (currentLevel h (nextState h st)) fn′ (nextFoldCoin h w st) now (restOf h w (nextState h st)))) (next-places F ω g ρ)

@@ -174,7 +174,7 @@ module _ (from : ℕ) (h : Sheet) where
           (currentFold h (firstState from h))
       unfolding firstOracle firstState currentLevel shiftCount
       first-represents =
-          represents-first (getD w 0 0) (rootOfUnity h) (currentLevel h (firstState from h)) pw (currentTable w (firstState from h)) ac vg (firstOracle h) (getD (h .folds) 0 0) points refl refl refl refl
+          represents-first (fieldOf (getD w 0 0)) (rootOfUnity h) (currentLevel h (firstState from h)) pw (currentTable w (firstState from h)) ac vg (firstOracle h) (getD (h .folds) 0 0) points refl refl refl refl
 
       pub represented-first : h .prime ≡ primeOf (getD w 0 0) → outsFrom h w (firstState from h) ≡ none → Represented h w pw ac vg (firstState from h) (firstOracle h)
       unfolding firstOracle

@@ -8,11 +8,10 @@ use mathlib.Core.Path.{_≡_, refl, sym, ap, ap₂, _∙_}
 use mathlib.Core.List.{List, [], _∷_, tail}
 use lib.ListN.{length, getD, drop}
 use lib.Seq.{getD-drop}
-use Rattle.definition.specs.Field.{Field, fieldOf}
+use Rattle.definition.specs.Field.{Field}
 use Rattle.definition.specs.Polynomial.{horner, divide, quotient}
 use Rattle.list_laws.specs.Lists.{tail-drop}
 use Rattle.algebra.specs.Laws.{FieldLaws}
-use Rattle.algebra.specs.PrimeField.{laws}
 use Rattle.algebra.specs.RingLaws.{zero-add, zero-mul}
 use Rattle.algebra.specs.Solver.{:0, :1, _:+_, _:-_, _:*_, :-_, _:=_, solve₁, solve₂, solve₃, solve₆}
 use Rattle.sums.specs.Sums.{products}
@@ -137,14 +136,14 @@ module _ {A : Type 0} (F : Field A) (L : FieldLaws F) where
       sym (quotient-reduced f xs j some) ∙ solve₂ F L (λ c s. c := :1 :* c :+ s :- s) tt c s ∙ ap (λ (u : A). u ⊖ s) (sum ∙ sym (add-zero _))
       ∙ solve₂ F L (λ u s. u :+ :0 :- s := u :- s) tt (getD f (length xs + j) 𝟘) s
 
--- w begins with 1, has noughts from behind the last of its coefficients on, and its sums with the quotient by the points are the dividend's coefficients
-pub record Dividing (field : ℕ) (xs w : List ℕ) : Type 0 where
-  pub one : getD w 0 0 ≡ 1
-  pub few : ZeroFrom (fieldOf field) w (suc (length xs))
-  pub sums : QuotientSums (fieldOf field) (laws field) xs w
+  -- w begins with 1, has noughts from behind the last of its coefficients on, and its sums with the quotient by the points are the dividend's coefficients
+  pub record Dividing (xs w : List A) : Type 0 where
+    pub one : getD w 0 𝟘 ≡ 𝟙
+    pub few : ZeroFrom F w (suc (length xs))
+    pub sums : QuotientSums xs w
 
--- v are such coefficients but for the first
-pub record Divides (field : ℕ) (xs v : List ℕ) : Type 0 where
-  pub some : 0 < length xs
-  pub many : length v ≡ length xs
-  pub sums : QuotientSums (fieldOf field) (laws field) xs (1 ∷ v)
+  -- v are such coefficients but for the first
+  pub record Divides (xs v : List A) : Type 0 where
+    pub some : 0 < length xs
+    pub many : length v ≡ length xs
+    pub sums : QuotientSums xs (𝟙 ∷ v)

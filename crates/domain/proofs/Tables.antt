@@ -26,6 +26,7 @@ next-power field w e h q =
 -- a table with the right entries and as many as n0 is one of the powers of ω
 pub powers-of : (field size : ℕ) (pw : List ℕ) → Fitting field size → length pw ≡ size →
     ((e : ℕ) → e < size → getD pw e 0 ≡ power (fieldOf field) (root field size) (1 + e)) → Powers field (root field size) pw
+unfolding fieldOf primeField
 powers-of field size pw f s h = record {
   entry = λ e l. h e (subst⁻¹ (λ (n : ℕ). e < n) (sym s) l);
   round = ap (power (fieldOf field) (root field size)) s ∙ round field size f;

@@ -47,7 +47,7 @@ fn at_roots(
     k: usize,
     out: &mut [u32],
 )
-    requires { ⌜ Rooted field (now pw) at step k (now powers) ⌝ }
+    requires { ⌜ Rooted (fieldOf field) (now pw) at step k (now powers) ⌝ }
     requires { ⌜ (k * length (now powers) ≤ length (now f)) × (k ≤ length (now out)) ⌝ }
     ensures { λ _. ⌜ ((m : ℕ) → m < k → getD (now (out .exit)) m 0 ≡ evaluate (fieldOf field) (take (k * length (now (powers .entry))) (now (f .entry))) (getD (now (pw .entry)) (at + step * m) 0)) ⌝ }
 {
@@ -82,7 +82,7 @@ fn quotients(
     bottoms: &mut [u32],
 )
     requires { ⌜ (length (now ac) ≡ 66) × ((length (now vg) ≡ 132) × (length (now bottoms) ≡ length (now tops))) ⌝ }
-    requires { ⌜ Rooted field (now pw) at step (length (now tops)) (now powers) ⌝ }
+    requires { ⌜ Rooted (fieldOf field) (now pw) at step (length (now tops)) (now powers) ⌝ }
     requires { ⌜ length (now tops) * length (now powers) ≤ 66 ⌝ }
     ensures { λ _. ⌜ ((m : ℕ) → m < length (now (tops .entry)) → getD (now (tops .exit)) m 0 ≡ numeratorIn (fieldOf field) (length (now (tops .entry)) * length (now (powers .entry))) (now (ac .entry)) (now (vg .entry)) (getD (now (pw .entry)) (at + step * m) 0) (getD (now (tops .entry)) m 0)) ⌝ }
     ensures { λ _. ⌜ ((m : ℕ) → m < length (now (tops .entry)) → getD (now (bottoms .exit)) m 0 ≡ evaluate (fieldOf field) (vanishingIn (length (now (tops .entry)) * length (now (powers .entry))) (now (vg .entry))) (getD (now (pw .entry)) (at + step * m) 0)) ⌝ }
@@ -131,7 +131,7 @@ pub fn fractions(
     requires { ⌜ (length (now ac) ≡ 66) × ((length (now vg) ≡ 132) × (Clear field (now pw) (length (now table)) (now vg) oracle)) ⌝ }
     requires { ⌜ Fits (length (now pw)) (length (now table)) oracle (length (now tops)) ⌝ }
     requires { ⌜ (j < oracle .step) × ((0 < oracle .words) × (length (now bottoms) ≡ length (now tops))) ⌝ }
-    ensures { λ _. ⌜ ((m : ℕ) → m < length (now (tops .entry)) → Fraction field (rootIn field (now (pw .entry)) (now (table .entry)) (now (ac .entry)) (now (vg .entry)) oracle j m) (getD (now (tops .exit)) m 0) (getD (now (bottoms .exit)) m 0)) ⌝ }
+    ensures { λ _. ⌜ ((m : ℕ) → m < length (now (tops .entry)) → Fraction field (rootIn (fieldOf field) (now (pw .entry)) (now (table .entry)) (now (ac .entry)) (now (vg .entry)) oracle j m) (getD (now (tops .exit)) m 0) (getD (now (bottoms .exit)) m 0)) ⌝ }
 {
     let k = tops.len();
     gather(table, oracle.step, j, tops);

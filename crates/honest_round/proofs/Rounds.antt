@@ -8,13 +8,14 @@ use lib.Dec.{eqb}
 use lib.ListN.{length, getD, take, drop, length-drop}
 use lib.Seq.{getD-drop, getD-take, length-take-le}
 use Rattle.definition.specs.Domain.{shiftPoint}
-use Rattle.definition.specs.Field.{Field, fieldOf}
+use Rattle.definition.specs.Field.{Field, fieldOf, primeField}
 use Rattle.definition.specs.Lists.{different}
 use Rattle.definition.specs.Sheet.{Edition, Sheet, sheetOf, shiftCount}
 use Rattle.list_laws.specs.All.{All, at-place}
 use Rattle.definition.specs.Layout.{laterCount, roundCoins}
 use Rattle.definition.specs.Polynomial.{correctedPoly, distinct, points}
 use Rattle.definition.specs.Prover.{honestAnswers, nextPoly}
+use Rattle.algebra.specs.PrimeField.{laws}
 use Rattle.layouts.specs.Levels.{degreeOf, levelOf, outCoinCount, roundsOf, sheetField, sheetRoot}
 use Rattle.correction.specs.Corrected.{Corrected}
 use Rattle.folds.specs.PointsIn.{shiftIn, shift-in}
@@ -69,16 +70,16 @@ module _ {ed : Edition} {w pw : List ℕ} {i scale : ℕ} (st : Invariant ed w p
   -- the points of G by the table of points
   points-are : (g : List ℕ) →
       points (distinct (sheetField h) (honestAnswers (sheetField h) (sheetRoot h) (levelOf h i) g (coinsNext h i coins)))
-      ≡ different eqb (take s coins ++ map (shiftIn pw scale k) js)
-  unfolding honestAnswers coinsNext roundCoins laterCount
+      ≡ different eqb (take s coins ++ map (shiftIn 0 pw scale k) js)
+  unfolding honestAnswers coinsNext roundCoins laterCount fieldOf primeField
   points-are g =
       let z = sizes st in
       let S = shiftPoint (fieldOf (getD w 0 0)) (sheetRoot h) (levelOf h i) in
       ap (λ (F : Field ℕ). points (distinct F (honestAnswers F (sheetRoot h) (levelOf h i) g (coinsNext h i coins)))) (sym (field-word ed w))
-      ∙ distinct-points (getD w 0 0) (sheetRoot h) g (take (outCoinCount h) coins ++ map S (drop 2 (take (2 + repetitionsOf h i) (drop (outCoinCount h) coins))))
+      ∙ distinct-points (fieldOf (getD w 0 0)) (sheetRoot h) g (take (outCoinCount h) coins ++ map S (drop 2 (take (2 + repetitionsOf h i) (drop (outCoinCount h) coins))))
       ∙ (λ x. different eqb (take (es x) coins ++ map S ((shifts-are h i coins ∙ sym (shifts-is runs es et)) x)))
-      ∙ ap (λ (xs : List ℕ). different eqb (take s coins ++ xs)) (map-agree S (shiftIn pw scale k) js
-      (λ j. sym (shift-in (st .powers) (levelOf h i) (st .scaled) {k = k} ek j (omega (arith, ek, numbers (st .place) .least-fold)) (z .some-points))))
+      ∙ ap (λ (xs : List ℕ). different eqb (take s coins ++ xs)) (map-agree S (shiftIn 0 pw scale k) js
+      (λ j. sym (shift-in (fieldOf (getD w 0 0)) (st .powers) (levelOf h i) (st .scaled) (laws (getD w 0 0)) {k = k} ek j (omega (arith, ek, numbers (st .place) .least-fold)) (z .some-points))))
 
   -- each shift point stands in it
   pub shifts-in : InTable (length pw) scale (take (s + 2 + t - (s + 2)) (drop (s + 2) coins))
@@ -87,8 +88,8 @@ module _ {ed : Edition} {w pw : List ℕ} {i scale : ℕ} (st : Invariant ed w p
       (shifts-inside h i scale (length pw) (shiftsNext h i coins) (sizes st) (runs .below))
 
   pub corrected-is : (g xs out : List ℕ) →
-      xs ≡ different eqb (take s coins ++ map (shiftIn pw scale k) (take (s + 2 + t - (s + 2)) (drop (s + 2) coins))) →
-      Corrected (getD w 0 0) xs (getD coins s 0) g out → out ≡ correctedFrom (sheetOf ed w) i g coins
+      xs ≡ different eqb (take s coins ++ map (shiftIn 0 pw scale k) (take (s + 2 + t - (s + 2)) (drop (s + 2) coins))) →
+      Corrected (fieldOf (getD w 0 0)) xs (getD coins s 0) g out → out ≡ correctedFrom (sheetOf ed w) i g coins
   unfolding correctedFrom nextPoly coinsNext roundCoins laterCount
   corrected-is g xs out e c =
       let G = distinct (sheetField h) (honestAnswers (sheetField h) (sheetRoot h) (levelOf h i) g (coinsNext h i coins)) in

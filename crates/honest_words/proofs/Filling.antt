@@ -18,7 +18,7 @@ module _ (f : ℕ → ℕ) (xs : List ℕ) where
       drop (i - 1) (set out (i - 1) x) ≡ map f (drop (i - 1) xs)
   fill-turn out i {x} h l e d v =
       let m : i ≤ length out = omega arith in
-      drop-store out i x h m ∙ (λ j. v j ∷ d j) ∙ sym (ap (map f) (drop-back xs i h l))
+      drop-store out i x h m ∙ (λ j. v j ∷ d j) ∙ sym (ap (map f) (drop-back xs 0 i h l))
 
   pub fill-end : (out : List ℕ) (i : ℕ) → i ≤ 0 → drop i out ≡ map f (drop i xs) → out ≡ map f xs
   fill-end out zero h d = d

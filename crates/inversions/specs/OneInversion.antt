@@ -5,11 +5,11 @@ use mathlib.Core.List.{List, [], _∷_}
 use mathlib.Core.Option.{some}
 use lib.ListN.{length, getD}
 use Rattle.definition.specs.Field.{Field, fieldOf, reciprocal}
+use Rattle.algebra.specs.Divisors.{Nonzero}
 use Rattle.algebra.specs.Laws.{FieldLaws}
 use Rattle.list_laws.specs.All.{All}
 use Rattle.algebra.specs.PrimeField.{laws}
 use Rattle.algebra.specs.RingLaws.{cancel}
-use Rattle.polynomial.specs.Inverses.{Nonzero}
 use Rattle.inversions.specs.declared.Inverses.{Inverses}
 use Rattle.inversions.specs.declared.Inverses.the-variants.{Found, Nothing}
 
@@ -23,7 +23,7 @@ module _ {A : Type 0} (F : Field A) where
 
 module _ {A : Type 0} (F : Field A) (L : FieldLaws F) where
   infixl 70 _⊗_
-  open Field F using (𝟘, 𝟙, _⊗_)
+  open Field F using (𝟘, 𝟙, _⊗_, inverse)
   open FieldLaws L using (reduce, reduce-one, reduce-mul, one≢zero)
 
   pub product-reduced : (xs : List A) → reduce (product F xs) ≡ product F xs
@@ -38,7 +38,11 @@ module _ {A : Type 0} (F : Field A) (L : FieldLaws F) where
   product-nonzero (a ∷ xs) h e =
       product-nonzero xs (λ m l. h (suc m) (suc-le-suc l)) (sym (product-reduced xs) ∙ cancel F L a (product F xs) (h 0 (suc-le-suc zero-le)) e)
 
--- every word of `old` has its inverse in the same place of `new`; or one of them is 0
+  -- every element of `old` has its inverse in the same place of `new`; or one of them is 0
+  abbrev pub InvertedOver : List A → Inverses → List A → Type 0
+  InvertedOver old Found new = (m : ℕ) → m < length old → inverse (getD old m 𝟘) ≡ some (getD new m 𝟘)
+  InvertedOver old Nothing new = ((m : ℕ) → m < length old → Nonzero F L (getD old m 𝟘)) → ⊥
+
+-- the same of words
 abbrev pub Inverted : ℕ → List ℕ → Inverses → List ℕ → Type 0
-Inverted field old Found new = (m : ℕ) → m < length old → fieldOf field .inverse (getD old m 0) ≡ some (getD new m 0)
-Inverted field old Nothing new = ((m : ℕ) → m < length old → Nonzero field (getD old m 0)) → ⊥
+Inverted field = InvertedOver (fieldOf field) (laws field)

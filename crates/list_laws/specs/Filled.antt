@@ -7,23 +7,27 @@ use borrow.Author.Count.{below-none, below-more}
 use lib.ListN.{length, getD, set, length-set}
 use lib.Seq.{getD-set-same, getD-set-other}
 
--- entry k is f k, for each k passed, and the others are as before
-pub record Filled (f : ℕ → ℕ) (old new : List ℕ) (e : ℕ) : Type 0 where
+-- entry k is f k, for each k passed, and the others are as before; z stands for what is read outside the list
+pub record FilledOver {A : Type 0} (z : A) (f : ℕ → A) (old new : List A) (e : ℕ) : Type 0 where
   pub same : length new ≡ length old
-  pub passed : (k : ℕ) → k < e → getD new k 0 ≡ f k
-  pub left : (k : ℕ) → e ≤ k → getD new k 0 ≡ getD old k 0
+  pub passed : (k : ℕ) → k < e → getD new k z ≡ f k
+  pub left : (k : ℕ) → e ≤ k → getD new k z ≡ getD old k z
 
-module _ (f : ℕ → ℕ) (old : List ℕ) where
-  pub filled-first : Filled f old old 0
-  filled-first = record { same = refl; passed = below-none (λ (k : ℕ). getD old k 0 ≡ f k); left = λ k l. refl }
+-- the same of words
+abbrev pub Filled : (ℕ → ℕ) → List ℕ → List ℕ → ℕ → Type 0
+Filled = FilledOver 0
 
-  pub filled-next : (new : List ℕ) (e : ℕ) {v : ℕ} → Filled f old new e → e < length old → v ≡ f e → Filled f old (set new e v) (e + 1)
+module _ {A : Type 0} {z : A} (f : ℕ → A) (old : List A) where
+  pub filled-first : FilledOver z f old old 0
+  filled-first = record { same = refl; passed = below-none (λ (k : ℕ). getD old k z ≡ f k); left = λ k l. refl }
+
+  pub filled-next : (new : List A) (e : ℕ) {v : A} → FilledOver z f old new e → e < length old → v ≡ f e → FilledOver z f old (set new e v) (e + 1)
   filled-next new e {v} t h q = record {
     same = length-set new e v ∙ t .same;
-    passed = below-more (λ (k : ℕ). getD (set new e v) k 0 ≡ f k) e
-        (λ k l. getD-set-other new e k v 0 (λ s. omega arith) ∙ t .passed k l)
-        (getD-set-same new e v 0 (omega (arith, t .same)) ∙ q);
-    left = λ k l. getD-set-other new e k v 0 (λ s. omega arith) ∙ t .left k (omega arith);
+    passed = below-more (λ (k : ℕ). getD (set new e v) k z ≡ f k) e
+        (λ k l. getD-set-other new e k v z (λ s. omega arith) ∙ t .passed k l)
+        (getD-set-same new e v z (omega (arith, t .same)) ∙ q);
+    left = λ k l. getD-set-other new e k v z (λ s. omega arith) ∙ t .left k (omega arith);
   }
 
 -- entry k is lo k and entry h + k is hi k, for each k passed, and the others are as before

@@ -10,7 +10,7 @@ use Rattle.layouts.specs.Lawful.{lawful, rounds-word}
 use Rattle.layouts.specs.LevelsByNumber.{as-listed}
 use Rattle.layouts.specs.Levels.{levelOf, roundsOf}
 use Rattle.definition.specs.Domain.{domain, point}
-use Rattle.definition.specs.Field.{fieldOf}
+use Rattle.definition.specs.Field.{fieldOf, primeField}
 use Rattle.definition.specs.Lists.{range}
 use Rattle.definition.specs.Reading.{sheetTest}
 use Rattle.definition.specs.Sheet.{Level, edition1, firstLevel, laterLevels, rootOfUnity, sheetOf}
@@ -23,12 +23,12 @@ use Rattle.listing.specs.Table.{lineAt, linesFrom, pointsFrom}
 -- the points of a level's domain stand at every 2^i-th place
 pub domain-points : (field ω : ℕ) (l : Level) (pw : List ℕ) → Powers field ω pw → l .size ≡ length pw / 2 ^ l .number →
     pointsFrom pw (2 ^ l .number) 0 (length pw / 2 ^ l .number) ≡ domain (fieldOf field) ω l
-unfolding pointsFrom domain
+unfolding pointsFrom domain fieldOf primeField
 domain-points field ω l pw p e =
     let scale = 2 ^ l .number in
     map-all (λ j. j < length pw / scale) (λ j. getD pw (scale * j) 0) (point (fieldOf field) ω l) (range 0 (length pw / scale))
     (all-range (λ j. j < length pw / scale) 0 (length pw / scale) (λ j _ u. omega arith))
-    (λ j u. point-at field ω l pw scale j p refl (place-below (length pw) scale j (pow-pos (l .number)) u))
+    (λ j u. point-at (fieldOf field) ω l pw scale j p refl (place-below (length pw) scale j (pow-pos (l .number)) u))
     ∙ ap (λ (m : ℕ). map (point (fieldOf field) ω l) (range 0 m)) (sym e)
 
 module _ (w pw : List ℕ) (p : Powers (getD w 0 0) (rootOfUnity (sheetOf edition1 w)) pw) (size : length pw ≡ getD w 1 0) where

@@ -4,7 +4,7 @@ use native.Mathlib.Omega.{arith}
 use mathlib.Core.Path.{_≡_, refl, sym, ap, ap₂, _∙_}
 use mathlib.Core.List.{List, [], _∷_}
 use lib.ListN.{length, getD}
-use Rattle.definition.specs.Field.{Field, fieldOf, reciprocal}
+use Rattle.definition.specs.Field.{Field}
 use Rattle.definition.specs.Polynomial.{pair, evaluate, vanishing, interpolate}
 use Rattle.algebra.specs.Laws.{FieldLaws}
 use Rattle.algebra.specs.Solver.{:0, _:+_, _:*_, _:=_, solve₁, solve₃, solve₄, solve₅, solve₆}
@@ -46,8 +46,8 @@ module _ {A : Type 0} (F : Field A) (L : FieldLaws F) where
       ∙ solve₅ F L (λ b d c x t. b :+ d :* c :+ x :* (c :+ (x :+ d) :* t) := b :+ (x :+ d) :* (c :+ x :* t)) tt b d c x (evaluate F (f ∷ v) x)
 
 -- q and v have the values of A and V of the samples with points xs and values ys, and as many coefficients
-pub record Through (field : ℕ) (xs ys q v : List ℕ) : Type 0 where
-  pub value : (x : ℕ) → evaluate (fieldOf field) q x ≡ evaluate (fieldOf field) (interpolate (fieldOf field) (pair xs ys)) x
-  pub vanish : (x : ℕ) → evaluate (fieldOf field) v x ≡ evaluate (fieldOf field) (vanishing (fieldOf field) xs) x
-  pub few : ZeroFrom (fieldOf field) q (length xs)
-  pub fewer : ZeroFrom (fieldOf field) v (suc (length xs))
+pub record Through {A : Type 0} (F : Field A) (xs ys q v : List A) : Type 0 where
+  pub value : (x : A) → evaluate F q x ≡ evaluate F (interpolate F (pair xs ys)) x
+  pub vanish : (x : A) → evaluate F v x ≡ evaluate F (vanishing F xs) x
+  pub few : ZeroFrom F q (length xs)
+  pub fewer : ZeroFrom F v (suc (length xs))

@@ -137,8 +137,8 @@ fn step(
     requires { ⌜ (0 < i) × ((i ≤ length (now xs)) × ((length (now ys) ≡ length (now xs)) × (length (now us) ≡ length (now xs)))) ⌝ }
     requires { ⌜ (length (now xs) < length (now q)) × ((length (now q) ≤ 66) × ((length (now v) ≡ length (now q)) × (length (now room) ≡ length (now q)))) ⌝ }
     requires { ⌜ getD (now us) (i - 1) 0 ≡ reciprocal (fieldOf field) (vanishAt (fieldOf field) (drop i (now xs)) (getD (now xs) (i - 1) 0)) ⌝ }
-    requires { ⌜ Through field (drop i (now xs)) (drop i (now ys)) (now q) (now v) ⌝ }
-    ensures { λ _. ⌜ Through field (drop (i - 1) (now (xs .entry))) (drop (i - 1) (now (ys .entry))) (now (q .exit)) (now (v .exit)) ⌝ }
+    requires { ⌜ Through (fieldOf field) (drop i (now xs)) (drop i (now ys)) (now q) (now v) ⌝ }
+    ensures { λ _. ⌜ Through (fieldOf field) (drop (i - 1) (now (xs .entry))) (drop (i - 1) (now (ys .entry))) (now (q .exit)) (now (v .exit)) ⌝ }
 {
     let count = xs.len() - i;
     let x = xs[i - 1];
@@ -150,7 +150,7 @@ fn step(
 // A and V of no samples: 0 and 1.
 fn start(field: u32, q: &mut [u32], v: &mut [u32])
     requires { ⌜ 0 < length (now v) ⌝ }
-    ensures { λ _. ⌜ Through field [] [] (now (q .exit)) (now (v .exit)) ⌝ }
+    ensures { λ _. ⌜ Through (fieldOf field) [] [] (now (q .exit)) (now (v .exit)) ⌝ }
 {
     fill(0, q);
     fill(0, v);
@@ -170,7 +170,7 @@ fn steps(
     requires { ⌜ (length (now ys) ≡ length (now xs)) × (length (now us) ≡ length (now xs)) ⌝ }
     requires { ⌜ (length (now xs) < length (now q)) × ((length (now q) ≤ 66) × ((length (now v) ≡ length (now q)) × (length (now room) ≡ length (now q)))) ⌝ }
     requires { ⌜ ((i : ℕ) → i < length (now xs) → getD (now us) i 0 ≡ reciprocal (fieldOf field) (vanishAt (fieldOf field) (drop (suc i) (now xs)) (getD (now xs) i 0))) ⌝ }
-    ensures { λ _. ⌜ Through field (now (xs .entry)) (now (ys .entry)) (now (q .exit)) (now (v .exit)) ⌝ }
+    ensures { λ _. ⌜ Through (fieldOf field) (now (xs .entry)) (now (ys .entry)) (now (q .exit)) (now (v .exit)) ⌝ }
 {
     start(field, q, v);
     let mut i = xs.len();
@@ -184,7 +184,7 @@ fn steps(
 pub fn interpolated(field: u32, xs: &[u32], ys: &[u32], q: &mut [u32], v: &mut [u32])
     requires { ⌜ (length (now ys) ≡ length (now xs)) × ((length (now xs) < length (now q)) × ((length (now q) ≡ 66) × (length (now v) ≡ 66))) ⌝ }
     requires { ⌜ Apart (fieldOf field) (now xs) ⌝ }
-    ensures { λ _. ⌜ Through field (now (xs .entry)) (now (ys .entry)) (now (q .exit)) (now (v .exit)) ⌝ }
+    ensures { λ _. ⌜ Through (fieldOf field) (now (xs .entry)) (now (ys .entry)) (now (q .exit)) (now (v .exit)) ⌝ }
 {
     let n = xs.len();
     let mut us = places();

@@ -30,12 +30,12 @@ module _ (js : List ℕ) (count i : ℕ) (h : 0 < i) (c : Counted js count i) wh
   count-new z = record {
     within = omega (arith, c .within);
     few = omega (arith, c .few);
-    counted = rw (drop-back js i h (c .within), z) (omega (arith, c .counted));
+    counted = rw (drop-back js 0 i h (c .within), z) (omega (arith, c .counted));
   }
 
   pub count-old : member eqb (getD js (i - 1) 0) (drop i js) ≡ true → Counted js count (i - 1)
   unfolding different
-  count-old z = record { within = omega (arith, c .within); few = omega (arith, c .few); counted = rw (drop-back js i h (c .within), z) (c .counted) }
+  count-old z = record { within = omega (arith, c .within); few = omega (arith, c .few); counted = rw (drop-back js 0 i h (c .within), z) (c .counted) }
 
 pub count-done : (js : List ℕ) (count i : ℕ) → i ≤ 0 → Counted js count i → count ≡ length (different eqb js)
 count-done js count zero h c = c .counted
@@ -86,7 +86,7 @@ module _ (js marks : List ℕ) (count i : ℕ) (all : All (λ j. j < 2048) js) (
   index-below = below-at 2048 js (i - 1) all (omega (arith, c .within))
 
   pub marked-turn : Marked 2048 (drop (i - 1) js) (set marks (getD js (i - 1) 0) 1)
-  marked-turn = rw (drop-back js i h (c .within)) (marked-next 2048 (drop i js) marks (getD js (i - 1) 0) index-below m)
+  marked-turn = rw (drop-back js 0 i h (c .within)) (marked-next 2048 (drop i js) marks (getD js (i - 1) 0) index-below m)
 
   met : {b : Bool} → b ≡ isMark (getD marks (getD js (i - 1) 0) 0) → b ≡ member eqb (getD js (i - 1) 0) (drop i js)
   met e = e ∙ m .flags (getD js (i - 1) 0) index-below

@@ -44,7 +44,7 @@ fn all_fractions(
     requires { ⌜ (length (now ac) ≡ 66) × ((length (now vg) ≡ 132) × (Clear field (now pw) (length (now table)) (now vg) oracle)) ⌝ }
     requires { ⌜ Fits (length (now pw)) (length (now table)) oracle k ⌝ }
     requires { ⌜ (Below (oracle .step) (now js)) × ((0 < oracle .words) × ((length (now js) * k ≤ length (now tops)) × (length (now js) * k ≤ length (now bottoms)))) ⌝ }
-    ensures { λ _. ⌜ Placed (λ j m v w. Fraction field (rootIn field (now (pw .entry)) (now (table .entry)) (now (ac .entry)) (now (vg .entry)) oracle j m) v w) k (now (js .entry)) (now (tops .exit)) (now (bottoms .exit)) (length (now (js .entry))) ⌝ }
+    ensures { λ _. ⌜ Placed (λ j m v w. Fraction field (rootIn (fieldOf field) (now (pw .entry)) (now (table .entry)) (now (ac .entry)) (now (vg .entry)) oracle j m) v w) k (now (js .entry)) (now (tops .exit)) (now (bottoms .exit)) (length (now (js .entry))) ⌝ }
 {
     let mut coin = 0;
     while coin < js.len() {
@@ -108,7 +108,7 @@ pub fn prepare(
     requires { ⌜ Fits (length (now pw)) (length (now table)) oracle k ⌝ }
     requires { ⌜ Below (oracle .step) (now js) ⌝ }
     requires { ⌜ (length (now js) * k ≤ length (now tops)) × ((length (now js) * k ≤ length (now bottoms)) × ((length (now js) * k ≤ length (now behind)) × (length (now js) ≤ 4096))) ⌝ }
-    ensures { λ _. ⌜ Prepared k (rootIn field (now (pw .entry)) (now (table .entry)) (now (ac .entry)) (now (vg .entry)) oracle) (now (js .entry)) (now (tops .exit)) ⌝ }
+    ensures { λ _. ⌜ Prepared k (rootIn (fieldOf field) (now (pw .entry)) (now (table .entry)) (now (ac .entry)) (now (vg .entry)) oracle) (now (js .entry)) (now (tops .exit)) ⌝ }
 {
     if oracle.words == 0 {
         all_tables(table, oracle.step, k, js, tops);

@@ -78,7 +78,7 @@ pub fn next_samples(
     let t = w[6 + state.level] as usize;
     let outs = state.at + state.size / 2;
     let replies = outs + s;
-    answers::answer(
+    answers::gather_round(
         w[0],
         pw,
         lists::part(w, state.table, state.size),
@@ -114,7 +114,7 @@ pub fn final_difference(
     let k = edition::fold(e, w, state.level);
     let t = w[6 + state.level] as usize;
     let d = state.degree / k;
-    answers::difference(
+    answers::compare_finals(
         w[0],
         pw,
         lists::part(w, state.table, state.size),

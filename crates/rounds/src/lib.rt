@@ -8,6 +8,7 @@ ghost use mathlib.Core.Path.{_≡_};
 ghost use mathlib.Core.List.{_++_};
 ghost use Prim.Native.Nat.{ℕ, _+_, _*_, _≤_, _<_};
 ghost use lib.ListN.{length};
+ghost use Rattle.definition.specs.Field.{fieldOf};
 ghost use Rattle.definition.specs.Polynomial.{pair};
 ghost use Rattle.fractions.specs.Values.{Fits, Below, Clear};
 ghost use Rattle.samples.specs.Samples.{kept, distinctOrClash, Room};
@@ -28,7 +29,7 @@ pub fn fold_at(
     requires { ⌜ i * length (now values) + length (now values) ≤ length (now roots) ⌝ }
     requires { ⌜ Fits (length (now pw)) (length (now values) * oracle .step) oracle (length (now values)) ⌝ }
     requires { ⌜ j < oracle .step ⌝ }
-    ensures { λ v. ⌜ v ≡ foldBy field (now (pw .entry)) (now (roots .entry)) oracle (length (now (values .entry))) r i j ⌝ }
+    ensures { λ v. ⌜ v ≡ foldBy (fieldOf field) (now (pw .entry)) (now (roots .entry)) oracle (length (now (values .entry))) r i j ⌝ }
 {
     fractions::gather(roots, 1, i * values.len(), values);
     folds::fold_values(
@@ -42,9 +43,9 @@ pub fn fold_at(
 }
 
 // A sample: a point, and the value there.
-pub struct Point {
-    pub x: u32,
-    pub y: u32,
+struct Point {
+    x: u32,
+    y: u32,
 }
 
 // The sample at shift index j, number i of a list: the shift point, and the fold there.
@@ -61,7 +62,7 @@ fn sample_at(
     requires { ⌜ i * length (now values) + length (now values) ≤ length (now roots) ⌝ }
     requires { ⌜ Fits (length (now pw)) (length (now values) * oracle .step) oracle (length (now values)) ⌝ }
     requires { ⌜ j < oracle .step ⌝ }
-    ensures { λ v. ⌜ record { point = v .x; value = v .y } ≡ sampleBy field (now (pw .entry)) (now (roots .entry)) oracle (length (now (values .entry))) r i j ⌝ }
+    ensures { λ v. ⌜ record { point = v .x; value = v .y } ≡ sampleBy (fieldOf field) (now (pw .entry)) (now (roots .entry)) oracle (length (now (values .entry))) r i j ⌝ }
 {
     let x = folds::shift_point(pw, oracle.scale, j, values.len());
     let y = fold_at(field, pw, roots, oracle, i, j, r, values);
@@ -84,7 +85,7 @@ fn put_shifts(
     requires { ⌜ Fits (length (now pw)) (length (now values) * oracle .step) oracle (length (now values)) ⌝ }
     requires { ⌜ Below (oracle .step) (now shifts) ⌝ }
     requires { ⌜ (length (now py) ≡ length (now px)) × (length (now shifts) ≤ length (now px)) ⌝ }
-    ensures { λ v. ⌜ kept v (now (px .exit)) (now (py .exit)) ≡ distinctOrClash field (numbered (sampleBy field (now (pw .entry)) (now (roots .entry)) oracle (length (now (values .entry))) r) 0 (now (shifts .entry))) ⌝ }
+    ensures { λ v. ⌜ kept v (now (px .exit)) (now (py .exit)) ≡ distinctOrClash (fieldOf field) (numbered (sampleBy (fieldOf field) (now (pw .entry)) (now (roots .entry)) oracle (length (now (values .entry))) r) 0 (now (shifts .entry))) ⌝ }
     ensures { λ v. ⌜ Room (length (now (px .entry))) (length (now (shifts .entry))) v ⌝ }
 {
     let mut k = px.len();
@@ -111,7 +112,7 @@ fn put_shifts(
 }
 
 // G of a round by the values at the roots: the out coins with their replies, then the shift points with the folds there.
-fn answer_by(
+fn gather_by_roots(
     field: u32,
     pw: &[u32],
     roots: &[u32],
@@ -128,7 +129,7 @@ fn answer_by(
     requires { ⌜ Fits (length (now pw)) (length (now values) * oracle .step) oracle (length (now values)) ⌝ }
     requires { ⌜ Below (oracle .step) (now shifts) ⌝ }
     requires { ⌜ (length (now py) ≡ length (now px)) × ((length (now replies) ≡ length (now outs)) × (length (now outs) + length (now shifts) ≤ length (now px))) ⌝ }
-    ensures { λ v. ⌜ kept v (now (px .exit)) (now (py .exit)) ≡ distinctOrClash field (pair (now (outs .entry)) (now (replies .entry)) ++ numbered (sampleBy field (now (pw .entry)) (now (roots .entry)) oracle (length (now (values .entry))) r) 0 (now (shifts .entry))) ⌝ }
+    ensures { λ v. ⌜ kept v (now (px .exit)) (now (py .exit)) ≡ distinctOrClash (fieldOf field) (pair (now (outs .entry)) (now (replies .entry)) ++ numbered (sampleBy (fieldOf field) (now (pw .entry)) (now (roots .entry)) oracle (length (now (values .entry))) r) 0 (now (shifts .entry))) ⌝ }
     ensures { λ v. ⌜ Room (length (now (px .entry))) (length (now (outs .entry)) + length (now (shifts .entry))) v ⌝ }
 {
     let s = put_shifts(field, pw, roots, oracle, r, shifts, values, px, py);
@@ -139,7 +140,7 @@ fn answer_by(
 }
 
 // G of a round in the last places of px and py: the out coins with their replies, then the shift points with the folds there.
-pub fn answer(
+pub fn gather_samples(
     field: u32,
     pw: &[u32],
     table: &[u32],
@@ -179,7 +180,7 @@ pub fn answer(
         bottoms,
         behind,
     );
-    answer_by(
+    gather_by_roots(
         field,
         pw,
         tops,

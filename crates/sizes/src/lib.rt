@@ -14,7 +14,7 @@ ghost use Rattle.sizes.specs.Degrees.{DegreeAt, Folds};
 ghost use Rattle.sizes.specs.Words.{roundWordCount};
 
 // The logarithm of a power of two, read off its single one bit.
-fn log2(x: u32) -> u32
+pub fn log2(x: u32) -> u32
     requires { ⌜ ones x ≡ 1 ⌝ }
     ensures { λ r. ⌜ x ≡ 2 ^ r ⌝ }
 {

@@ -50,7 +50,7 @@ summed-turn xs ys i high low {h} {l} {h'} {l'} some hx hy s eh el eh' el' =
       (
         more (length xs) i low l l' some hx (s .1 .0) (el .1) el',
         turned high low p (productsOf (drop i xs) (drop i ys)) h l h' l' (s .1 .1) (eh .0) (el .0) eh' el'
-            ∙ sym (rw (drop-back xs i some hx, drop-back ys i some hy, products-cons (getD xs (i - 1) 0) (getD ys (i - 1) 0) (drop i xs) (drop i ys))),
+            ∙ sym (rw (drop-back xs 0 i some hx, drop-back ys 0 i some hy, products-cons (getD xs (i - 1) 0) (getD ys (i - 1) 0) (drop i xs) (drop i ys))),
       ),
     )
   where

@@ -86,6 +86,7 @@ turning-first pw s out h = record {
 
 pub turning-next : (pw : List ℕ) (s : ℕ) (out : List ℕ) (place i : ℕ) {v r : ℕ} → i < length out → Turning pw s out place i → v ≡ getD pw place 0 →
     (r ≡ (place + s) % length pw) × (r < length pw) → Turning pw s (set out i v) r (i + 1)
+unfolding fieldOf primeField
 turning-next pw s out place i {v} {r} l t ev er = record {
   inside = er .1;
   next = λ field ω w.

@@ -44,7 +44,7 @@ sum-requires-2 c κs =
 returns-2 : tie.Need-returns-2
 returns-2 c =
     let a = c .before .before .before .before .before .args in
-    behind-is (a .field) (drop (a .i) (a .f .now)) (a .w .now) _ (a .count - a .i) (omega (arith, c .before .before .if1 .left)) (c .before .part2 .ensures) (c .sum2 .ensures)
+    behind-is (fieldOf (a .field)) (drop (a .i) (a .f .now)) (a .w .now) _ (a .count - a .i) (omega (arith, c .before .before .if1 .left)) (c .before .part2 .ensures) (c .sum2 .ensures)
 
 pub behind-spec : {M : Type 1} → statement M
 behind-spec =

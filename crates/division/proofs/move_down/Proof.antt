@@ -55,7 +55,7 @@ returns c =
     let l = c .before .loop in
     let a = c .before .before .args in
     let all : l .i ≡ a .n = omega arith in
-    moved (a .f .now) (l .f) (a .e) (a .n) (omega arith) (subst (λ (n : ℕ). Filled (λ m. getD (a .f .now) (a .e + m) 0) (a .f .now) (l .f) n) all (l .inv .1))
+    moved 0 (a .f .now) (l .f) (a .e) (a .n) (omega arith) (subst (λ (n : ℕ). Filled (λ m. getD (a .f .now) (a .e + m) 0) (a .f .now) (l .f) n) all (l .inv .1))
 
 pub move-down-spec : {M : Type 1} → statement M
 move-down-spec =

@@ -4,7 +4,7 @@ use native.Mathlib.Omega.{arith}
 use mathlib.Core.Path.{_≡_, subst}
 use lib.ListN.{length, getD}
 use borrow.Author.Needs.{needs}
-use Rattle.definition.specs.Field.{Field, fieldOf}
+use Rattle.definition.specs.Field.{Field, fieldOf, primeField}
 use Rattle.list_laws.specs.Filled.{Filled, filled-first, filled-next}
 use Rattle.fractions.proofs.RootValues.{numerator-turn}
 use Rattle.fractions.proofs.numerators.Statement.{statement}
@@ -58,13 +58,14 @@ loop-less : tie.Need-loop-less Inv-loop μ-loop
 loop-less c = omega arith
 
 loop-again : tie.Need-loop-again Inv-loop μ-loop
+unfolding fieldOf primeField
 loop-again c =
     let l = c .before .before .before .before .before .before .loop in
     let a = c .before .before .before .before .before .before .before .before .before .before .args in
     let f : ℕ → ℕ = (λ i. fieldOf (a .field) ._⊗_ (fieldOf (a .field) ._⊖_ (getD (a .values .now) i 0) (getD (a .a .now) i 0)) (getD (a .g .now) i 0)) in (
       omega (arith, l .inv .1 .same),
       filled-next f (a .values .now) (l .values) (l .m) (l .inv .1) (omega (arith, l .inv .1 .same))
-          (numerator-turn (a .field) f (a .values .now) (l .values) (l .m) (getD (a .a .now) (l .m) 0) (getD (a .g .now) (l .m) 0) (l .inv .1) (c .before .before .sub .ensures) (c .mul .ensures)),
+          (numerator-turn (fieldOf (a .field)) f (a .values .now) (l .values) (l .m) (getD (a .a .now) (l .m) 0) (getD (a .g .now) (l .m) 0) (l .inv .1) (c .before .before .sub .ensures) (c .mul .ensures)),
     )
 
 same-length : tie.Need-same-length Inv-loop μ-loop

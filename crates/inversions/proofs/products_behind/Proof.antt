@@ -4,22 +4,23 @@ use native.Mathlib.Omega.{arith}
 use mathlib.Core.Path.{_≡_, refl, sym, ap, _∙_, subst}
 use lib.ListN.{length, getD, drop, set, length-set}
 use borrow.Author.Needs.{needs}
-use Rattle.definition.specs.Field.{fieldOf}
+use Rattle.definition.specs.Field.{primeField, fieldOf}
 use Rattle.inversions.specs.OneInversion.{product}
 use Rattle.inversions.proofs.Inverting.{Behind, product-end, product-turn, behind-turn}
 use Rattle.inversions.proofs.products_behind.Statement.{statement}
 use Rattle.inversions.proofs.products_behind.Tie as tie
 
 abbrev Inv-loop : tie.InvT-loop
-Inv-loop field values behind₀ p₀ i₀ behind p i = (i ≤ length values) × ((length behind ≡ length behind₀) × ((p ≡ product (fieldOf field) (drop i values)) × Behind field values behind i))
+Inv-loop field values behind₀ p₀ i₀ behind p i = (i ≤ length values) × ((length behind ≡ length behind₀) × ((p ≡ product (fieldOf field) (drop i values)) × Behind (fieldOf field) values behind i))
 
 abbrev μ-loop : tie.MeasureT-loop
 μ-loop field values behind₀ p₀ i₀ behind p i = i
 
 loop-holds : tie.Need-loop-holds Inv-loop μ-loop
+unfolding fieldOf primeField
 loop-holds c =
     let a = c .before .before .args in
-    (omega arith, (refl, (product-end (a .field) (a .values .now), λ m u w. absurd (omega arith))))
+    (omega arith, (refl, (product-end (fieldOf (a .field)) (a .values .now), λ m u w. absurd (omega arith))))
 
 sub-i : tie.Need-sub-i Inv-loop μ-loop
 sub-i c = omega arith
@@ -43,6 +44,7 @@ loop-less : tie.Need-loop-less Inv-loop μ-loop
 loop-less c = omega arith
 
 loop-again : tie.Need-loop-again Inv-loop μ-loop
+unfolding fieldOf primeField
 loop-again c =
     let l = c .before .before .before .loop in
     let a = c .before .before .before .before .before .before .args in
@@ -51,8 +53,8 @@ loop-again c =
       (
         length-set (l .behind) (l .i - 1) (l .p) ∙ n .1 .0,
         (
-          product-turn (a .field) (a .values .now) (l .i) (omega arith) (omega arith) (n .1 .1 .0) (c .mul .ensures),
-          behind-turn (a .field) (a .values .now) (l .behind) (l .i) (l .p) (omega arith) (omega arith) (omega arith) (n .1 .1 .0) (n .1 .1 .1),
+          product-turn (fieldOf (a .field)) (a .values .now) (l .i) (omega arith) (omega arith) (n .1 .1 .0) (c .mul .ensures),
+          behind-turn (fieldOf (a .field)) (a .values .now) (l .behind) (l .i) (l .p) (omega arith) (omega arith) (omega arith) (n .1 .1 .0) (n .1 .1 .1),
         ),
       ),
     )
@@ -61,6 +63,7 @@ same-length : tie.Need-same-length Inv-loop μ-loop
 same-length c = omega arith
 
 returns : tie.Need-returns Inv-loop μ-loop
+unfolding fieldOf primeField
 returns c =
     let l = c .before .loop in
     let a = c .before .before .before .before .args in

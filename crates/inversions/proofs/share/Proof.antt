@@ -4,12 +4,15 @@ use native.Mathlib.Omega.{arith}
 use mathlib.Core.Path.{_≡_, refl, sym, ap, _∙_, subst}
 use lib.ListN.{length, getD, drop, set, length-set}
 use borrow.Author.Needs.{needs}
+use Rattle.definition.specs.Field.{primeField, fieldOf}
+use Rattle.algebra.specs.PrimeField.{laws}
+use Rattle.polynomial.specs.Inverses.{inverse-reduced}
 use Rattle.inversions.proofs.Inverting.{Shared, shared-first, shared-next}
 use Rattle.inversions.proofs.share.Statement.{statement}
 use Rattle.inversions.proofs.share.Tie as tie
 
 abbrev Inv-loop : tie.InvT-loop
-Inv-loop field u values₀ behind left₀ i₀ values left i = (i ≤ length values₀) × Shared field values₀ values i left
+Inv-loop field u values₀ behind left₀ i₀ values left i = (i ≤ length values₀) × Shared (fieldOf field) values₀ values i left
 
 abbrev μ-loop : tie.MeasureT-loop
 μ-loop field u values₀ behind left₀ i₀ values left i = length values₀ - i
@@ -17,7 +20,7 @@ abbrev μ-loop : tie.MeasureT-loop
 loop-holds : tie.Need-loop-holds Inv-loop μ-loop
 loop-holds c =
     let s = c .before .before in
-    (omega arith, shared-first (s .args .field) (s .args .values .now) (s .args .u) (s .pre .0 .1))
+    (omega arith, shared-first (fieldOf (s .args .field)) (s .args .values .now) (s .args .u) (s .pre .0 .1))
 
 mul-a : tie.Need-mul-a Inv-loop μ-loop
 mul-a c = omega arith
@@ -50,16 +53,18 @@ loop-less : tie.Need-loop-less Inv-loop μ-loop
 loop-less c = omega arith
 
 loop-again : tie.Need-loop-again Inv-loop μ-loop
+unfolding fieldOf primeField
 loop-again c =
     let l = c .before .before .before .before .before .loop in
     let s = c .before .before .before .before .before .before .before .before in
     let a = s .args in
-    (omega (arith, l .inv .1 .same), shared-next (a .field) (a .values .now) (l .values) (l .i) (l .left) (l .inv .1) (omega (arith, l .inv .1 .same)) (s .pre .1 (l .i) (omega (arith, l .inv .1 .same))) (c .before .mul .ensures) (c .mul2 .ensures))
+    (omega (arith, l .inv .1 .same), shared-next (fieldOf (a .field)) (a .values .now) (laws (a .field)) (inverse-reduced (a .field)) (l .values) (l .i) (l .left) (l .inv .1) (omega (arith, l .inv .1 .same)) (s .pre .1 (l .i) (omega (arith, l .inv .1 .same))) (c .before .mul .ensures) (c .mul2 .ensures))
 
 same-length : tie.Need-same-length Inv-loop μ-loop
 same-length c = omega arith
 
 returns : tie.Need-returns Inv-loop μ-loop
+unfolding fieldOf primeField
 returns c =
     let l = c .before .loop in
     λ m u. l .inv .1 .done m (omega (arith, l .inv .1 .same))

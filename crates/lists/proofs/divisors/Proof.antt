@@ -4,6 +4,8 @@ use Prim.Native.Nat.{ℕ, suc, _+_, _-_, _*_, _≤_, _<_}
 use native.Mathlib.Omega.{arith}
 use mathlib.Core.Path.{_≡_, refl, sym, ap, _∙_, subst}
 use lib.ListN.{length, getD, drop, take, set, length-set}
+use Rattle.definition.specs.Field.{primeField, fieldOf}
+use Rattle.algebra.specs.PrimeField.{laws}
 use Rattle.inversions.specs.OneInversion.{Inverted}
 use Rattle.lists.proofs.Interpolating.{divisor-nonzero, found-reciprocal}
 use Rattle.lists.proofs.divisors.Statement.{statement}
@@ -31,23 +33,25 @@ same-length : tie.Need-same-length
 same-length c = search needs
 
 returns : tie.Need-returns
+unfolding fieldOf primeField
 returns c =
     let s = c .before .before .before .before .before .before .before .before .before .before .before .before .before .before .before in
     let a = s .args in
     let d = c .before .before .before .before .before .before .before .before .before .before .before .differences in
     absurd (subst (λ t. Inverted (a .field) (d .last .1 .1 .0) t (c .before .before .before .before .before .invert-all .last .1 .0)) (c .enum-told2 .given .1) (c .before .before .before .before .before .invert-all .ensures)
-    (λ m u. divisor-nonzero (a .field) (a .xs .now) m (s .pre .1) (omega (arith, u, d .kept .1 .1 .0)) (d .ensures m (omega (arith, u, d .kept .1 .1 .0)))))
+    (λ m u. divisor-nonzero (fieldOf (a .field)) (laws (a .field)) (a .xs .now) m (s .pre .1) (omega (arith, u, d .kept .1 .1 .0)) (d .ensures m (omega (arith, u, d .kept .1 .1 .0)))))
 
 same-length-2 : tie.Need-same-length-2
 same-length-2 c = search needs
 
 returns-2 : tie.Need-returns-2
+unfolding fieldOf primeField
 returns-2 c =
     let s = c .before .before .before .before .before .before .before .before .before .before .before .before .before .before .before in
     let a = s .args in
     let d = c .before .before .before .before .before .before .before .before .before .before .before .differences in
     let each = subst (λ t. Inverted (a .field) (d .last .1 .1 .0) t (c .before .before .before .before .before .invert-all .last .1 .0)) (c .enum-told .given .1) (c .before .before .before .before .before .invert-all .ensures) in
-    λ i u. found-reciprocal (a .field) (d .ensures i u) (each i (omega (arith, u, d .kept .1 .1 .0)))
+    λ i u. found-reciprocal (fieldOf (a .field)) (d .ensures i u) (each i (omega (arith, u, d .kept .1 .1 .0)))
 
 pub divisors-spec : {M : Type 1} → statement M
 divisors-spec =

@@ -4,6 +4,8 @@ use Prim.Native.Nat.{ℕ, suc, _+_, _-_, _*_, _≤_, _<_}
 use native.Mathlib.Omega.{arith}
 use mathlib.Core.Path.{_≡_, refl, sym, ap, _∙_, subst}
 use lib.ListN.{length, getD, drop, take, set, length-set}
+use Rattle.definition.specs.Field.{primeField, fieldOf}
+use Rattle.algebra.specs.PrimeField.{laws}
 use Rattle.lists.proofs.Interpolating.{through-none, filled-zeros}
 use Rattle.lists.proofs.start.Statement.{statement}
 use Rattle.lists.proofs.start.Tie as tie
@@ -24,11 +26,12 @@ same-length-2 : tie.Need-same-length-2
 same-length-2 c = search needs
 
 returns : tie.Need-returns
+unfolding fieldOf primeField
 returns c =
     let a = c .before .before .before .before .before .before .before .before .before .before .args in
     let q = c .before .before .before .before .before .before .fill in
     let v = c .before .before .fill2 in
-    through-none (a .field) (q .last .1 .0) (v .last .1 .0) (omega (arith, v .kept .1 .0)) (filled-zeros (a .field) (a .q .now) (q .last .1 .0) (q .ensures)) (filled-zeros (a .field) (a .v .now) (v .last .1 .0) (v .ensures))
+    through-none (fieldOf (a .field)) (laws (a .field)) (q .last .1 .0) (v .last .1 .0) (omega (arith, v .kept .1 .0)) (filled-zeros (fieldOf (a .field)) (laws (a .field)) (a .q .now) (q .last .1 .0) (q .ensures)) (filled-zeros (fieldOf (a .field)) (laws (a .field)) (a .v .now) (v .last .1 .0) (v .ensures))
 
 pub start-spec : {M : Type 1} → statement M
 start-spec =

@@ -12,7 +12,7 @@ use Rattle.lists.proofs.steps.Statement.{statement}
 use Rattle.lists.proofs.steps.Tie as tie
 
 abbrev Inv-loop : tie.InvT-loop
-Inv-loop field xs ys us room₀ q₀ v₀ i₀ room q v i = (i ≤ length xs) × ((length room ≡ length room₀) × ((length q ≡ length q₀) × ((length v ≡ length v₀) × Through field (drop i xs) (drop i ys) q v)))
+Inv-loop field xs ys us room₀ q₀ v₀ i₀ room q v i = (i ≤ length xs) × ((length room ≡ length room₀) × ((length q ≡ length q₀) × ((length v ≡ length v₀) × Through (fieldOf field) (drop i xs) (drop i ys) q v)))
 
 abbrev μ-loop : tie.MeasureT-loop
 μ-loop field xs ys us room₀ q₀ v₀ i₀ room q v i = i
@@ -25,7 +25,7 @@ loop-holds c =
     let s = c .before .before .before .before .before .before .before .before .before .before .before .before .before in
     let a = s .args in
     let t = c .before .before .before .before .start in
-    (omega arith, (refl, (refl, (refl, through-first (a .field) (a .xs .now) (a .ys .now) (t .last .1 .0) (t .last .1 .1 .0) (s .pre .0 .0) (t .ensures)))))
+    (omega arith, (refl, (refl, (refl, through-first (fieldOf (a .field)) (a .xs .now) (a .ys .now) (t .last .1 .0) (t .last .1 .1 .0) (s .pre .0 .0) (t .ensures)))))
 
 step-requires : tie.Need-step-requires Inv-loop μ-loop
 step-requires c κs =
@@ -72,7 +72,7 @@ returns c =
     let l = c .before .loop in
     let a = c .before .before .before .before .before .before .before .before .before .before .before .before .before .before .before .args in
     let all : l .i ≡ 0 = omega arith in
-    subst (λ (m : ℕ). Through (a .field) (drop m (a .xs .now)) (drop m (a .ys .now)) (l .q) (l .v)) all (l .inv .1 .1 .1 .1)
+    subst (λ (m : ℕ). Through (fieldOf (a .field)) (drop m (a .xs .now)) (drop m (a .ys .now)) (l .q) (l .v)) all (l .inv .1 .1 .1 .1)
 
 pub steps-spec : {M : Type 1} → statement M
 steps-spec =

@@ -1,12 +1,14 @@
 -- `lists::times_difference` meets its contract. Assumes nothing.
 use Prim.Native.Nat.{ℕ, suc, _+_, _-_, _*_, _≤_, _<_}
+use native.Mathlib.Nat.{le-refl}
 use native.Mathlib.Omega.{arith}
 use mathlib.Core.Path.{_≡_, refl, sym, ap, _∙_, subst}
 use lib.ListN.{length, getD, drop, set, length-set}
 use borrow.Author.Needs.{needs}
-use Rattle.definition.specs.Field.{Field, fieldOf}
+use Rattle.definition.specs.Field.{primeField, fieldOf}
+use Rattle.algebra.specs.PrimeField.{laws}
 use Rattle.list_laws.specs.Filled.{Filled, filled-first, filled-next}
-use Rattle.lists.proofs.Interpolating.{difference-turn, kept-small, negative-small}
+use Rattle.lists.proofs.Interpolating.{difference-turn, negative-small}
 use Rattle.lists.proofs.times_difference.Statement.{statement}
 use Rattle.lists.proofs.times_difference.Tie as tie
 
@@ -46,10 +48,9 @@ sum-times-requires : tie.Need-sum-times-requires Inv-loop μ-loop
 sum-times-requires c κs =
     let l = c .before .before .before .loop in
     let s = c .before .before .before .before .before .before .before .before in
-    let a = s .args in
-    let f : ℕ → ℕ = (λ i. fieldOf (a .field) ._⊗_ (fieldOf (a .field) ._⊖_ (getD (a .xs .now) i 0) (getD (a .xs .now) (a .j) 0)) (getD (a .out .now) i 0)) in (
-      negative-small (a .field) (a .xs .now) (getD (a .xs .now) (a .j) 0) (c .before .before .before .before .sub .ensures),
-      kept-small (a .field) (a .xs .now) f (a .out .now) (l .out) (l .i) (l .inv .1) (s .pre .1 (l .i) (omega arith)),
+    let a = s .args in (
+      negative-small (a .field) (getD (a .xs .now) (a .j) 0) (c .before .before .before .before .sub .ensures),
+      omega (arith, l .inv .1 .left (l .i) (le-refl (l .i)), s .pre .1 (l .i) (omega arith)),
     )
 
 mul-out : tie.Need-mul-out Inv-loop μ-loop
@@ -65,11 +66,12 @@ loop-less : tie.Need-loop-less Inv-loop μ-loop
 loop-less c = omega arith
 
 loop-again : tie.Need-loop-again Inv-loop μ-loop
+unfolding fieldOf primeField
 loop-again c =
     let l = c .before .before .before .before .loop in
     let a = c .before .before .before .before .before .before .before .before .before .args in
     let f : ℕ → ℕ = (λ i. fieldOf (a .field) ._⊗_ (fieldOf (a .field) ._⊖_ (getD (a .xs .now) i 0) (getD (a .xs .now) (a .j) 0)) (getD (a .out .now) i 0)) in
-    (omega arith, filled-next f (a .out .now) (l .out) (l .i) (l .inv .1) (omega arith) (difference-turn (a .field) (a .xs .now) f (a .out .now) (l .out) (l .i) (a .j) (l .inv .1) (c .before .before .before .before .before .sub .ensures) (c .sum-times .ensures)))
+    (omega arith, filled-next f (a .out .now) (l .out) (l .i) (l .inv .1) (omega arith) (difference-turn (fieldOf (a .field)) (a .xs .now) (laws (a .field)) f (a .out .now) (l .out) (l .i) (a .j) (l .inv .1) (c .before .before .before .before .before .sub .ensures) (c .sum-times .ensures)))
 
 same-length : tie.Need-same-length Inv-loop μ-loop
 same-length c = omega arith

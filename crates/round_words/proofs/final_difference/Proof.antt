@@ -29,8 +29,8 @@ cast-t c = search needs
 div-d : tie.Need-div-d
 div-d c = search needs
 
-shared-slice-read-difference : tie.Need-shared-slice-read-difference
-shared-slice-read-difference c = search needs
+shared-slice-read-compare-finals : tie.Need-shared-slice-read-compare-finals
+shared-slice-read-compare-finals c = search needs
 
 part-requires : tie.Need-part-requires
 part-requires c κs = search needs
@@ -56,9 +56,9 @@ part-requires-3 c κs =
     let k = c .before .before .before .before .before .before .before .fold .ensures .0 ∙ i .numbers .fold in
     omega (arith, i .there, i .numbers .times, ap (λ (n : ℕ). s .args .state .degree / n) k)
 
-difference-requires : tie.Need-difference-requires
+compare-finals-requires : tie.Need-compare-finals-requires
 unfolding currentTable
-difference-requires c κs =
+compare-finals-requires c κs =
     let s = c .before .before .before .before .before .before .before .before .before .before .before .before .before in
     let a = s .args in
     let h = sheetOf (editionOf (a .e)) (a .w .now) in
@@ -83,7 +83,7 @@ returns c =
     let k = c .before .before .before .before .before .before .before .before .before .fold .ensures .0 ∙ i .numbers .fold in
     differing-parts h (a .w .now) (a .pw .now) (a .ac .now) (a .vg .now) (a .state) (a .r) (a .oracle) (p₁ .result .now) (p₁ .ensures) k
     (p₂ .result .now) (p₃ .result .now) (p₂ .ensures ∙ coefficients-part h (a .w .now) (a .state) k) (p₃ .ensures ∙ finals-part h (a .w .now) (a .state) k (i .numbers .times))
-    (c .difference .ensures)
+    (c .compare-finals .ensures)
 
 pub final-difference-spec : {M : Type 1} → statement M
 final-difference-spec =
@@ -95,10 +95,10 @@ final-difference-spec =
     shared-slice-read-t
     cast-t
     div-d
-    shared-slice-read-difference
+    shared-slice-read-compare-finals
     part-requires
     part-requires-2
     add-part
     part-requires-3
-    difference-requires
+    compare-finals-requires
     returns)

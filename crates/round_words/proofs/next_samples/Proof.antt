@@ -38,8 +38,8 @@ add-outs c = search needs
 add-replies : tie.Need-add-replies
 add-replies c = search needs
 
-shared-slice-read-answer : tie.Need-shared-slice-read-answer
-shared-slice-read-answer c = search needs
+shared-slice-read-gather-round : tie.Need-shared-slice-read-gather-round
+shared-slice-read-gather-round c = search needs
 
 part-requires : tie.Need-part-requires
 part-requires c κs = search needs
@@ -62,9 +62,9 @@ part-requires-3 c κs = let i = c .before .before .before .before .before .befor
 part-requires-4 : tie.Need-part-requires-4
 part-requires-4 c κs = let i = c .before .before .before .before .before .before .before .before .before .before .before .before .before .before .before .before .pre .1 .0 in omega (arith, i .there, i .numbers .outs)
 
-answer-requires : tie.Need-answer-requires
+gather-round-requires : tie.Need-gather-round-requires
 unfolding currentTable
-answer-requires c κs =
+gather-round-requires c κs =
     let s = c .before .before .before .before .before .before .before .before .before .before .before .before .before .before .before .before .before .before .before in
     let a = s .args in
     let h = sheetOf (editionOf (a .e)) (a .w .now) in
@@ -98,7 +98,7 @@ returns c =
     let p₂ = c .before .before .before .before .before .before .before .before .before .part2 in
     let p₃ = c .before .before .before .before .before .before .before .before .part3 in
     let p₄ = c .before .before .before .before .before .before .before .part4 in
-    let q = c .before .before .before .before .answer in
+    let q = c .before .before .before .before .gather-round in
     let k = c .before .before .before .before .before .before .before .before .before .before .fold .ensures .0 ∙ i .numbers .fold in
     let es = p₂ .ensures ∙ shifts-part h (a .w .now) (a .state) (i .numbers .outs) (i .numbers .times) in
     let eo = p₃ .ensures ∙ outs-part h (a .w .now) (a .state) (i .numbers .outs) in
@@ -121,7 +121,7 @@ next-samples-spec =
     cast-t
     add-outs
     add-replies
-    shared-slice-read-answer
+    shared-slice-read-gather-round
     part-requires
     fold-requires
     add-part
@@ -129,7 +129,7 @@ next-samples-spec =
     part-requires-2
     part-requires-3
     part-requires-4
-    answer-requires
+    gather-round-requires
     same-length
     same-length-2
     returns)

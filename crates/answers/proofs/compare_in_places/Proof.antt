@@ -1,12 +1,12 @@
--- `answers::difference_in` meets its contract. Assumes nothing.
+-- `answers::compare_in_places` meets its contract. Assumes nothing.
 use mathlib.Core.Path.{subst, sym}
 use lib.ListN.{length}
 use Rattle.fractions.specs.Values.{Fits}
 use Rattle.rounds.specs.RoundLaws.{Represents}
 use Rattle.answers.proofs.Sizes.{first-k, sizes-for}
 use borrow.Author.Needs.{needs}
-use Rattle.answers.proofs.difference_in.Statement.{statement}
-use Rattle.answers.proofs.difference_in.Tie as tie
+use Rattle.answers.proofs.compare_in_places.Statement.{statement}
+use Rattle.answers.proofs.compare_in_places.Tie as tie
 
 roots-requires : tie.Need-roots-requires
 roots-requires c κs = search needs
@@ -46,8 +46,8 @@ returns c =
     let q = c .before .before .before .before .before .before .before .first-difference in
     λ ω b f sv. q .ensures ω b f (subst (Represents (a .field) ω b f (a .pw .now) (a .table .now) (a .ac .now) (a .vg .now) (a .oracle)) (sym n) sv)
 
-pub difference-in-spec : {M : Type 1} → statement M
-difference-in-spec =
+pub compare-in-places-spec : {M : Type 1} → statement M
+compare-in-places-spec =
     tie.close
     (tie.spec
     roots-requires

@@ -1,11 +1,11 @@
--- `answers::answer` meets its contract. Assumes nothing.
+-- `answers::gather_round` meets its contract. Assumes nothing.
 use Prim.Native.Nat.{_≤_}
 use native.Mathlib.Omega.{arith}
 use lib.ListN.{length}
 use borrow.Author.Needs.{needs}
 use Rattle.answers.proofs.Sizes.{most-places}
-use Rattle.answers.proofs.answer.Statement.{statement}
-use Rattle.answers.proofs.answer.Tie as tie
+use Rattle.answers.proofs.gather_round.Statement.{statement}
+use Rattle.answers.proofs.gather_round.Tie as tie
 
 mul-if1 : tie.Need-mul-if1
 mul-if1 c =
@@ -23,17 +23,17 @@ few-requires-2 c κs = search needs
 few-requires-3 : tie.Need-few-requires-3
 few-requires-3 c κs = search needs
 
-slice-aggregate-answer-in : tie.Need-slice-aggregate-answer-in
-slice-aggregate-answer-in c = search needs
+slice-aggregate-gather-in-places : tie.Need-slice-aggregate-gather-in-places
+slice-aggregate-gather-in-places c = search needs
 
-slice-aggregate-answer-in-2 : tie.Need-slice-aggregate-answer-in-2
-slice-aggregate-answer-in-2 c = search needs
+slice-aggregate-gather-in-places-2 : tie.Need-slice-aggregate-gather-in-places-2
+slice-aggregate-gather-in-places-2 c = search needs
 
-slice-aggregate-answer-in-3 : tie.Need-slice-aggregate-answer-in-3
-slice-aggregate-answer-in-3 c = search needs
+slice-aggregate-gather-in-places-3 : tie.Need-slice-aggregate-gather-in-places-3
+slice-aggregate-gather-in-places-3 c = search needs
 
-answer-in-requires : tie.Need-answer-in-requires
-answer-in-requires c κs =
+gather-in-places-requires : tie.Need-gather-in-places-requires
+gather-in-places-requires c κs =
     let s = c .before .before .before .before .before .before .before .before .before .before .before .before .before .before .before .before .before .before in
     let a = s .args in
     let l : length (a .shifts .now) ≤ 50 = omega (arith, s .pre .1 .1 .1 .0 .1 .1, s .pre .1 .1 .1 .1) in
@@ -57,17 +57,17 @@ many-requires-2 c κs = search needs
 many-requires-3 : tie.Need-many-requires-3
 many-requires-3 c κs = search needs
 
-slice-aggregate-answer-in-4 : tie.Need-slice-aggregate-answer-in-4
-slice-aggregate-answer-in-4 c = search needs
+slice-aggregate-gather-in-places-4 : tie.Need-slice-aggregate-gather-in-places-4
+slice-aggregate-gather-in-places-4 c = search needs
 
-slice-aggregate-answer-in-5 : tie.Need-slice-aggregate-answer-in-5
-slice-aggregate-answer-in-5 c = search needs
+slice-aggregate-gather-in-places-5 : tie.Need-slice-aggregate-gather-in-places-5
+slice-aggregate-gather-in-places-5 c = search needs
 
-slice-aggregate-answer-in-6 : tie.Need-slice-aggregate-answer-in-6
-slice-aggregate-answer-in-6 c = search needs
+slice-aggregate-gather-in-places-6 : tie.Need-slice-aggregate-gather-in-places-6
+slice-aggregate-gather-in-places-6 c = search needs
 
-answer-in-requires-2 : tie.Need-answer-in-requires-2
-answer-in-requires-2 c κs =
+gather-in-places-requires-2 : tie.Need-gather-in-places-requires-2
+gather-in-places-requires-2 c κs =
     let s = c .before .before .before .before .before .before .before .before .before .before .before .before .before .before .before .before .before .before in
     let a = s .args in
     let l : length (a .shifts .now) ≤ 50 = omega (arith, s .pre .1 .1 .1 .0 .1 .1, s .pre .1 .1 .1 .1) in
@@ -82,28 +82,28 @@ same-length-4 c = search needs
 returns-2 : tie.Need-returns-2
 returns-2 c = search needs
 
-pub answer-spec : {M : Type 1} → statement M
-answer-spec =
+pub gather-round-spec : {M : Type 1} → statement M
+gather-round-spec =
     tie.close
     (tie.spec
     mul-if1
     few-requires
     few-requires-2
     few-requires-3
-    slice-aggregate-answer-in
-    slice-aggregate-answer-in-2
-    slice-aggregate-answer-in-3
-    answer-in-requires
+    slice-aggregate-gather-in-places
+    slice-aggregate-gather-in-places-2
+    slice-aggregate-gather-in-places-3
+    gather-in-places-requires
     same-length
     same-length-2
     returns
     many-requires
     many-requires-2
     many-requires-3
-    slice-aggregate-answer-in-4
-    slice-aggregate-answer-in-5
-    slice-aggregate-answer-in-6
-    answer-in-requires-2
+    slice-aggregate-gather-in-places-4
+    slice-aggregate-gather-in-places-5
+    slice-aggregate-gather-in-places-6
+    gather-in-places-requires-2
     same-length-3
     same-length-4
     returns-2)

@@ -1,9 +1,12 @@
--- `comparison::compare` meets its contract: the first difference from number i on is the first of all. Assumes nothing.
+-- `comparison::compare_by_roots` meets its contract: the first difference from number i on is the first of all. Assumes nothing.
 use Prim.Native.Nat.{_-_, _≤_}
-use mathlib.Core.Path.{_≡_, _∙_, refl}
+use mathlib.Core.Path.{_≡_, _∙_, refl, sym, ap}
+use mathlib.Core.Bool.{not}
 use native.Mathlib.Omega.{arith}
 use lib.ListN.{length, drop}
 use borrow.Author.Needs.{needs}
+use borrow.Author.Tests.{eq-eqb, ne-eqb}
+use Rattle.definition.specs.Field.{fieldOf, primeField}
 use Rattle.definition.specs.Lists.{firstTrue}
 use Rattle.outcome.specs.Meaning.{placeOf}
 use Rattle.rounds.specs.RoundLaws.{differsIn}
@@ -11,16 +14,16 @@ use Rattle.fractions.specs.Values.{below-at, first-point, folded}
 use Rattle.root_values.specs.Places.{places-for}
 use Rattle.rounds.specs.SamplesIn.{numbered, sampleBy}
 use Rattle.rounds.proofs.Shifts.{fits-as}
-use Rattle.comparison.proofs.Comparing.{agrees, differs, first-here, first-later, first-nowhere}
-use Rattle.comparison.proofs.compare.Statement.{statement}
-use Rattle.comparison.proofs.compare.Tie as tie
+use Rattle.comparison.proofs.Comparing.{tested, first-here, first-later, first-nowhere}
+use Rattle.comparison.proofs.compare_by_roots.Statement.{statement}
+use Rattle.comparison.proofs.compare_by_roots.Tie as tie
 
 abbrev Inv-loop : tie.InvT-loop
 Inv-loop field pw roots oracle r coefficients finals values₀ i₀ values i =
     (i ≤ length finals)
     × ((length values ≡ length values₀)
-    × (firstTrue i (numbered (λ i j. differsIn field coefficients (sampleBy field pw roots oracle (length values₀) r i j)) i (drop i finals))
-    ≡ firstTrue 0 (numbered (λ i j. differsIn field coefficients (sampleBy field pw roots oracle (length values₀) r i j)) 0 finals)))
+    × (firstTrue i (numbered (λ i j. differsIn (fieldOf field) coefficients (sampleBy (fieldOf field) pw roots oracle (length values₀) r i j)) i (drop i finals))
+    ≡ firstTrue 0 (numbered (λ i j. differsIn (fieldOf field) coefficients (sampleBy (fieldOf field) pw roots oracle (length values₀) r i j)) 0 finals)))
 
 abbrev μ-loop : tie.MeasureT-loop
 μ-loop field pw roots oracle r coefficients finals values₀ i₀ values i = length finals - i
@@ -61,15 +64,15 @@ same-length : tie.Need-same-length Inv-loop μ-loop
 same-length c = omega arith
 
 returns : tie.Need-returns Inv-loop μ-loop
-unfolding placeOf
+unfolding placeOf fieldOf primeField
 returns c =
     let l = c .before .before .before .before .before .before .before .before .before .loop in
     let a = c .before .before .before .before .before .before .before .before .before .before .before .before .before .before .before .args in
     let n = l .inv .1 in
     let p = c .before .before .before .before .fold-at in
-    let d = differs (a .field) (a .pw .now) (a .roots .now) (a .oracle) (length (a .values .now)) (a .r) (l .i) (a .coefficients .now) (c .before .final-value .ensures) (p .ensures)
-    (p .kept .1 .1 .1 .1 .1 .1 .1 .0 ∙ n .0) (n .0) (c .before .before .before .before .before .before .wide .ensures) (c .if1 .taken) in
-    first-here (λ i j. differsIn (a .field) (a .coefficients .now) (sampleBy (a .field) (a .pw .now) (a .roots .now) (a .oracle) (length (a .values .now)) (a .r) i j)) (a .finals .now) (l .i) (c .before .before .before .before .before .before .before .before .loop-test .taken) d ∙ n .1
+    let d = sym (tested (fieldOf (a .field)) (a .pw .now) (a .roots .now) (a .oracle) (length (a .values .now)) (a .r) (l .i) (a .coefficients .now) (c .before .final-value .ensures) (p .ensures)
+    (p .kept .1 .1 .1 .1 .1 .1 .1 .0 ∙ n .0) (n .0) (c .before .before .before .before .before .before .wide .ensures)) ∙ ap not (ne-eqb _ _ (c .if1 .taken)) in
+    first-here (λ i j. differsIn (fieldOf (a .field)) (a .coefficients .now) (sampleBy (fieldOf (a .field)) (a .pw .now) (a .roots .now) (a .oracle) (length (a .values .now)) (a .r) i j)) (a .finals .now) (l .i) (c .before .before .before .before .before .before .before .before .loop-test .taken) d ∙ n .1
 
 add-i : tie.Need-add-i Inv-loop μ-loop
 add-i c = omega (arith, c .before .before .before .before .before .before .before .before .loop-test .taken, c .before .before .before .before .before .before .before .before .before .before .before .before .before .before .before .good .1 .1 .1 .1 .1 .1 .0 .0)
@@ -78,15 +81,16 @@ loop-less : tie.Need-loop-less Inv-loop μ-loop
 loop-less c = omega (arith, c .before .before .before .before .before .before .before .before .loop-test .taken)
 
 loop-again : tie.Need-loop-again Inv-loop μ-loop
+unfolding fieldOf primeField
 loop-again c =
     let l = c .before .before .before .before .before .before .before .before .before .loop in
     let a = c .before .before .before .before .before .before .before .before .before .before .before .before .before .before .before .args in
     let n = l .inv .1 in
     let p = c .before .before .before .before .fold-at in
     let h = c .before .before .before .before .before .before .before .before .loop-test .taken in
-    let d = agrees (a .field) (a .pw .now) (a .roots .now) (a .oracle) (length (a .values .now)) (a .r) (l .i) (a .coefficients .now) (c .before .final-value .ensures) (p .ensures)
-    (p .kept .1 .1 .1 .1 .1 .1 .1 .0 ∙ n .0) (n .0) (c .before .before .before .before .before .before .wide .ensures) (c .if1 .left) in
-    (omega (arith, h), (p .kept .1 .1 .1 .1 .1 .1 .1 .0 ∙ n .0, first-later (λ i j. differsIn (a .field) (a .coefficients .now) (sampleBy (a .field) (a .pw .now) (a .roots .now) (a .oracle) (length (a .values .now)) (a .r) i j)) (a .finals .now) (l .i) h d ∙ n .1))
+    let d = sym (tested (fieldOf (a .field)) (a .pw .now) (a .roots .now) (a .oracle) (length (a .values .now)) (a .r) (l .i) (a .coefficients .now) (c .before .final-value .ensures) (p .ensures)
+    (p .kept .1 .1 .1 .1 .1 .1 .1 .0 ∙ n .0) (n .0) (c .before .before .before .before .before .before .wide .ensures)) ∙ ap not (eq-eqb _ _ (c .if1 .left)) in
+    (omega (arith, h), (p .kept .1 .1 .1 .1 .1 .1 .1 .0 ∙ n .0, first-later (λ i j. differsIn (fieldOf (a .field)) (a .coefficients .now) (sampleBy (fieldOf (a .field)) (a .pw .now) (a .roots .now) (a .oracle) (length (a .values .now)) (a .r) i j)) (a .finals .now) (l .i) h d ∙ n .1))
 
 same-length-2 : tie.Need-same-length-2 Inv-loop μ-loop
 same-length-2 c = omega arith
@@ -97,10 +101,10 @@ returns-2 c =
     let l = c .before .loop in
     let a = c .before .before .before .before .before .before .before .args in
     let h : length (a .finals .now) ≤ l .i = omega arith in
-    first-nowhere (λ i j. differsIn (a .field) (a .coefficients .now) (sampleBy (a .field) (a .pw .now) (a .roots .now) (a .oracle) (length (a .values .now)) (a .r) i j)) (a .finals .now) (l .i) h ∙ l .inv .1 .1
+    first-nowhere (λ i j. differsIn (fieldOf (a .field)) (a .coefficients .now) (sampleBy (fieldOf (a .field)) (a .pw .now) (a .roots .now) (a .oracle) (length (a .values .now)) (a .r) i j)) (a .finals .now) (l .i) h ∙ l .inv .1 .1
 
-pub compare-spec : {M : Type 1} → statement M
-compare-spec =
+pub compare-by-roots-spec : {M : Type 1} → statement M
+compare-by-roots-spec =
     tie.close
     (tie.spec
     Inv-loop

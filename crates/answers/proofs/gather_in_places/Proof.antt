@@ -1,12 +1,12 @@
--- `answers::answer_in` meets its contract. Assumes nothing.
+-- `answers::gather_in_places` meets its contract. Assumes nothing.
 use mathlib.Core.Path.{subst, sym}
 use lib.ListN.{length}
 use Rattle.fractions.specs.Values.{Fits}
 use Rattle.rounds.specs.RoundLaws.{Represents}
 use Rattle.answers.proofs.Sizes.{first-k, sizes-for}
 use borrow.Author.Needs.{needs}
-use Rattle.answers.proofs.answer_in.Statement.{statement}
-use Rattle.answers.proofs.answer_in.Tie as tie
+use Rattle.answers.proofs.gather_in_places.Statement.{statement}
+use Rattle.answers.proofs.gather_in_places.Tie as tie
 
 roots-requires : tie.Need-roots-requires
 roots-requires c κs = search needs
@@ -14,14 +14,14 @@ roots-requires c κs = search needs
 array-borrow-prefix-values : tie.Need-array-borrow-prefix-values
 array-borrow-prefix-values c = search needs
 
-slice-aggregate-answer : tie.Need-slice-aggregate-answer
-slice-aggregate-answer c =
+slice-aggregate-gather-samples : tie.Need-slice-aggregate-gather-samples
+slice-aggregate-gather-samples c =
     let s = c .before .before .before .before .before .before .before .before .before .before .before .before .before .before in
     let r = c .before .roots in
     sym (first-k (s .args .k) (r .result) (r .ensures) (s .pre .1 .0 .few))
 
-answer-requires : tie.Need-answer-requires
-answer-requires c κs =
+gather-samples-requires : tie.Need-gather-samples-requires
+gather-samples-requires c κs =
     let s = c .before .before .before .before .before .before .before .before .before .before .before .before .before .before .before .before .before .before .before in
     let a = s .args in
     let r = c .before .before .before .before .before .before .roots in
@@ -49,17 +49,17 @@ returns c =
     let a = s .args in
     let r = c .before .before .before .before .before .before .before .before .before .before .before .before .before .before .before .before .before .before .roots in
     let n = first-k (a .k) (r .result) (r .ensures) (s .pre .1 .0 .few) in
-    let q = c .before .before .before .before .before .before .before .before .before .before .before .answer in
+    let q = c .before .before .before .before .before .before .before .before .before .before .before .gather-samples in
     ((λ ω b f ρ eo er es sv. q .ensures .0 ω b f ρ eo er es (subst (Represents (a .field) ω b f (a .pw .now) (a .table .now) (a .ac .now) (a .vg .now) (a .oracle)) (sym n) sv)), q .ensures .1)
 
-pub answer-in-spec : {M : Type 1} → statement M
-answer-in-spec =
+pub gather-in-places-spec : {M : Type 1} → statement M
+gather-in-places-spec =
     tie.close
     (tie.spec
     roots-requires
     array-borrow-prefix-values
-    slice-aggregate-answer
-    answer-requires
+    slice-aggregate-gather-samples
+    gather-samples-requires
     same-length
     same-length-2
     same-length-3

@@ -1,7 +1,8 @@
--- `rounds::answer_by` meets its contract. Assumes nothing.
+-- `rounds::gather_by_roots` meets its contract. Assumes nothing.
 use mathlib.Core.List.{List}
 use native.Mathlib.Omega.{arith}
 use lib.ListN.{length}
+use Rattle.definition.specs.Field.{fieldOf}
 use Rattle.definition.specs.Polynomial.{Sample, pair}
 use Rattle.samples.specs.Samples.{distinctOrClash}
 use Rattle.samples.specs.SampleLaws.{clash-append}
@@ -9,8 +10,8 @@ use Rattle.samples.specs.Answers.{kept-from, kept-clash, kept-none, room}
 use Rattle.rounds.specs.SamplesIn.{numbered, sampleBy}
 use Rattle.rounds.proofs.Shifts.{room-add}
 use borrow.Author.Needs.{needs}
-use Rattle.rounds.proofs.answer_by.Statement.{statement}
-use Rattle.rounds.proofs.answer_by.Tie as tie
+use Rattle.rounds.proofs.gather_by_roots.Statement.{statement}
+use Rattle.rounds.proofs.gather_by_roots.Tie as tie
 
 put-shifts-requires : tie.Need-put-shifts-requires
 put-shifts-requires c κs =
@@ -37,9 +38,9 @@ returns : tie.Need-returns
 returns c =
     let a = c .before .before .before .before .before .before .before .before .before .before .before .before .before .before .before .before .before .before .before .before .args in
     let p = c .before .before .before .before .before .before .before .before .put-shifts in
-    let shifted : List (Sample _) = numbered (sampleBy (a .field) (a .pw .now) (a .roots .now) (a .oracle) (length (a .values .now)) (a .r)) 0 (a .shifts .now) in
-    let clash = kept-clash (p .last .1 .1 .1 .1 .1 .1 .1 .0) (p .last .1 .1 .1 .1 .1 .1 .1 .1 .0) {o = distinctOrClash (a .field) shifted} (c .enum-told .given .1) (p .ensures .0) in
-    (kept-none _ _ (clash-append (a .field) (pair (a .outs .now) (a .replies .now)) shifted clash), tt)
+    let shifted : List (Sample _) = numbered (sampleBy (fieldOf (a .field)) (a .pw .now) (a .roots .now) (a .oracle) (length (a .values .now)) (a .r)) 0 (a .shifts .now) in
+    let clash = kept-clash (p .last .1 .1 .1 .1 .1 .1 .1 .0) (p .last .1 .1 .1 .1 .1 .1 .1 .1 .0) {o = distinctOrClash (fieldOf (a .field)) shifted} (c .enum-told .given .1) (p .ensures .0) in
+    (kept-none _ _ (clash-append (fieldOf (a .field)) (pair (a .outs .now) (a .replies .now)) shifted clash), tt)
 
 push-all-requires : tie.Need-push-all-requires
 push-all-requires c κs =
@@ -64,15 +65,15 @@ returns-2 : tie.Need-returns-2
 returns-2 c =
     let a = c .before .before .before .before .before .before .before .before .before .before .before .before .before .before .before .before .before .before .before .before .before .before .before .before .before .before .before .before .args in
     let p = c .before .before .before .before .before .before .before .before .before .before .before .before .before .before .before .before .put-shifts in
-    let shifted : List (Sample _) = numbered (sampleBy (a .field) (a .pw .now) (a .roots .now) (a .oracle) (length (a .values .now)) (a .r)) 0 (a .shifts .now) in
+    let shifted : List (Sample _) = numbered (sampleBy (fieldOf (a .field)) (a .pw .now) (a .roots .now) (a .oracle) (length (a .values .now)) (a .r)) 0 (a .shifts .now) in
     let all = c .before .before .before .before .push-all in
     let first = c .before .before .before .before .before .before .before .before .s .given .1 in (
-      all .ensures .0 (a .field) shifted (kept-from (p .last .1 .1 .1 .1 .1 .1 .1 .0) (p .last .1 .1 .1 .1 .1 .1 .1 .1 .0) {o = distinctOrClash (a .field) shifted} first (p .ensures .0)),
+      all .ensures .0 (a .field) shifted (kept-from (p .last .1 .1 .1 .1 .1 .1 .1 .0) (p .last .1 .1 .1 .1 .1 .1 .1 .1 .0) {o = distinctOrClash (fieldOf (a .field)) shifted} first (p .ensures .0)),
       room-add {n = length (a .px .now)} (length (a .shifts .now)) (length (a .outs .now)) (all .result) (room (length (a .px .now)) (length (a .shifts .now)) first (p .ensures .1)) (all .ensures .1),
     )
 
-pub answer-by-spec : {M : Type 1} → statement M
-answer-by-spec =
+pub gather-by-roots-spec : {M : Type 1} → statement M
+gather-by-roots-spec =
     tie.close
     (tie.spec
     put-shifts-requires

@@ -1,11 +1,11 @@
--- `answers::difference` meets its contract. Assumes nothing.
+-- `answers::compare_finals` meets its contract. Assumes nothing.
 use Prim.Native.Nat.{_≤_}
 use native.Mathlib.Omega.{arith}
 use lib.ListN.{length}
 use borrow.Author.Needs.{needs}
 use Rattle.answers.proofs.Sizes.{most-places}
-use Rattle.answers.proofs.difference.Statement.{statement}
-use Rattle.answers.proofs.difference.Tie as tie
+use Rattle.answers.proofs.compare_finals.Statement.{statement}
+use Rattle.answers.proofs.compare_finals.Tie as tie
 
 mul-if1 : tie.Need-mul-if1
 mul-if1 c =
@@ -23,17 +23,17 @@ few-requires-2 c κs = search needs
 few-requires-3 : tie.Need-few-requires-3
 few-requires-3 c κs = search needs
 
-slice-aggregate-difference-in : tie.Need-slice-aggregate-difference-in
-slice-aggregate-difference-in c = search needs
+slice-aggregate-compare-in-places : tie.Need-slice-aggregate-compare-in-places
+slice-aggregate-compare-in-places c = search needs
 
-slice-aggregate-difference-in-2 : tie.Need-slice-aggregate-difference-in-2
-slice-aggregate-difference-in-2 c = search needs
+slice-aggregate-compare-in-places-2 : tie.Need-slice-aggregate-compare-in-places-2
+slice-aggregate-compare-in-places-2 c = search needs
 
-slice-aggregate-difference-in-3 : tie.Need-slice-aggregate-difference-in-3
-slice-aggregate-difference-in-3 c = search needs
+slice-aggregate-compare-in-places-3 : tie.Need-slice-aggregate-compare-in-places-3
+slice-aggregate-compare-in-places-3 c = search needs
 
-difference-in-requires : tie.Need-difference-in-requires
-difference-in-requires c κs =
+compare-in-places-requires : tie.Need-compare-in-places-requires
+compare-in-places-requires c κs =
     let s = c .before .before .before .before .before .before .before .before .before .before .before .before .before in
     let a = s .args in
     let l : length (a .finals .now) ≤ 50 = s .pre .1 .1 .1 in
@@ -51,17 +51,17 @@ many-requires-2 c κs = search needs
 many-requires-3 : tie.Need-many-requires-3
 many-requires-3 c κs = search needs
 
-slice-aggregate-difference-in-4 : tie.Need-slice-aggregate-difference-in-4
-slice-aggregate-difference-in-4 c = search needs
+slice-aggregate-compare-in-places-4 : tie.Need-slice-aggregate-compare-in-places-4
+slice-aggregate-compare-in-places-4 c = search needs
 
-slice-aggregate-difference-in-5 : tie.Need-slice-aggregate-difference-in-5
-slice-aggregate-difference-in-5 c = search needs
+slice-aggregate-compare-in-places-5 : tie.Need-slice-aggregate-compare-in-places-5
+slice-aggregate-compare-in-places-5 c = search needs
 
-slice-aggregate-difference-in-6 : tie.Need-slice-aggregate-difference-in-6
-slice-aggregate-difference-in-6 c = search needs
+slice-aggregate-compare-in-places-6 : tie.Need-slice-aggregate-compare-in-places-6
+slice-aggregate-compare-in-places-6 c = search needs
 
-difference-in-requires-2 : tie.Need-difference-in-requires-2
-difference-in-requires-2 c κs =
+compare-in-places-requires-2 : tie.Need-compare-in-places-requires-2
+compare-in-places-requires-2 c κs =
     let s = c .before .before .before .before .before .before .before .before .before .before .before .before .before in
     let a = s .args in
     let l : length (a .finals .now) ≤ 50 = s .pre .1 .1 .1 in
@@ -70,24 +70,24 @@ difference-in-requires-2 c κs =
 returns-2 : tie.Need-returns-2
 returns-2 c = search needs
 
-pub difference-spec : {M : Type 1} → statement M
-difference-spec =
+pub compare-finals-spec : {M : Type 1} → statement M
+compare-finals-spec =
     tie.close
     (tie.spec
     mul-if1
     few-requires
     few-requires-2
     few-requires-3
-    slice-aggregate-difference-in
-    slice-aggregate-difference-in-2
-    slice-aggregate-difference-in-3
-    difference-in-requires
+    slice-aggregate-compare-in-places
+    slice-aggregate-compare-in-places-2
+    slice-aggregate-compare-in-places-3
+    compare-in-places-requires
     returns
     many-requires
     many-requires-2
     many-requires-3
-    slice-aggregate-difference-in-4
-    slice-aggregate-difference-in-5
-    slice-aggregate-difference-in-6
-    difference-in-requires-2
+    slice-aggregate-compare-in-places-4
+    slice-aggregate-compare-in-places-5
+    slice-aggregate-compare-in-places-6
+    compare-in-places-requires-2
     returns-2)
