@@ -59,17 +59,6 @@ pub fn add_product(field: u32, a: u32, b: u32, c: u32) -> u32
     reduce(field, a as u64 + b as u64 * c as u64)
 }
 
-// The square. The remainder of a product of words that are known to have no top bit takes the compiler fewer steps, and in a power each square waits for the last.
-fn square(field: u32, b: u32) -> u32
-    ensures { λ r. ⌜ r ≡ fieldOf field ._⊗_ b b ⌝ }
-{
-    if b < 2147483648 {
-        let x = (b % 2147483648) as u64;
-        return reduce(field, x * x);
-    }
-    mul(field, b, b)
-}
-
 // A power, and the turns that its loop made.
 pub struct Powered {
     pub value: u32,
@@ -89,7 +78,7 @@ pub fn pow_turns(field: u32, a: u32, e: u32) -> Powered
         if n % 2 == 1 {
             r = mul(field, r, b);
         }
-        b = square(field, b);
+        b = mul(field, b, b);
         n = n / 2;
         turns += 1;
     }

@@ -24,8 +24,8 @@ loop-holds c =
 mul-requires : tie.Need-mul-requires Inv-loop μ-loop
 mul-requires c κs = search needs
 
-square-requires : tie.Need-square-requires Inv-loop μ-loop
-square-requires c κs = search needs
+mul-requires-2 : tie.Need-mul-requires-2 Inv-loop μ-loop
+mul-requires-2 c κs = search needs
 
 add-turns : tie.Need-add-turns Inv-loop μ-loop
 add-turns c =
@@ -43,8 +43,8 @@ loop-again c =
     let F = fieldOf (a .field) in
     let L = laws (a .field) in
     ⊎-elim
-    (λ w. turn-odd F L (l .inv) (w .0 .taken) (w .2 ∙ w .1 .ensures) (c .square .ensures) refl)
-    (λ w. turn-even F L (l .inv) (omega arith) (w .0 .left) (w .1) (c .square .ensures) refl)
+    (λ w. turn-odd F L (l .inv) (w .0 .taken) (w .2 ∙ w .1 .ensures) (c .mul2 .ensures) refl)
+    (λ w. turn-even F L (l .inv) (omega arith) (w .0 .left) (w .1) (c .mul2 .ensures) refl)
     (c .before .if1 .came)
 
 returns : tie.Need-returns Inv-loop μ-loop
@@ -63,7 +63,7 @@ pow-turns-spec =
     μ-loop
     loop-holds
     mul-requires
-    square-requires
+    mul-requires-2
     add-turns
     loop-less
     loop-again
