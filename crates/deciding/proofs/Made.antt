@@ -3,9 +3,10 @@ use Prim.Native.Nat.{ℕ, _+_, _*_, _/_}
 use mathlib.Core.Path.{_≡_, ap, subst}
 use mathlib.Core.List.{List}
 use lib.ListN.{getD, take, drop}
+use Rattle.definition.specs.Field.{Field}
 use Rattle.definition.specs.Polynomial.{Sample}
 use Rattle.definition.specs.Sheet.{Sheet}
-use Rattle.lists.specs.Correcting.{Correcting}
+use Rattle.lists.specs.Correcting.{CorrectingOver}
 use Rattle.fractions.specs.declared.Oracle.{Oracle}
 use Rattle.deciding.specs.declared.State.{State}
 use Rattle.deciding.specs.State.{coefficientsOf, nextCombination, finalsOf, firstOracle, firstState, nextFoldCoin, currentFold, nextFold, nextOracle, nextState, nextOuts, currentRepetitions, nextReplies, nextShifts}
@@ -46,9 +47,9 @@ module _ (h : Sheet) (w : List ℕ) (st : State) where
   pub coin-part : {s : ℕ} → s ≡ h .outCoins → getD w (st .at + st .size / 2 + s + s + 1) 0 ≡ nextFoldCoin h w st
   coin-part es = ap (λ (n : ℕ). getD w (st .at + st .size / 2 + n + n + 1) 0) es
 
-  pub combined-part : {s field n : ℕ} {g : List (Sample ℕ)} {pa pv : List ℕ} → s ≡ h .outCoins →
-      Correcting field g (getD w (st .at + st .size / 2 + s + s) 0) n pa pv → Correcting field g (nextCombination h w st) n pa pv
-  combined-part {s} {field} {n} {g} {pa} {pv} es c = subst (λ (m : ℕ). Correcting field g (getD w (st .at + st .size / 2 + m + m) 0) n pa pv) es c
+  pub combined-part : {s n : ℕ} {F : Field ℕ} {g : List (Sample ℕ)} {pa pv : List ℕ} → s ≡ h .outCoins →
+      CorrectingOver F g (getD w (st .at + st .size / 2 + s + s) 0) n pa pv → CorrectingOver F g (nextCombination h w st) n pa pv
+  combined-part {s} {n} {F} {g} {pa} {pv} es c = subst (λ (m : ℕ). CorrectingOver F g (getD w (st .at + st .size / 2 + m + m) 0) n pa pv) es c
 
   pub outs-part : {s : ℕ} → s ≡ h .outCoins → take s (drop (st .at + st .size / 2) w) ≡ nextOuts h w st
   unfolding nextOuts
