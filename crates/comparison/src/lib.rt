@@ -79,21 +79,20 @@ pub fn first_difference(
     ac: &[u32],
     vg: &[u32],
     oracle: Oracle,
+    k: usize,
     r: u32,
     coefficients: &[u32],
     finals: &[u32],
-    values: &mut [u32],
     tops: &mut [u32],
     bottoms: &mut [u32],
     behind: &mut [u32],
 ) -> Found
     requires { ⌜ (length (now ac) ≡ 66) × ((length (now vg) ≡ 132) × (Clear field (now pw) (length (now table)) (now vg) oracle)) ⌝ }
-    requires { ⌜ Fits (length (now pw)) (length (now table)) oracle (length (now values)) ⌝ }
+    requires { ⌜ Fits (length (now pw)) (length (now table)) oracle (k) ⌝ }
     requires { ⌜ Below (oracle .step) (now finals) ⌝ }
-    requires { ⌜ (length (now finals) * length (now values) ≤ length (now tops)) × ((length (now finals) * length (now values) ≤ length (now bottoms)) × ((length (now finals) * length (now values) ≤ length (now behind)) × (length (now finals) ≤ 4096))) ⌝ }
-    ensures { λ v. ⌜ Compared field (now (pw .entry)) (now (table .entry)) (now (ac .entry)) (now (vg .entry)) oracle (length (now (values .entry))) r (now (coefficients .entry)) (now (finals .entry)) (placeOf v) ⌝ }
+    requires { ⌜ (length (now finals) * k ≤ length (now tops)) × ((length (now finals) * k ≤ length (now bottoms)) × ((length (now finals) * k ≤ length (now behind)) × (length (now finals) ≤ 4096))) ⌝ }
+    ensures { λ v. ⌜ Compared field (now (pw .entry)) (now (table .entry)) (now (ac .entry)) (now (vg .entry)) oracle k r (now (coefficients .entry)) (now (finals .entry)) (placeOf v) ⌝ }
 {
-    let k = values.len();
     root_values::prepare(
         field,
         pw,
@@ -107,5 +106,15 @@ pub fn first_difference(
         bottoms,
         behind,
     );
-    compare_by_roots(field, pw, tops, oracle, r, coefficients, finals, values)
+    let mut values = fractions::roots();
+    compare_by_roots(
+        field,
+        pw,
+        tops,
+        oracle,
+        r,
+        coefficients,
+        finals,
+        &mut values[..k],
+    )
 }

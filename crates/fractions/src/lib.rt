@@ -21,7 +21,7 @@ pub struct Oracle {
 }
 
 // Places for the values at the roots of a shift point, at most 16.
-fn roots() -> [u32; 16]
+pub fn roots() -> [u32; 16]
     ensures { λ r. ⌜ length r ≡ 16 ⌝ }
 {
     [0u32; 16]

@@ -3,16 +3,17 @@ use Prim.Native.Nat.{ℕ, _+_, _/_}
 use mathlib.Core.Path.{_≡_, subst}
 use mathlib.Core.List.{List}
 use lib.ListN.{getD, take, drop}
+use Rattle.definition.specs.Field.{Field}
 use Rattle.definition.specs.Polynomial.{Sample}
 use Rattle.definition.specs.Sheet.{Sheet}
-use Rattle.lists.specs.Correcting.{Correcting}
+use Rattle.lists.specs.Correcting.{CorrectingOver}
 use Rattle.level_words.specs.declared.State.{State}
 use Rattle.level_words.specs.State.{coefficientsOf, nextCombination, finalsOf, currentFold, nextOuts, currentRepetitions, nextReplies}
 
 module _ (h : Sheet) (w : List ℕ) (st : State) where
-  pub combined-part : {s field n : ℕ} {g : List (Sample ℕ)} {pa pv : List ℕ} → s ≡ h .outCoins →
-      Correcting field g (getD w (st .at + st .size / 2 + s + s) 0) n pa pv → Correcting field g (nextCombination h w st) n pa pv
-  combined-part {s} {field} {n} {g} {pa} {pv} es c = subst (λ (m : ℕ). Correcting field g (getD w (st .at + st .size / 2 + m + m) 0) n pa pv) es c
+  pub combined-part : {s n : ℕ} {F : Field ℕ} {g : List (Sample ℕ)} {pa pv : List ℕ} → s ≡ h .outCoins →
+      CorrectingOver F g (getD w (st .at + st .size / 2 + s + s) 0) n pa pv → CorrectingOver F g (nextCombination h w st) n pa pv
+  combined-part {s} {n} {F} {g} {pa} {pv} es c = subst (λ (m : ℕ). CorrectingOver F g (getD w (st .at + st .size / 2 + m + m) 0) n pa pv) es c
 
   pub outs-part : {s : ℕ} → s ≡ h .outCoins → take s (drop (st .at + st .size / 2) w) ≡ nextOuts h w st
   unfolding nextOuts

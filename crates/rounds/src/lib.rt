@@ -1,7 +1,7 @@
 // The samples of a round: at the out coins and at the shift points, gathered without repeats.
 //
-// The caller lends the words: pw, the table of the powers of ω; the table sent; ac and vg, the coefficients by which it is corrected; `values`, k words of scratch
-// for a fold; and places for the values at the roots of all coins.
+// The caller lends the words: pw, the table of the powers of ω; the table sent; ac and vg, the coefficients by which it is corrected; and places for the values at
+// the roots of all coins. `values` are k words of scratch for a fold.
 use fractions::Oracle;
 use samples::Gathered;
 ghost use mathlib.Core.Path.{_≡_};
@@ -139,7 +139,8 @@ fn gather_by_roots(
     samples::push_all(outs, replies, px, py, k)
 }
 
-// G of a round in the last places of px and py: the out coins with their replies, then the shift points with the folds there.
+// G of a round in the last places of px and py: the out coins with their replies, then the shift points with the folds there. The caller lends places for the
+// fractions.
 pub fn gather_samples(
     field: u32,
     pw: &[u32],
@@ -147,11 +148,11 @@ pub fn gather_samples(
     ac: &[u32],
     vg: &[u32],
     oracle: Oracle,
+    k: usize,
     r: u32,
     shifts: &[u32],
     outs: &[u32],
     replies: &[u32],
-    values: &mut [u32],
     tops: &mut [u32],
     bottoms: &mut [u32],
     behind: &mut [u32],
@@ -159,14 +160,13 @@ pub fn gather_samples(
     py: &mut [u32],
 ) -> Gathered
     requires { ⌜ (length (now ac) ≡ 66) × ((length (now vg) ≡ 132) × (Clear field (now pw) (length (now table)) (now vg) oracle)) ⌝ }
-    requires { ⌜ Fits (length (now pw)) (length (now table)) oracle (length (now values)) ⌝ }
+    requires { ⌜ Fits (length (now pw)) (length (now table)) oracle (k) ⌝ }
     requires { ⌜ Below (oracle .step) (now shifts) ⌝ }
     requires { ⌜ (length (now py) ≡ length (now px)) × ((length (now replies) ≡ length (now outs)) × (length (now outs) + length (now shifts) ≤ length (now px))) ⌝ }
-    requires { ⌜ (length (now shifts) * length (now values) ≤ length (now tops)) × ((length (now shifts) * length (now values) ≤ length (now bottoms)) × ((length (now shifts) * length (now values) ≤ length (now behind)) × (length (now shifts) ≤ 4096))) ⌝ }
-    ensures { λ v. ⌜ Answered field (now (pw .entry)) (now (table .entry)) (now (ac .entry)) (now (vg .entry)) oracle (length (now (values .entry))) r (now (shifts .entry)) (now (outs .entry)) (now (replies .entry)) (kept v (now (px .exit)) (now (py .exit))) ⌝ }
+    requires { ⌜ (length (now shifts) * k ≤ length (now tops)) × ((length (now shifts) * k ≤ length (now bottoms)) × ((length (now shifts) * k ≤ length (now behind)) × (length (now shifts) ≤ 4096))) ⌝ }
+    ensures { λ v. ⌜ Answered field (now (pw .entry)) (now (table .entry)) (now (ac .entry)) (now (vg .entry)) oracle k r (now (shifts .entry)) (now (outs .entry)) (now (replies .entry)) (kept v (now (px .exit)) (now (py .exit))) ⌝ }
     ensures { λ v. ⌜ Room (length (now (px .entry))) (length (now (outs .entry)) + length (now (shifts .entry))) v ⌝ }
 {
-    let k = values.len();
     root_values::prepare(
         field,
         pw,
@@ -180,6 +180,7 @@ pub fn gather_samples(
         bottoms,
         behind,
     );
+    let mut values = fractions::roots();
     gather_by_roots(
         field,
         pw,
@@ -189,7 +190,7 @@ pub fn gather_samples(
         shifts,
         outs,
         replies,
-        values,
+        &mut values[..k],
         px,
         py,
     )

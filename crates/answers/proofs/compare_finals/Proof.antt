@@ -23,17 +23,17 @@ few-requires-2 c κs = search needs
 few-requires-3 : tie.Need-few-requires-3
 few-requires-3 c κs = search needs
 
-slice-aggregate-compare-in-places : tie.Need-slice-aggregate-compare-in-places
-slice-aggregate-compare-in-places c = search needs
+slice-aggregate-first-difference : tie.Need-slice-aggregate-first-difference
+slice-aggregate-first-difference c = search needs
 
-slice-aggregate-compare-in-places-2 : tie.Need-slice-aggregate-compare-in-places-2
-slice-aggregate-compare-in-places-2 c = search needs
+slice-aggregate-first-difference-2 : tie.Need-slice-aggregate-first-difference-2
+slice-aggregate-first-difference-2 c = search needs
 
-slice-aggregate-compare-in-places-3 : tie.Need-slice-aggregate-compare-in-places-3
-slice-aggregate-compare-in-places-3 c = search needs
+slice-aggregate-first-difference-3 : tie.Need-slice-aggregate-first-difference-3
+slice-aggregate-first-difference-3 c = search needs
 
-compare-in-places-requires : tie.Need-compare-in-places-requires
-compare-in-places-requires c κs =
+first-difference-requires : tie.Need-first-difference-requires
+first-difference-requires c κs =
     let s = c .before .before .before .before .before .before .before .before .before .before .before .before .before in
     let a = s .args in
     let l : length (a .finals .now) ≤ 50 = s .pre .1 .1 .1 in
@@ -51,17 +51,17 @@ many-requires-2 c κs = search needs
 many-requires-3 : tie.Need-many-requires-3
 many-requires-3 c κs = search needs
 
-slice-aggregate-compare-in-places-4 : tie.Need-slice-aggregate-compare-in-places-4
-slice-aggregate-compare-in-places-4 c = search needs
+slice-aggregate-first-difference-4 : tie.Need-slice-aggregate-first-difference-4
+slice-aggregate-first-difference-4 c = search needs
 
-slice-aggregate-compare-in-places-5 : tie.Need-slice-aggregate-compare-in-places-5
-slice-aggregate-compare-in-places-5 c = search needs
+slice-aggregate-first-difference-5 : tie.Need-slice-aggregate-first-difference-5
+slice-aggregate-first-difference-5 c = search needs
 
-slice-aggregate-compare-in-places-6 : tie.Need-slice-aggregate-compare-in-places-6
-slice-aggregate-compare-in-places-6 c = search needs
+slice-aggregate-first-difference-6 : tie.Need-slice-aggregate-first-difference-6
+slice-aggregate-first-difference-6 c = search needs
 
-compare-in-places-requires-2 : tie.Need-compare-in-places-requires-2
-compare-in-places-requires-2 c κs =
+first-difference-requires-2 : tie.Need-first-difference-requires-2
+first-difference-requires-2 c κs =
     let s = c .before .before .before .before .before .before .before .before .before .before .before .before .before in
     let a = s .args in
     let l : length (a .finals .now) ≤ 50 = s .pre .1 .1 .1 in
@@ -78,16 +78,16 @@ compare-finals-spec =
     few-requires
     few-requires-2
     few-requires-3
-    slice-aggregate-compare-in-places
-    slice-aggregate-compare-in-places-2
-    slice-aggregate-compare-in-places-3
-    compare-in-places-requires
+    slice-aggregate-first-difference
+    slice-aggregate-first-difference-2
+    slice-aggregate-first-difference-3
+    first-difference-requires
     returns
     many-requires
     many-requires-2
     many-requires-3
-    slice-aggregate-compare-in-places-4
-    slice-aggregate-compare-in-places-5
-    slice-aggregate-compare-in-places-6
-    compare-in-places-requires-2
+    slice-aggregate-first-difference-4
+    slice-aggregate-first-difference-5
+    slice-aggregate-first-difference-6
+    first-difference-requires-2
     returns-2)

@@ -23,17 +23,17 @@ few-requires-2 c κs = search needs
 few-requires-3 : tie.Need-few-requires-3
 few-requires-3 c κs = search needs
 
-slice-aggregate-gather-in-places : tie.Need-slice-aggregate-gather-in-places
-slice-aggregate-gather-in-places c = search needs
+slice-aggregate-gather-samples : tie.Need-slice-aggregate-gather-samples
+slice-aggregate-gather-samples c = search needs
 
-slice-aggregate-gather-in-places-2 : tie.Need-slice-aggregate-gather-in-places-2
-slice-aggregate-gather-in-places-2 c = search needs
+slice-aggregate-gather-samples-2 : tie.Need-slice-aggregate-gather-samples-2
+slice-aggregate-gather-samples-2 c = search needs
 
-slice-aggregate-gather-in-places-3 : tie.Need-slice-aggregate-gather-in-places-3
-slice-aggregate-gather-in-places-3 c = search needs
+slice-aggregate-gather-samples-3 : tie.Need-slice-aggregate-gather-samples-3
+slice-aggregate-gather-samples-3 c = search needs
 
-gather-in-places-requires : tie.Need-gather-in-places-requires
-gather-in-places-requires c κs =
+gather-samples-requires : tie.Need-gather-samples-requires
+gather-samples-requires c κs =
     let s = c .before .before .before .before .before .before .before .before .before .before .before .before .before .before .before .before .before .before in
     let a = s .args in
     let l : length (a .shifts .now) ≤ 50 = omega (arith, s .pre .1 .1 .1 .0 .1 .1, s .pre .1 .1 .1 .1) in
@@ -57,17 +57,17 @@ many-requires-2 c κs = search needs
 many-requires-3 : tie.Need-many-requires-3
 many-requires-3 c κs = search needs
 
-slice-aggregate-gather-in-places-4 : tie.Need-slice-aggregate-gather-in-places-4
-slice-aggregate-gather-in-places-4 c = search needs
+slice-aggregate-gather-samples-4 : tie.Need-slice-aggregate-gather-samples-4
+slice-aggregate-gather-samples-4 c = search needs
 
-slice-aggregate-gather-in-places-5 : tie.Need-slice-aggregate-gather-in-places-5
-slice-aggregate-gather-in-places-5 c = search needs
+slice-aggregate-gather-samples-5 : tie.Need-slice-aggregate-gather-samples-5
+slice-aggregate-gather-samples-5 c = search needs
 
-slice-aggregate-gather-in-places-6 : tie.Need-slice-aggregate-gather-in-places-6
-slice-aggregate-gather-in-places-6 c = search needs
+slice-aggregate-gather-samples-6 : tie.Need-slice-aggregate-gather-samples-6
+slice-aggregate-gather-samples-6 c = search needs
 
-gather-in-places-requires-2 : tie.Need-gather-in-places-requires-2
-gather-in-places-requires-2 c κs =
+gather-samples-requires-2 : tie.Need-gather-samples-requires-2
+gather-samples-requires-2 c κs =
     let s = c .before .before .before .before .before .before .before .before .before .before .before .before .before .before .before .before .before .before in
     let a = s .args in
     let l : length (a .shifts .now) ≤ 50 = omega (arith, s .pre .1 .1 .1 .0 .1 .1, s .pre .1 .1 .1 .1) in
@@ -90,20 +90,20 @@ gather-round-spec =
     few-requires
     few-requires-2
     few-requires-3
-    slice-aggregate-gather-in-places
-    slice-aggregate-gather-in-places-2
-    slice-aggregate-gather-in-places-3
-    gather-in-places-requires
+    slice-aggregate-gather-samples
+    slice-aggregate-gather-samples-2
+    slice-aggregate-gather-samples-3
+    gather-samples-requires
     same-length
     same-length-2
     returns
     many-requires
     many-requires-2
     many-requires-3
-    slice-aggregate-gather-in-places-4
-    slice-aggregate-gather-in-places-5
-    slice-aggregate-gather-in-places-6
-    gather-in-places-requires-2
+    slice-aggregate-gather-samples-4
+    slice-aggregate-gather-samples-5
+    slice-aggregate-gather-samples-6
+    gather-samples-requires-2
     same-length-3
     same-length-4
     returns-2)
