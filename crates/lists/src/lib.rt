@@ -181,7 +181,7 @@ fn steps(
 }
 
 // A and V of the samples with points xs, which differ, and values ys: by one inversion.
-pub fn interpolated(field: u32, xs: &[u32], ys: &[u32], q: &mut [u32], v: &mut [u32])
+fn interpolated(field: u32, xs: &[u32], ys: &[u32], q: &mut [u32], v: &mut [u32])
     requires { ⌜ (length (now ys) ≡ length (now xs)) × ((length (now xs) < length (now q)) × ((length (now q) ≡ 66) × (length (now v) ≡ 66))) ⌝ }
     requires { ⌜ Apart (fieldOf field) (now xs) ⌝ }
     ensures { λ _. ⌜ Through (fieldOf field) (now (xs .entry)) (now (ys .entry)) (now (q .exit)) (now (v .exit)) ⌝ }
