@@ -3,7 +3,7 @@ use native.Mathlib.Omega.{arith}
 use mathlib.Core.Path.{refl, sym}
 use lib.ListN.{length, take, drop}
 use Rattle.honest_words.specs.Sizes.{fewer-points, numbers, sizes}
-use Rattle.honest_words.proofs.Words.{outs-long}
+use Rattle.honest_words.proofs.Words.{coined, outs-long}
 use Rattle.honest_round.proofs.Rounds.{corrected-is, shifts-in, shifts-long}
 use borrow.Author.Needs.{needs}
 use Rattle.honest_round.proofs.correct.Statement.{statement}
@@ -12,38 +12,32 @@ use Rattle.honest_round.proofs.correct.Tie as tie
 shared-slice-read-s : tie.Need-shared-slice-read-s
 shared-slice-read-s c =
     let s = c .before .before .before .before .before .before in
-    let v = numbers (s .pre .0 .0 .place) in
-    omega (arith, v .twelve, v .outs, v .most-outs, v .repetitions, v .most-repetitions, s .pre .1 .1 .0 .there)
+    omega (arith, coined (s .pre .0) (s .pre .1 .1 .0))
 
 cast-s : tie.Need-cast-s
 cast-s c =
     let s = c .before .before .before .before .before .before in
-    let v = numbers (s .pre .0 .0 .place) in
-    omega (arith, v .twelve, v .outs, v .most-outs, v .repetitions, v .most-repetitions, s .pre .1 .1 .0 .there)
+    omega (arith, coined (s .pre .0) (s .pre .1 .1 .0))
 
 add-t : tie.Need-add-t
 add-t c =
     let s = c .before .before .before .before .before .before in
-    let v = numbers (s .pre .0 .0 .place) in
-    omega (arith, v .most-rounds, s .pre .0 .1)
+    omega (arith, coined (s .pre .0) (s .pre .1 .1 .0))
 
 mul-t : tie.Need-mul-t
 mul-t c =
     let s = c .before .before .before .before .before .before in
-    let v = numbers (s .pre .0 .0 .place) in
-    omega (arith, v .most-rounds, s .pre .0 .1)
+    omega (arith, coined (s .pre .0) (s .pre .1 .1 .0))
 
 shared-slice-read-t : tie.Need-shared-slice-read-t
 shared-slice-read-t c =
     let s = c .before .before .before .before .before .before .before in
-    let v = numbers (s .pre .0 .0 .place) in
-    omega (arith, v .most-rounds, s .pre .0 .1, v .twelve)
+    omega (arith, coined (s .pre .0) (s .pre .1 .1 .0))
 
 cast-t : tie.Need-cast-t
 cast-t c =
     let s = c .before .before .before .before .before .before .before in
-    let v = numbers (s .pre .0 .0 .place) in
-    omega (arith, v .twelve, v .outs, v .most-outs, v .repetitions, v .most-repetitions, s .pre .1 .1 .0 .there)
+    omega (arith, coined (s .pre .0) (s .pre .1 .1 .0))
 
 folding-number-requires : tie.Need-folding-number-requires
 folding-number-requires c κs = c .before .before .before .before .before .before .before .pre .0 .0 .place
@@ -60,44 +54,37 @@ slice-aggregate-points c =
 add-points : tie.Need-add-points
 add-points c =
     let s = c .before .before .before .before .before .before .before .before .before .before in
-    let v = numbers (s .pre .0 .0 .place) in
-    omega (arith, v .twelve, v .outs, v .most-outs, v .repetitions, v .most-repetitions, s .pre .1 .1 .0 .there)
+    omega (arith, coined (s .pre .0) (s .pre .1 .1 .0))
 
 add-points-2 : tie.Need-add-points-2
 add-points-2 c =
     let s = c .before .before .before .before .before .before .before .before .before .before in
-    let v = numbers (s .pre .0 .0 .place) in
-    omega (arith, v .twelve, v .outs, v .most-outs, v .repetitions, v .most-repetitions, s .pre .1 .1 .0 .there)
+    omega (arith, coined (s .pre .0) (s .pre .1 .1 .0))
 
 add-points-3 : tie.Need-add-points-3
 add-points-3 c =
     let s = c .before .before .before .before .before .before .before .before .before .before in
-    let v = numbers (s .pre .0 .0 .place) in
-    omega (arith, v .twelve, v .outs, v .most-outs, v .repetitions, v .most-repetitions, s .pre .1 .1 .0 .there)
+    omega (arith, coined (s .pre .0) (s .pre .1 .1 .0))
 
 mul-points : tie.Need-mul-points
 mul-points c =
     let s = c .before .before .before .before .before .before .before .before .before .before in
-    let v = numbers (s .pre .0 .0 .place) in
-    omega (arith, v .twelve, v .outs, v .most-outs, v .repetitions, v .most-repetitions, s .pre .1 .1 .0 .there)
+    omega (arith, coined (s .pre .0) (s .pre .1 .1 .0))
 
 sub-points : tie.Need-sub-points
 sub-points c =
     let s = c .before .before .before .before .before .before .before .before .before .before in
-    let v = numbers (s .pre .0 .0 .place) in
-    omega (arith, v .twelve, v .outs, v .most-outs, v .repetitions, v .most-repetitions, s .pre .1 .1 .0 .there)
+    omega (arith, coined (s .pre .0) (s .pre .1 .1 .0))
 
 part-points-start : tie.Need-part-points-start
 part-points-start c =
     let s = c .before .before .before .before .before .before .before .before .before .before in
-    let v = numbers (s .pre .0 .0 .place) in
-    omega (arith, v .twelve, v .outs, v .most-outs, v .repetitions, v .most-repetitions, s .pre .1 .1 .0 .there)
+    omega (arith, coined (s .pre .0) (s .pre .1 .1 .0))
 
 part-points-end : tie.Need-part-points-end
 part-points-end c =
     let s = c .before .before .before .before .before .before .before .before .before .before in
-    let v = numbers (s .pre .0 .0 .place) in
-    omega (arith, v .twelve, v .outs, v .most-outs, v .repetitions, v .most-repetitions, s .pre .1 .1 .0 .there)
+    omega (arith, coined (s .pre .0) (s .pre .1 .1 .0))
 
 slice-aggregate-points-2 : tie.Need-slice-aggregate-points-2
 slice-aggregate-points-2 c = search needs
@@ -116,8 +103,7 @@ points-requires c κs =
 shared-slice-read-corrected : tie.Need-shared-slice-read-corrected
 shared-slice-read-corrected c =
     let s = c .before .before .before .before .before .before .before .before .before .before .before .before .before .before .before in
-    let v = numbers (s .pre .0 .0 .place) in
-    omega (arith, v .twelve, v .outs, v .most-outs, v .repetitions, v .most-repetitions, s .pre .1 .1 .0 .there)
+    omega (arith, coined (s .pre .0) (s .pre .1 .1 .0))
 
 slice-aggregate-corrected : tie.Need-slice-aggregate-corrected
 slice-aggregate-corrected c = search needs
@@ -125,14 +111,12 @@ slice-aggregate-corrected c = search needs
 mul-corrected : tie.Need-mul-corrected
 mul-corrected c =
     let s = c .before .before .before .before .before .before .before .before .before .before .before .before .before .before .before .before in
-    let v = numbers (s .pre .0 .0 .place) in
-    omega (arith, v .twelve, v .outs, v .most-outs, v .repetitions, v .most-repetitions, s .pre .1 .1 .0 .there)
+    omega (arith, coined (s .pre .0) (s .pre .1 .1 .0))
 
 shared-slice-read-corrected-2 : tie.Need-shared-slice-read-corrected-2
 shared-slice-read-corrected-2 c =
     let s = c .before .before .before .before .before .before .before .before .before .before .before .before .before .before .before .before .before in
-    let v = numbers (s .pre .0 .0 .place) in
-    omega (arith, v .twelve, v .outs, v .most-outs, v .repetitions, v .most-repetitions, s .pre .1 .1 .0 .there)
+    omega (arith, coined (s .pre .0) (s .pre .1 .1 .0))
 
 corrected-requires : tie.Need-corrected-requires
 corrected-requires c κs =
