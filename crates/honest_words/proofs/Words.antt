@@ -24,15 +24,16 @@ pub record Coined (w : List ℕ) (i : ℕ) (coins : List ℕ) : Type 0 where
   pub shifts : getD w (6 + i) 0 ≤ 48
   pub there : getD w 5 0 + 2 + getD w (6 + i) 0 ≤ length coins
 
-pub coined : {ed : Edition} {w pw : List ℕ} {i scale : ℕ} {coins : List ℕ} → Invariant ed w pw i scale × (i < roundsOf (sheetOf ed w)) → RoundCoinsFit (sheetOf ed w) i coins → Coined w i coins
-coined st runs =
-    let v = numbers (st .0 .place) in
+pub coined : {ed : Edition} {w pw : List ℕ} {i scale : ℕ} {coins : List ℕ} {P Q : Type 0} →
+    (Invariant ed w pw i scale × (i < roundsOf (sheetOf ed w))) × (P × (RoundCoinsFit (sheetOf ed w) i coins × Q)) → Coined w i coins
+coined pre =
+    let v = numbers (pre .0 .0 .place) in
     record {
       words = v .twelve;
-      level = omega (arith, v .most-rounds, st .1);
+      level = omega (arith, v .most-rounds, pre .0 .1);
       outs = omega (arith, v .outs, v .most-outs);
       shifts = omega (arith, v .repetitions, v .most-repetitions);
-      there = omega (arith, v .outs, v .repetitions, runs .there);
+      there = omega (arith, v .outs, v .repetitions, pre .1 .1 .0 .there);
     }
 
 -- the coins after the replies are a combination coin, a fold coin and indices

@@ -10,34 +10,22 @@ use Rattle.honest_round.proofs.correct.Statement.{statement}
 use Rattle.honest_round.proofs.correct.Tie as tie
 
 shared-slice-read-s : tie.Need-shared-slice-read-s
-shared-slice-read-s c =
-    let s = c .before .before .before .before .before .before in
-    omega (arith, coined (s .pre .0) (s .pre .1 .1 .0))
+shared-slice-read-s c = omega (arith, coined (c .before .before .before .before .before .before .pre))
 
 cast-s : tie.Need-cast-s
-cast-s c =
-    let s = c .before .before .before .before .before .before in
-    omega (arith, coined (s .pre .0) (s .pre .1 .1 .0))
+cast-s c = omega (arith, coined (c .before .before .before .before .before .before .pre))
 
 add-t : tie.Need-add-t
-add-t c =
-    let s = c .before .before .before .before .before .before in
-    omega (arith, coined (s .pre .0) (s .pre .1 .1 .0))
+add-t c = omega (arith, coined (c .before .before .before .before .before .before .pre))
 
 mul-t : tie.Need-mul-t
-mul-t c =
-    let s = c .before .before .before .before .before .before in
-    omega (arith, coined (s .pre .0) (s .pre .1 .1 .0))
+mul-t c = omega (arith, coined (c .before .before .before .before .before .before .pre))
 
 shared-slice-read-t : tie.Need-shared-slice-read-t
-shared-slice-read-t c =
-    let s = c .before .before .before .before .before .before .before in
-    omega (arith, coined (s .pre .0) (s .pre .1 .1 .0))
+shared-slice-read-t c = omega (arith, coined (c .before .before .before .before .before .before .before .pre))
 
 cast-t : tie.Need-cast-t
-cast-t c =
-    let s = c .before .before .before .before .before .before .before in
-    omega (arith, coined (s .pre .0) (s .pre .1 .1 .0))
+cast-t c = omega (arith, coined (c .before .before .before .before .before .before .before .pre))
 
 folding-number-requires : tie.Need-folding-number-requires
 folding-number-requires c κs = c .before .before .before .before .before .before .before .pre .0 .0 .place
@@ -52,39 +40,25 @@ slice-aggregate-points c =
     sym (outs-long (s .pre .1 .1 .0) (v .outs) (v .repetitions))
 
 add-points : tie.Need-add-points
-add-points c =
-    let s = c .before .before .before .before .before .before .before .before .before .before in
-    omega (arith, coined (s .pre .0) (s .pre .1 .1 .0))
+add-points c = omega (arith, coined (c .before .before .before .before .before .before .before .before .before .before .pre))
 
 add-points-2 : tie.Need-add-points-2
-add-points-2 c =
-    let s = c .before .before .before .before .before .before .before .before .before .before in
-    omega (arith, coined (s .pre .0) (s .pre .1 .1 .0))
+add-points-2 c = omega (arith, coined (c .before .before .before .before .before .before .before .before .before .before .pre))
 
 add-points-3 : tie.Need-add-points-3
-add-points-3 c =
-    let s = c .before .before .before .before .before .before .before .before .before .before in
-    omega (arith, coined (s .pre .0) (s .pre .1 .1 .0))
+add-points-3 c = omega (arith, coined (c .before .before .before .before .before .before .before .before .before .before .pre))
 
 mul-points : tie.Need-mul-points
-mul-points c =
-    let s = c .before .before .before .before .before .before .before .before .before .before in
-    omega (arith, coined (s .pre .0) (s .pre .1 .1 .0))
+mul-points c = omega (arith, coined (c .before .before .before .before .before .before .before .before .before .before .pre))
 
 sub-points : tie.Need-sub-points
-sub-points c =
-    let s = c .before .before .before .before .before .before .before .before .before .before in
-    omega (arith, coined (s .pre .0) (s .pre .1 .1 .0))
+sub-points c = omega (arith, coined (c .before .before .before .before .before .before .before .before .before .before .pre))
 
 part-points-start : tie.Need-part-points-start
-part-points-start c =
-    let s = c .before .before .before .before .before .before .before .before .before .before in
-    omega (arith, coined (s .pre .0) (s .pre .1 .1 .0))
+part-points-start c = omega (arith, coined (c .before .before .before .before .before .before .before .before .before .before .pre))
 
 part-points-end : tie.Need-part-points-end
-part-points-end c =
-    let s = c .before .before .before .before .before .before .before .before .before .before in
-    omega (arith, coined (s .pre .0) (s .pre .1 .1 .0))
+part-points-end c = omega (arith, coined (c .before .before .before .before .before .before .before .before .before .before .pre))
 
 slice-aggregate-points-2 : tie.Need-slice-aggregate-points-2
 slice-aggregate-points-2 c = search needs
@@ -101,22 +75,16 @@ points-requires c κs =
     ((omega (arith, k .ensures, v .least-fold), (omega (arith, k .ensures, v .most-fold), z .points-most)), (in-table, omega (arith, lo, lt, v .outs, v .repetitions, v .most-outs, v .most-repetitions, c .before .before .before .points-room .ensures)))
 
 shared-slice-read-corrected : tie.Need-shared-slice-read-corrected
-shared-slice-read-corrected c =
-    let s = c .before .before .before .before .before .before .before .before .before .before .before .before .before .before .before in
-    omega (arith, coined (s .pre .0) (s .pre .1 .1 .0))
+shared-slice-read-corrected c = omega (arith, coined (c .before .before .before .before .before .before .before .before .before .before .before .before .before .before .before .pre))
 
 slice-aggregate-corrected : tie.Need-slice-aggregate-corrected
 slice-aggregate-corrected c = search needs
 
 mul-corrected : tie.Need-mul-corrected
-mul-corrected c =
-    let s = c .before .before .before .before .before .before .before .before .before .before .before .before .before .before .before .before in
-    omega (arith, coined (s .pre .0) (s .pre .1 .1 .0))
+mul-corrected c = omega (arith, coined (c .before .before .before .before .before .before .before .before .before .before .before .before .before .before .before .before .pre))
 
 shared-slice-read-corrected-2 : tie.Need-shared-slice-read-corrected-2
-shared-slice-read-corrected-2 c =
-    let s = c .before .before .before .before .before .before .before .before .before .before .before .before .before .before .before .before .before in
-    omega (arith, coined (s .pre .0) (s .pre .1 .1 .0))
+shared-slice-read-corrected-2 c = omega (arith, coined (c .before .before .before .before .before .before .before .before .before .before .before .before .before .before .before .before .before .pre))
 
 corrected-requires : tie.Need-corrected-requires
 corrected-requires c κs =
