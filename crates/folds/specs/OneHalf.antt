@@ -19,7 +19,7 @@ two-nonzero field z = let e : _≡_ {A = ℕ} 2 0 = sym (mod-eq-of-lt (suited fi
 
 pub half-is : (field : ℕ) {u : ℕ} → some u ≡ fieldOf field .inverse 2 → u ≡ halfOf field
 unfolding halfOf
-half-is field e = found-is field 2 (two-nonzero field) e
+half-is field e = found-is (fieldOf field) (laws field) 2 (two-nonzero field) e
 
 pub two-halves : (field : ℕ) → fieldOf field ._⊗_ (fieldOf field ._⊕_ (fieldOf field .𝟙) (fieldOf field .𝟙)) (halfOf field) ≡ fieldOf field .𝟙
 unfolding fieldOf primeField halfOf

@@ -10,7 +10,8 @@ use Rattle.definition.specs.Field.{fieldOf}
 use Rattle.folds.specs.Halving.{halving, exponentOf}
 use Rattle.folds.specs.PointsIn.{inversePowerIn}
 use Rattle.field.specs.Answer.{inversionOf}
-use Rattle.polynomial.specs.Inverses.{never-none}
+use Rattle.algebra.specs.Divisors.{never-none}
+use Rattle.algebra.specs.PrimeField.{laws}
 use Rattle.folds.specs.OneHalf.{halfOf, half-is, two-nonzero}
 use Rattle.folds.proofs.Turns.{Left, left-next, left-last}
 use Rattle.folds.proofs.fold_values.Statement.{statement}
@@ -40,7 +41,7 @@ enum-told c = search needs
 returns : tie.Need-returns Inv-loop μ-loop
 returns c =
     let field = c .before .before .before .before .before .args .field in
-    absurd (never-none field 2 (two-nonzero field) (ap inversionOf (sym (c .enum-told .given .1)) ∙ c .before .before .invert-two .ensures))
+    absurd (never-none (fieldOf field) (laws field) 2 (two-nonzero field) (sym (ap inversionOf (sym (c .enum-told .given .1)) ∙ c .before .before .invert-two .ensures)))
 
 loop-holds : tie.Need-loop-holds Inv-loop μ-loop
 loop-holds c =
