@@ -1,26 +1,21 @@
--- Interpolation by coefficient lists: the differences of the points, and one Newton step after the other. Assumes nothing.
-use Prim.Native.Nat.{ℕ, zero, suc, _+_, _-_, _*_, _/_, _%_, _≤_, _<_}
+-- Interpolation by coefficient lists, one Newton step after the other. Assumes nothing.
+use Prim.Native.Nat.{ℕ, zero, suc, _+_, _-_, _*_, _/_, _≤_, _<_}
 use native.Mathlib.Decide.{decLt}
-use native.Mathlib.Nat.{div-add-mod', le-refl, mod-lt, mul-le-mul}
+use native.Mathlib.Nat.{div-add-mod', le-refl, mod-lt}
 use native.Mathlib.Numerals.{add-one}
 use native.Mathlib.Omega.{arith}
 use mathlib.Core.Path.{_≡_, refl, sym, ap, ap₂, _∙_, subst}
 use mathlib.Core.List.{List, [], _∷_, _++_, zipWith}
-use mathlib.Core.Option.{some}
-use lib.ListN.{length, take, drop, getD, set, length-set, length-drop, List·getD-eq-default}
-use lib.Seq.{drop-at, drop-cons, drop-length, getD-append-add, getD-drop, getD-set-other, length-take-le, take-all, take-append-le}
-use Rattle.definition.specs.Field.{Field, primeField, primeOf, fieldOf, foundOr, reciprocal}
+use lib.ListN.{length, take, drop, getD, set, length-drop, List·getD-eq-default}
+use lib.Seq.{drop-at, drop-length, getD-append-add, getD-drop, getD-set-other, length-take-le, take-all, take-append-le}
+use Rattle.definition.specs.Field.{Field, reciprocal}
 use Rattle.definition.specs.Polynomial.{pair, points, evaluate, vanishing, interpolate, geometric}
-use Rattle.algebra.specs.Division.{evaluate-vanishing, vanishing-nil, vanishing-nonzero}
-use Rattle.algebra.specs.Evaluation.{evaluate-nil, reduce-evaluate}
-use Rattle.algebra.specs.Different.{Apart, Differ}
+use Rattle.algebra.specs.Division.{evaluate-vanishing, vanishing-nil}
+use Rattle.algebra.specs.Evaluation.{evaluate-nil}
 use Rattle.algebra.specs.Interpolation.{interpolate-cons}
 use Rattle.algebra.specs.Lengths.{length-geometric}
-use Rattle.list_laws.specs.All.{All}
-use Rattle.algebra.specs.Divisors.{Nonzero}
 use Rattle.algebra.specs.Laws.{FieldLaws}
-use Rattle.algebra.specs.PrimeField.{suited}
-use Rattle.algebra.specs.RingLaws.{zero-add, reduce-sub}
+use Rattle.algebra.specs.RingLaws.{zero-add}
 use Rattle.algebra.specs.Solver.{:0, :1, _:+_, _:*_, _:=_, solve₁}
 use Rattle.list_laws.specs.Filled.{FilledOver, filled-next}
 use Rattle.list_laws.specs.Backwards.{drop-back}
@@ -30,72 +25,6 @@ use Rattle.sums.specs.ZeroPadding.{ZeroFrom, zeros-at, zeros-behind, zeros-take
 use Rattle.lists.specs.Correcting.{CorrectingOver}
 use Rattle.lists.specs.Steps.{Through, added-at, raised-at}
 use Rattle.sums.specs.Sums.{products, products-swap, products-powers}
-use Rattle.sums.specs.Primes.{prime-small, prime-some}
-
--- ---- words: a product with one remainder, and what is below p
-
--- the product of a remainder and of the sum of a word and a remainder
-pub sum-times-fits : (field : ℕ) {x d y : ℕ} → x < 4294967296 → d < primeOf field → y < primeOf field → (x + d) * y ≤ 17293822577692639232
-sum-times-fits field {x} {d} {y} hx hd hy =
-    let small = prime-small field in
-    let few : x + d ≤ 8589934592 = omega arith in
-    let less : y ≤ 2013265921 = omega arith in
-    mul-le-mul few less
-
--- what a difference or a product gives is below p
-pub negative-small : (field b : ℕ) {d : ℕ} → d ≡ fieldOf field ._⊖_ 0 b → d < primeOf field
-unfolding fieldOf primeField
-negative-small field b e = omega (arith, e, mod-lt (0 + (primeOf field - b % primeOf field)) (prime-some field))
-
-vanish-small : (field : ℕ) (l : List ℕ) (x : ℕ) → vanishAt (fieldOf field) l x < primeOf field
-unfolding vanishAt fieldOf primeField
-vanish-small field [] x = omega (arith, suited field .large)
-vanish-small field (a ∷ l) x = mod-lt (fieldOf field ._⊖_ x a * vanishAt (fieldOf field) l x) (prime-some field)
-
--- ---- differences
-
-module _ {A : Type 0} (F : Field A) (xs : List A) where
-  infixl 65 _⊕_ _⊖_
-  infixl 70 _⊗_
-  open Field F using (𝟘, 𝟙, _⊕_, _⊖_, _⊗_)
-
-  pub difference-turn : FieldLaws F → (f : ℕ → A) (old new : List A) (i j : ℕ) {d r : A} → FilledOver 𝟘 f old new i → d ≡ 𝟘 ⊖ getD xs j 𝟘 →
-      r ≡ (getD xs i 𝟘 ⊕ d) ⊗ getD new i 𝟘 → r ≡ (getD xs i 𝟘 ⊖ getD xs j 𝟘) ⊗ getD old i 𝟘
-  difference-turn L f old new i j t ed er =
-      er ∙ ap₂ (λ (a b : A). a ⊗ b) (ap (λ (v : A). getD xs i 𝟘 ⊕ v) ed ∙ sym (L .sub-def (getD xs i 𝟘) (getD xs j 𝟘))) (t .left i (le-refl i))
-
-  -- the products of the differences to the points from number j on
-  pub record Differed (out : List A) (j : ℕ) : Type 0 where
-    pub same : length out ≡ length xs
-    pub before : (i : ℕ) → i < j → getD out i 𝟘 ≡ vanishAt F (drop j xs) (getD xs i 𝟘)
-    pub done : (i : ℕ) → j ≤ i → i < length xs → getD out i 𝟘 ≡ vanishAt F (drop (suc i) xs) (getD xs i 𝟘)
-
-  pub differed-first : (old out : List A) → length old ≡ length xs → FilledOver 𝟘 (λ _. 𝟙) old out (length old) → Differed out (length xs)
-  unfolding vanishAt
-  differed-first old out e t = record {
-    same = t .same ∙ e;
-    before = λ i l. t .passed i (omega arith) ∙ rw drop-length refl;
-    done = λ i a b. absurd (omega arith);
-  }
-
-  pub differed-next : (old out : List A) (j : ℕ) → 0 < j → j ≤ length xs → Differed old j →
-      FilledOver 𝟘 (λ i. (getD xs i 𝟘 ⊖ getD xs (j - 1) 𝟘) ⊗ getD old i 𝟘) old out (j - 1) → Differed out (j - 1)
-  unfolding vanishAt
-  differed-next old out j pos few d t = record {
-    same = t .same ∙ d .same;
-    before = λ i l. t .passed i l ∙ ap (λ (v : A). (getD xs i 𝟘 ⊖ getD xs (j - 1) 𝟘) ⊗ v) (d .before i (omega arith))
-        ∙ sym (ap (λ (l : List A). vanishAt F l (getD xs i 𝟘)) (drop-back xs 𝟘 j pos few));
-    done = λ i a b. t .left i a ∙ later i a b (decLt i j);
-  }
-    where
-      later : (i : ℕ) → j - 1 ≤ i → i < length xs → Dec (i < j) → getD old i 𝟘 ≡ vanishAt F (drop (suc i) xs) (getD xs i 𝟘)
-      later i a b (yes l) = let e : j ≡ suc i = omega arith in d .before i l ∙ ap (λ (n : ℕ). vanishAt F (drop n xs) (getD xs i 𝟘)) e
-      later i a b (no l) = d .done i (omega arith) b
-
--- the words among them are below p
-pub differed-small : (field : ℕ) (xs out : List ℕ) (j i : ℕ) → Differed (fieldOf field) xs out j → i < j → getD out i 0 < primeOf field
-unfolding fieldOf primeField
-differed-small field xs out j i d l = omega (arith, d .before i l, vanish-small field (drop j xs) (getD xs i 0))
 
 -- ---- the walk over q and v
 
@@ -261,19 +190,6 @@ module _ {A : Type 0} (F : Field A) (L : FieldLaws F) where
             ∙ getD-drop (e + 1) old (m - suc e) 𝟘 ∙ h (e + 1 + (m - suc e)) (omega arith),
       )
 
-  -- ---- what is divided by
-
-  apart-at : (n : ℕ) (xs : List A) → n < length xs → Apart F xs → All (λ b. Differ F (getD xs n 𝟘) b) (drop (suc n) xs)
-  apart-at zero [] l h = absurd (omega arith)
-  apart-at (suc n) [] l h = absurd (omega arith)
-  apart-at zero (x ∷ xs) l h = h .0
-  apart-at (suc n) (x ∷ xs) l h = apart-at n xs (omega arith) (h .1)
-
-  pub divisor-nonzero : (xs : List A) (i : ℕ) {v : A} → Apart F xs → i < length xs → v ≡ vanishAt F (drop (suc i) xs) (getD xs i 𝟘) → Nonzero F L v
-  divisor-nonzero xs i a l e z =
-      vanishing-nonzero F L (drop (suc i) xs) (getD xs i 𝟘) (apart-at i xs l a)
-      (sym (reduce-evaluate F L _ _) ∙ ap (L .reduce) (sym (vanish-ok F L (drop (suc i) xs) (getD xs i 𝟘)) ∙ sym e) ∙ z)
-
 -- ---- the number of words in use
 
 pub words-are : (k e : ℕ) → 0 < k → (k * ((e + k) / k) ≤ e + k) × (e < k * ((e + k) / k))
@@ -288,10 +204,6 @@ pub full-part : {A : Type 0} (from : ℕ) (xs p : List A) (e : ℕ) → length x
 full-part from xs p e size ep = ep ∙ take-all e (drop from xs) (omega (arith, length-drop from xs))
 
 module _ {A : Type 0} (F : Field A) where
-  pub found-reciprocal : {v w r : A} → v ≡ w → F .inverse v ≡ some r → r ≡ reciprocal F w
-  unfolding reciprocal foundOr
-  found-reciprocal e h = sym (ap (foundOr (F .𝟘)) (ap (F .inverse) (sym e) ∙ h))
-
   pub through-first : (xs ys q v : List A) → length ys ≡ length xs → Through F [] [] q v → Through F (drop (length xs) xs) (drop (length xs) ys) q v
   through-first xs ys q v e h =
       let ey : drop (length xs) ys ≡ [] = ap (λ (n : ℕ). drop n ys) (sym e) ∙ drop-length ys in

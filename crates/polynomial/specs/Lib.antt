@@ -1,4 +1,3 @@
 pub mod Pairs
 pub mod Vanishing
-pub mod GeometricSum
 pub mod Inverses

@@ -10,7 +10,7 @@ use Rattle.definition.specs.Sheet.{sheetOf}
 use Rattle.list_laws.specs.Lists.{rest-all}
 use Rattle.edition.specs.Meaning.{editionOf}
 use Rattle.honest_words.specs.Invariant.{CoinRunsFrom, foldOf, restFrom}
-use Rattle.honest.proofs.NextLevel.{first-fold}
+use Rattle.honest.proofs.Beginning.{first-fold}
 use Rattle.honest.proofs.Stored.{stored-join, stored-long, stored-others}
 use borrow.Author.Needs.{needs}
 use Rattle.honest.proofs.after_first.Statement.{statement}

@@ -11,7 +11,7 @@ use Rattle.layouts.specs.SheetRules.{short-sheet}
 use Rattle.completeness.specs.Numbered.{Allowed}
 use Rattle.edition.specs.Meaning.{editionOf}
 use Rattle.honest_words.specs.Invariant.{wordsFrom}
-use Rattle.honest.specs.Beginning.{first-coin, first-count, first-runs, first-invariant, stream-is, words-first}
+use Rattle.honest.proofs.Beginning.{first-coin, first-count, first-runs, first-invariant, stream-is, words-first}
 use Rattle.list_laws.specs.LentParts.{begun-long, joined, others-long}
 use borrow.Author.Needs.{needs}
 use Rattle.honest.proofs.stream_by.Statement.{statement}

@@ -1,9 +1,7 @@
 -- `lists::add_and_raise` meets its contract. Assumes nothing.
-use Prim.Native.Nat.{ℕ, suc, _+_, _-_, _*_, _≤_, _<_}
+use Prim.Native.Nat.{_-_, _≤_}
 use native.Mathlib.Omega.{arith}
-use mathlib.Core.Path.{_≡_, refl, sym, ap, _∙_, subst}
-use lib.ListN.{length, getD, drop, set, length-set}
-use borrow.Author.Needs.{needs}
+use mathlib.Core.Path.{_≡_, refl, subst}
 use Rattle.definition.specs.Field.{primeField, fieldOf}
 use Rattle.list_laws.specs.Filled.{filled-first}
 use Rattle.lists.proofs.Interpolating.{Walked, sumAt, raisedAt, walk-turn}

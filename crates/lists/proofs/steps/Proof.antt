@@ -1,9 +1,8 @@
 -- `lists::steps` meets its contract. Assumes nothing.
-use Prim.Native.Nat.{ℕ, suc, _+_, _-_, _*_, _≤_, _<_}
+use Prim.Native.Nat.{ℕ, suc, _-_, _≤_}
 use native.Mathlib.Omega.{arith}
-use mathlib.Core.Path.{_≡_, refl, sym, ap, _∙_, subst}
-use lib.ListN.{length, getD, drop, take, set, length-set}
-use borrow.Author.Needs.{needs}
+use mathlib.Core.Path.{_≡_, refl, ap, _∙_, subst}
+use lib.ListN.{length, getD, drop}
 use Rattle.definition.specs.Field.{fieldOf, reciprocal}
 use Rattle.polynomial.specs.Vanishing.{vanishAt}
 use Rattle.lists.specs.Steps.{Through}

@@ -1,9 +1,7 @@
 -- `lists::value_by` meets its contract. Assumes nothing.
 use borrow.Author.Needs.{needs}
-use Prim.Native.Nat.{ℕ, suc, _+_, _-_, _*_, _≤_, _<_}
 use native.Mathlib.Omega.{arith}
-use mathlib.Core.Path.{_≡_, refl, sym, ap, _∙_, subst}
-use lib.ListN.{length, getD, drop, set, length-set}
+use lib.ListN.{length}
 use Rattle.definition.specs.Field.{fieldOf}
 use Rattle.algebra.specs.PrimeField.{laws}
 use Rattle.lists.proofs.Interpolating.{value-is}

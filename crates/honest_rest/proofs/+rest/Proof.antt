@@ -1,4 +1,4 @@
--- `honest::rest` meets its contract, by recursion over the levels: the measure is what is left of 6 levels. Assumes nothing.
+-- `honest_rest::rest` meets its contract, by recursion over the levels: the measure is what is left of 6 levels. Assumes nothing.
 use Prim.Native.Nat.{ℕ, _+_, _-_, _*_, _<_}
 use native.Mathlib.Nat.{div-le-self}
 use native.Mathlib.Omega.{arith}
@@ -11,20 +11,20 @@ use Rattle.list_laws.specs.Lists.{rest-all}
 use Rattle.edition.specs.Meaning.{editionOf}
 use Rattle.honest_words.specs.Sizes.{next-place, numbers, sizes}
 use Rattle.honest_words.specs.Invariant.{CoinRunsFrom}
-use Rattle.honest.proofs.NextLevel.{ToNextLevel, last-level, not-last, to-next-level, words-end, words-join, words-last}
+use Rattle.honest_rest.proofs.NextLevel.{ToNextLevel, last-level, not-last, to-next-level, words-end, words-join, words-last}
 use Rattle.list_laws.specs.LentParts.{begun-long, filled-long, joined, others-long}
 use borrow.Fn.Kinds.{In}
 use borrow.Fn.PlainCycle.{Measures, is, falls, and}
-use Rattle.honest.proofs.rest.Reads as rest
-use Rattle.honest.proofs.rest.Kinds as rest-kinds
-use Rattle.honest.proofs.+rest.Lts-rest as rest-lts
-use Rattle.honest.proofs.finals.Reads as finals-reads
-use Rattle.honest.proofs.round_coins.Reads as round-coins-reads
-use Rattle.honest.proofs.round_words.Reads as round-words-reads
+use Rattle.honest_rest.proofs.rest.Reads as rest
+use Rattle.honest_rest.proofs.rest.Kinds as rest-kinds
+use Rattle.honest_rest.proofs.+rest.Lts-rest as rest-lts
+use Rattle.honest_rest.proofs.finals.Reads as finals-reads
+use Rattle.honest_rest.proofs.round_coins.Reads as round-coins-reads
+use Rattle.honest_rest.proofs.round_words.Reads as round-words-reads
 use Rattle.honest_round.proofs.fold_length.Reads as fold-length-reads
 use Rattle.honest_round.proofs.step.Reads as step-reads
-use Rattle.honest.proofs.+rest.{statement}
-use Rattle.honest.proofs.+rest.Tie.{close}
+use Rattle.honest_rest.proofs.+rest.{statement}
+use Rattle.honest_rest.proofs.+rest.Tie.{close}
 
 abbrev μ-rest : Measures 5 rest-kinds.ps ℕ
 μ-rest κs a = 6 - a .1 .1 .1 .0

@@ -1,12 +1,12 @@
--- `honest::finals` meets its contract. Assumes nothing.
+-- `honest_rest::finals` meets its contract. Assumes nothing.
 use native.Mathlib.Omega.{arith}
 use mathlib.Core.Path.{sym}
 use lib.ListN.{length}
 use lib.Seq.{length-take-le}
 use Rattle.list_laws.specs.LentParts.{joined}
 use borrow.Author.Needs.{needs}
-use Rattle.honest.proofs.finals.Statement.{statement}
-use Rattle.honest.proofs.finals.Tie as tie
+use Rattle.honest_rest.proofs.finals.Statement.{statement}
+use Rattle.honest_rest.proofs.finals.Tie as tie
 
 slice-relend-prefix-copy : tie.Need-slice-relend-prefix-copy
 slice-relend-prefix-copy c = search needs

@@ -1,6 +1,6 @@
 -- What document 01's tests of the input give before table 0; and the whole stream from there.
-use Prim.Native.Nat.{ℕ, _+_, _-_, _*_, _≤_, _<_}
-use native.Mathlib.Nat.{pow-zero}
+use Prim.Native.Nat.{ℕ, _+_, _-_, _*_, _/_, _≤_, _<_}
+use native.Mathlib.Nat.{div-mul-le-self, mul-le-mul-left, pow-zero}
 use native.Mathlib.Omega.{arith}
 use mathlib.Core.List.{List, _∷_, _++_}
 use mathlib.Core.Path.{_≡_, sym, ap, _∙_, subst}
@@ -16,8 +16,8 @@ use Rattle.layouts.specs.LevelsByNumber.{level-first, levels-later, undivided-d
 use Rattle.layouts.specs.Levels.{degreeOf, levelOf, outCoinCount, roundsOf, sheetField, sheetRoot}
 use Rattle.completeness.specs.Numbered.{Allowed}
 use Rattle.domain.specs.Powers.{Powers}
-use Rattle.honest_words.specs.Sizes.{half-degree, law, size-word}
-use Rattle.honest_words.specs.Invariant.{AtLevel, CoinRunsFrom, Invariant, levelsAfter, restCount, restFrom, wordsFrom}
+use Rattle.honest_words.specs.Sizes.{divided, half-degree, law, multiplied, numbers, size-word}
+use Rattle.honest_words.specs.Invariant.{AtLevel, CoinRunsFrom, Invariant, foldOf, levelsAfter, restCount, restFrom, wordsFrom}
 
 -- fold coin 0 is due
 some-coin : (h : Sheet) → 0 < length (coinKinds (layout h))
@@ -79,3 +79,20 @@ module _ {ed : Edition} {w f coins : List ℕ} (ok : Allowed ed w f coins) where
   stream-is = sym (λ x. w
       ++ (tableOf (sheetField h) (sheetRoot h) (level-first h x) f ++ (getD coins 0 0 ∷ restWords (honestRest (sheetField h) (sheetRoot h) (level-first h x) f (getD coins 0 0)
       (readRounds (outCoinCount h) (level-first h x) (later x) (drop 1 coins)) (readFinals (outCoinCount h) (level-first h x) (later x) (drop 1 coins))))))
+
+-- table 0's polynomial has a fold, of d_1 coefficients, and places for it
+pub record FirstFold (h : Sheet) (count d room : ℕ) : Type 0 where
+  pub degree : d ≡ degreeOf h (0 + 1)
+  pub fold : count ≡ foldOf h 0 * d
+  pub within : d ≤ room
+
+pub first-fold : {ed : Edition} {w : List ℕ} {count d room : ℕ} → AtLevel ed w 0 → count ≡ degreeOf (sheetOf ed w) 0 → count ≤ 2 * room → d ≡ count / foldOf (sheetOf ed w) 0 →
+    FirstFold (sheetOf ed w) count d room
+first-fold {ed} {w} {count} {d} {room} p ec most e =
+    let k = foldOf (sheetOf ed w) 0 in
+    let degree : d ≡ degreeOf (sheetOf ed w) (0 + 1) = e ∙ ap (λ (m : ℕ). m / k) ec ∙ divided p in
+    record {
+      degree = degree;
+      fold = ec ∙ multiplied p ∙ ap (λ (m : ℕ). k * m) (sym degree);
+      within = omega (arith, e, most, div-mul-le-self count k, mul-le-mul-left (count / k) (numbers p .least-fold));
+    }

@@ -1,7 +1,7 @@
 -- From a level to the next: what the numbers that the code works out say of the coins, the words and the next level, and how the words of both parts join.
 -- The level's polynomial is known by its fold g, of d coefficients. Assumes nothing.
 use Prim.Native.Nat.{ℕ, _+_, _-_, _*_, _/_, _≤_, _<_}
-use native.Mathlib.Nat.{div-le-self, div-mul-le-self, mul-le-mul-left}
+use native.Mathlib.Nat.{div-le-self}
 use native.Mathlib.Omega.{arith}
 use mathlib.Core.List.{List, _++_}
 use mathlib.Core.Path.{_≡_, sym, ap, _∙_, subst}
@@ -9,25 +9,8 @@ use lib.ListN.{length, getD, drop}
 use Rattle.definition.specs.Sheet.{Edition, Sheet, sheetOf}
 use Rattle.layouts.specs.Levels.{degreeOf, outCoinCount, roundsOf}
 use Rattle.honest_words.specs.Levels.{count-more, count-none, runs-more, runs-none, rest-more, rest-none}
-use Rattle.honest_words.specs.Sizes.{divided, multiplied, next-place, next-size, next-invariant, numbers, sizes}
+use Rattle.honest_words.specs.Sizes.{divided, next-place, next-size, next-invariant, numbers, sizes}
 use Rattle.honest_words.specs.Invariant.{AtLevel, CoinRunsFrom, RestAfter, RoundCoinsFit, Invariant, correctedFrom, foldAfter, foldOf, repetitionsOf, restCount, restFrom, roundCount, roundFrom}
-
--- table 0's polynomial has a fold, of d_1 coefficients, and places for it
-pub record FirstFold (h : Sheet) (count d room : ℕ) : Type 0 where
-  pub degree : d ≡ degreeOf h (0 + 1)
-  pub fold : count ≡ foldOf h 0 * d
-  pub within : d ≤ room
-
-pub first-fold : {ed : Edition} {w : List ℕ} {count d room : ℕ} → AtLevel ed w 0 → count ≡ degreeOf (sheetOf ed w) 0 → count ≤ 2 * room → d ≡ count / foldOf (sheetOf ed w) 0 →
-    FirstFold (sheetOf ed w) count d room
-first-fold {ed} {w} {count} {d} {room} p ec most e =
-    let k = foldOf (sheetOf ed w) 0 in
-    let degree : d ≡ degreeOf (sheetOf ed w) (0 + 1) = e ∙ ap (λ (m : ℕ). m / k) ec ∙ divided p in
-    record {
-      degree = degree;
-      fold = ec ∙ multiplied p ∙ ap (λ (m : ℕ). k * m) (sym degree);
-      within = omega (arith, e, most, div-mul-le-self count k, mul-le-mul-left (count / k) (numbers p .least-fold));
-    }
 
 module _ {ed : Edition} {w : List ℕ} {i : ℕ} (p : AtLevel ed w i) where
   -- the level's number against word 4 tells whether it is the last
