@@ -1,4 +1,4 @@
--- `convert::copy_within` meets its contract. The loop's invariant: i words are copied.
+-- `sheet_change::copy_within` meets its contract. The loop's invariant: i words are copied.
 use Prim.Native.Nat.{_+_, _-_, _≤_}
 use native.Mathlib.Omega.{arith}
 use mathlib.Core.Path.{_≡_, refl, sym, ap, _∙_}
@@ -6,9 +6,9 @@ use mathlib.Core.List.{List}
 use lib.ListN.{length, getD, take, drop, length-drop, length-set}
 use lib.Seq.{length-take-le, take-all}
 use Rattle.list_laws.specs.Overwriting.{overwrite, overwrite-next, overwrite-none}
-use Rattle.convert.specs.Sheets.{next-word}
-use Rattle.convert.proofs.copy_within.Statement.{statement}
-use Rattle.convert.proofs.copy_within.Tie as tie
+use Rattle.sheet_change.specs.Laid.{next-word}
+use Rattle.sheet_change.proofs.copy_within.Statement.{statement}
+use Rattle.sheet_change.proofs.copy_within.Tie as tie
 
 abbrev Inv-loop : tie.InvT-loop
 Inv-loop words₀ from to count i₀ words i = (i ≤ count) × ((length words ≡ length words₀) × (words ≡ overwrite words₀ to (take i (take count (drop from words₀)))))

@@ -1,10 +1,10 @@
--- `convert::spread_sheet` meets its contract. Assumes nothing.
+-- `sheet_change::spread_sheet` meets its contract. Assumes nothing.
 use native.Mathlib.Omega.{arith}
 use lib.ListN.{length-set}
-use Rattle.convert.specs.Sheets.{spread-laid}
+use Rattle.sheet_change.specs.Laid.{spread-laid}
 use borrow.Author.Needs.{needs}
-use Rattle.convert.proofs.spread_sheet.Statement.{statement}
-use Rattle.convert.proofs.spread_sheet.Tie as tie
+use Rattle.sheet_change.proofs.spread_sheet.Statement.{statement}
+use Rattle.sheet_change.proofs.spread_sheet.Tie as tie
 
 copy-within-requires : tie.Need-copy-within-requires
 copy-within-requires c κs = search needs

@@ -1,8 +1,8 @@
--- `convert::later_fold` meets its contract. Assumes nothing.
+-- `sheet_change::later_fold` meets its contract. Assumes nothing.
 use native.Mathlib.Omega.{arith}
-use Rattle.convert.specs.Sheets.{later-unused, later-used}
-use Rattle.convert.proofs.later_fold.Statement.{statement}
-use Rattle.convert.proofs.later_fold.Tie as tie
+use Rattle.sheet_change.specs.Laid.{later-unused, later-used}
+use Rattle.sheet_change.proofs.later_fold.Statement.{statement}
+use Rattle.sheet_change.proofs.later_fold.Tie as tie
 
 returns : tie.Need-returns
 returns c = let s = c .before in later-used (s .args .rounds) (s .args .k) (s .args .j) (s .pre) (omega (arith, c .if1 .taken))

@@ -1,13 +1,13 @@
--- `convert::other_fold` meets its contract. The loop's invariant: what is found from level i on is what is found.
+-- `sheet_change::other_fold` meets its contract. The loop's invariant: what is found from level i on is what is found.
 use Prim.Native.Nat.{_+_, _-_, _≤_}
 use native.Mathlib.Omega.{arith}
 use mathlib.Core.Path.{_≡_, refl, ap, _∙_}
 use Rattle.definition.specs.Verdict.{refuseAt}
 use Rattle.edition.specs.Meaning.{editionOf}
 use Rattle.outcome.specs.Meaning.{placeOf}
-use Rattle.convert.proofs.Folds.{differs-here, equal-here, foldsFrom, from-one, none-after}
-use Rattle.convert.proofs.other_fold.Statement.{statement}
-use Rattle.convert.proofs.other_fold.Tie as tie
+use Rattle.sheet_change.proofs.Folds.{differs-here, equal-here, foldsFrom, from-one, none-after}
+use Rattle.sheet_change.proofs.other_fold.Statement.{statement}
+use Rattle.sheet_change.proofs.other_fold.Tie as tie
 
 abbrev Inv-loop : tie.InvT-loop
 Inv-loop w first rounds i₀ i = (i ≤ rounds + 1) × (foldsFrom w i ≡ foldsFrom w 1)

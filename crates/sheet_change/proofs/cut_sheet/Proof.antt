@@ -1,8 +1,8 @@
--- `convert::cut_sheet` meets its contract. Assumes nothing.
-use Rattle.convert.specs.Sheets.{cut-laid}
+-- `sheet_change::cut_sheet` meets its contract. Assumes nothing.
+use Rattle.sheet_change.specs.Laid.{cut-laid}
 use borrow.Author.Needs.{needs}
-use Rattle.convert.proofs.cut_sheet.Statement.{statement}
-use Rattle.convert.proofs.cut_sheet.Tie as tie
+use Rattle.sheet_change.proofs.cut_sheet.Statement.{statement}
+use Rattle.sheet_change.proofs.cut_sheet.Tie as tie
 
 copy-within-requires : tie.Need-copy-within-requires
 copy-within-requires c κs = search needs

@@ -1,4 +1,4 @@
--- `convert::put_later_folds` meets its contract. The loop's invariant: the first j of the words are there.
+-- `sheet_change::put_later_folds` meets its contract. The loop's invariant: the first j of the words are there.
 use Prim.Native.Nat.{_-_, _≤_}
 use native.Mathlib.Omega.{arith}
 use mathlib.Core.Path.{_≡_, refl, sym, ap, _∙_}
@@ -6,9 +6,9 @@ use mathlib.Core.List.{List}
 use lib.ListN.{length, getD, take, length-set}
 use lib.Seq.{take-all}
 use Rattle.list_laws.specs.Overwriting.{overwrite, overwrite-next, overwrite-none}
-use Rattle.convert.specs.Sheets.{later-long, laterFolds}
-use Rattle.convert.proofs.put_later_folds.Statement.{statement}
-use Rattle.convert.proofs.put_later_folds.Tie as tie
+use Rattle.sheet_change.specs.Laid.{later-long, laterFolds}
+use Rattle.sheet_change.proofs.put_later_folds.Statement.{statement}
+use Rattle.sheet_change.proofs.put_later_folds.Tie as tie
 
 abbrev Inv-loop : tie.InvT-loop
 Inv-loop words₀ rounds k j₀ words j = (j ≤ 5) × ((length words ≡ length words₀) × (words ≡ overwrite words₀ 12 (take j (laterFolds rounds k))))
