@@ -11,7 +11,7 @@ use Rattle.definition.specs.Block.{blockCount, fileOf, streamOf}
 use Rattle.definition.specs.Convert.{backward, convert, foldsTest, forward}
 use Rattle.definition.specs.Layout.{wordsDue}
 use Rattle.definition.specs.Prove
-use Rattle.definition.specs.Prove.{Result, done, finish, outputTest, refusal}
+use Rattle.definition.specs.Prove.{Result, done, finish, outputTest}
 use Rattle.definition.specs.Reading.{reading, sheetTest}
 use Rattle.definition.specs.Sheet.{Edition, edition1, edition2, sheetLength, sheetOf}
 use Rattle.definition.specs.Verdict as definition

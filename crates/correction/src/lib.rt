@@ -22,7 +22,7 @@ pub fn fold(field: u32, k: usize, r: u32, f: &[u32], out: &mut [u32])
 }
 
 // The quotient by X - a of the polynomial in the first `count` coefficients, in place, by Horner's scheme from the top down: `above` is the
-// value at a of the coefficients passed. The quotient has one coefficient less, and a nought takes the last place.
+// value at a of the coefficients passed. The quotient has one coefficient less, and a zero takes the last place.
 fn divide(field: u32, a: u32, f: &mut [u32], count: usize)
     requires { ⌜ count ≤ length (now f) ⌝ }
     ensures { λ _. ⌜ take (count - 1) (now (f .exit)) ≡ divide (fieldOf field) (take count (now (f .entry))) a ⌝ }

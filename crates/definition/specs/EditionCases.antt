@@ -9,7 +9,7 @@ use Rattle.definition.specs.Verdict.{accepted, refused}
 use Rattle.definition.specs.Reading.{sheetTest}
 use Rattle.definition.specs.Verify.{verifyIn}
 use Rattle.definition.specs.Prover.{honestStream}
-use Rattle.definition.specs.Prove.{proveIn, done, Result}
+use Rattle.definition.specs.Prove.{proveIn, done}
 use Rattle.definition.specs.Convert.{toEdition1, toEdition2}
 use Rattle.definition.specs.WorkedTranscript.{sheetWords, coefficients, coins, stream, file, oneToEight, twoOuts, accept, refuse, kept, definitions}
 

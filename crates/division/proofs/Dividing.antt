@@ -17,7 +17,6 @@ use Rattle.algebra.specs.Solver.{:0, :1, _:+_, _:*_, _:=_, solve₁}
 use Rattle.list_laws.specs.Filled.{FilledOver, filled-next}
 use Rattle.list_laws.specs.Backwards.{drop-back}
 use Rattle.sums.specs.Sums.{geometric-power, products, products-swap}
-use Rattle.sums.specs.ZeroPadding.{ZeroFrom}
 use Rattle.division.specs.BackToFront.{part-store, unchanged}
 use Rattle.division.specs.LongDivision.{Dividing, Divides, coefficient-is, products-front, sums-next, sums-none}
 
@@ -93,7 +92,7 @@ module _ {A : Type 0} (F : Field A) (L : FieldLaws F) where
       subst (λ (l : List A). Dividing F L l w) (sym (drop-back all 𝟘 i pos few))
       (dividing-next F d w₀ L (drop i all) w (length all - (i - 1) + 1) (omega (arith, length-drop i all)) room before fill (getD all (i - 1) 𝟘) ed)
 
-  -- the powers of 0 are 1 and then noughts
+  -- the powers of 0 are 1 and then zeros
   pub dividing-none : (w : List A) (n : ℕ) → w ≡ geometric F 𝟘 n → Dividing F L [] w
   unfolding power
   dividing-none w n e = record { one = one; few = few; sums = sums-none F L w one few }

@@ -50,7 +50,7 @@ module _ {A : Type 0} (F : Field A) (L : FieldLaws F) where
   products-zeros (a ∷ w) (x ∷ l) h =
       ap₂ (λ (b s : A). b ⊗ x ⊕ s) (h zero zero-le) (products-zeros w l (λ m u. h (suc m) zero-le)) ∙ solve₁ F L (λ x. :0 :* x :+ :0 := :0) tt x
 
-  -- noughts behind the coefficients may be left out
+  -- zeros behind the coefficients may be left out
   pub products-front : (v w l : List A) → ((m : ℕ) → getD w m 𝟘 ≡ getD v m 𝟘) → products F w l ≡ products F v l
   unfolding products
   products-front [] w l h = products-zeros w l (λ m u. h m)
@@ -136,7 +136,7 @@ module _ {A : Type 0} (F : Field A) (L : FieldLaws F) where
       sym (quotient-reduced f xs j some) ∙ solve₂ F L (λ c s. c := :1 :* c :+ s :- s) tt c s ∙ ap (λ (u : A). u ⊖ s) (sum ∙ sym (add-zero _))
       ∙ solve₂ F L (λ u s. u :+ :0 :- s := u :- s) tt (getD f (length xs + j) 𝟘) s
 
-  -- w begins with 1, has noughts from behind the last of its coefficients on, and its sums with the quotient by the points are the dividend's coefficients
+  -- w begins with 1, has zeros from behind the last of its coefficients on, and its sums with the quotient by the points are the dividend's coefficients
   pub record Dividing (xs w : List A) : Type 0 where
     pub one : getD w 0 𝟘 ≡ 𝟙
     pub few : ZeroFrom F w (suc (length xs))

@@ -41,7 +41,7 @@ fn raise_each(field: u32, xs: &[u32], from: usize, w: &mut [u32])
     }
 }
 
-// The coefficients of the product of 1 - aX over the points from number `from` on, and noughts behind them. The powers of 0 are 1 and then noughts.
+// The coefficients of the product of 1 - aX over the points from number `from` on, and zeros behind them. The powers of 0 are 1 and then zeros.
 fn factors(field: u32, xs: &[u32], from: usize, w: &mut [u32])
     requires { ⌜ (from ≤ length (now xs)) × (length (now xs) - from < length (now w)) ⌝ }
     ensures { λ _. ⌜ Dividing (fieldOf field) (laws field) (drop from (now (xs .entry))) (now (w .exit)) ⌝ }

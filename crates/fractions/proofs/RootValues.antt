@@ -1,6 +1,6 @@
 -- The values at the k roots of a shift point: by sums of products and a table by halves, corrected where there are samples. Assumes nothing.
 use Prim.Native.Nat.{ℕ, zero, suc, _+_, _-_, _*_, _/_, _≤_, _<_}
-use mathlib.Core.Path.{_≡_, refl, sym, ap, _∙_, subst}
+use mathlib.Core.Path.{_≡_, refl, sym, ap, _∙_}
 use mathlib.Core.List.{List, _∷_, _++_}
 use native.Mathlib.Nat.{le-of-eq, le-refl, mul-div-cancel-left, mul-le-mul, mul-le-mul-left, mul-le-mul-right, not-suc-le-zero, suc-mul}
 use native.Mathlib.Omega.{arith}
@@ -19,7 +19,7 @@ use Rattle.tables.specs.Halving.{Halves}
 use Rattle.fractions.specs.declared.Oracle.{Oracle}
 use Rattle.folds.specs.PointsIn.{pointIn}
 use Rattle.fractions.specs.Fraction.{FractionOver}
-use Rattle.fractions.specs.Values.{ClearOver, Fits, Rooted, correctedIn, numeratorIn, vanishingIn, growthIn, valueOf, valueIn, rootIn, first-point, folded, root-number, point-room}
+use Rattle.fractions.specs.Values.{ClearOver, Fits, Rooted, correctedIn, numeratorIn, vanishingIn, growthIn, valueOf, valueIn, rootIn, folded, root-number, point-room}
 
 -- ---- a polynomial's values at the roots
 

@@ -9,7 +9,7 @@ use mathlib.Core.List.{List, [], _∷_, _++_, zipWith}
 use lib.ListN.{length, take, drop, getD, set, length-drop, List·getD-eq-default}
 use lib.Seq.{drop-at, drop-length, getD-append-add, getD-drop, getD-set-other, length-take-le, take-all, take-append-le}
 use Rattle.definition.specs.Field.{Field, reciprocal}
-use Rattle.definition.specs.Polynomial.{pair, points, evaluate, vanishing, interpolate, geometric}
+use Rattle.definition.specs.Polynomial.{pair, evaluate, vanishing, interpolate, geometric}
 use Rattle.algebra.specs.Division.{evaluate-vanishing, vanishing-nil}
 use Rattle.algebra.specs.Evaluation.{evaluate-nil}
 use Rattle.algebra.specs.Interpolation.{interpolate-cons}

@@ -17,7 +17,7 @@ use Rattle.layouts.specs.Levels.{levelOf, roundsOf}
 use Rattle.layouts.specs.SheetRules.{long-enough, rounds-most}
 use Rattle.definition.specs.Deciding.{equalTest, outTest, outTests}
 use Rattle.definition.specs.Field.{fieldOf, primeField}
-use Rattle.definition.specs.Layout.{Kind, coin, coinKinds, layout, out, wordsDue}
+use Rattle.definition.specs.Layout.{Kind, coinKinds, layout, wordsDue}
 use Rattle.definition.specs.Reading.{sheetTest}
 use Rattle.definition.specs.Sheet.{Edition, Level, Sheet, rootOfUnity, sheetLength, sheetOf}
 use Rattle.definition.specs.Verdict.{Outcome, _then_, accepted, refuseAt, refused}

@@ -6,7 +6,7 @@ use mathlib.Core.Path.{_≡_, refl}
 use mathlib.Core.List.{List}
 use lib.ListN.{length, getD, take, drop, length-drop, length-take}
 use lib.Seq.{getD-take}
-use Rattle.definition.specs.Prove.{Answer, Result, done, refusal}
+use Rattle.definition.specs.Prove.{Result, done}
 use Rattle.definition.specs.Sheet.{Edition, sheetLength}
 use Rattle.definition.specs.Verdict.{Outcome, accepted, refused}
 use Rattle.completeness.specs.Allowed.{allowed-count, allowed-enough, allowed-long}

@@ -2,7 +2,7 @@
 use Prim.Native.Nat.{ℕ, zero, suc, _+_, _-_, _*_, _/_, _^_, _≤_, _<_}
 use native.Mathlib.Numerals.{add-one}
 use native.Mathlib.Omega.{arith}
-use mathlib.Core.Path.{_≡_, refl, sym, ap, _∙_, subst}
+use mathlib.Core.Path.{_≡_, refl, sym, ap, _∙_}
 use mathlib.Core.Bool.{Bool, true, false, not, cond, _&&_}
 use mathlib.Core.List.{List}
 use lib.Count.{ones}
@@ -12,10 +12,10 @@ use lib.Pow.{pow-mono, pow-lt}
 use borrow.Author.Tests.{leb-true, leb-false, ltb-false, le-leb, lt-leb, lt-ltb, le-ltb, eq-eqb, ne-eqb, not-true, not-false}
 use Rattle.algebra.specs.ModularArithmetic.{pow-pow}
 use Rattle.list_laws.specs.Booleans.{and-true}
-use Rattle.layouts.specs.SheetRules.{between-true, pow-most}
+use Rattle.layouts.specs.SheetRules.{between-true}
 use Rattle.definition.specs.Field.{primeOf}
 use Rattle.definition.specs.Lists.{productOf}
-use Rattle.definition.specs.Sheet.{Edition, between, degreeRule, edition1, edition2, foldWords, foldingNumber, outCoinsRule, powerOfTwo, repetitionsRule, roundsRule}
+use Rattle.definition.specs.Sheet.{Edition, between, degreeRule, edition1, edition2, foldWords, outCoinsRule, powerOfTwo, repetitionsRule, roundsRule}
 use Rattle.edition.specs.declared.Edition as code
 use Rattle.edition.specs.declared.Edition.the-variants.{One, Two}
 use Rattle.edition.specs.Meaning.{editionOf}

@@ -4,9 +4,6 @@ use native.Mathlib.Omega.{arith}
 use borrow.Author.Needs.{needs}
 use Rattle.check_files.proofs.main.Statement.{statement}
 use Rattle.check_files.proofs.main.Tie as tie
-use Rattle.check_files.proofs.main.Reads as reads
-use Rattle.check_files.proofs.main.Lts as lts
-use Rattle.check_files.proofs.one.Reads as one-reads
 
 abbrev Inv-loop : tie.InvT-loop
 Inv-loop i₀ i = i ≤ 100

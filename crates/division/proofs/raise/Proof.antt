@@ -1,9 +1,7 @@
 -- `division::raise` meets its contract. Assumes nothing.
-use Prim.Native.Nat.{ℕ, suc, _+_, _-_, _≤_, _<_}
+use Prim.Native.Nat.{ℕ, _-_, _≤_}
 use native.Mathlib.Omega.{arith}
-use mathlib.Core.Path.{_≡_, refl, sym, ap, _∙_, subst}
-use mathlib.Core.List.{List, [], _∷_}
-use lib.ListN.{length, take, drop, getD}
+use mathlib.Core.Path.{_≡_, refl, subst}
 use Rattle.definition.specs.Field.{primeField, fieldOf}
 use Rattle.list_laws.specs.Filled.{Filled, filled-first}
 use Rattle.division.proofs.Dividing.{Raised, raisedAt, raise-turn}

@@ -1,9 +1,8 @@
 -- `fractions::fractions` meets its contract. Assumes nothing.
-use Prim.Native.Nat.{ℕ, _+_, _-_, _*_, _/_, _≤_}
+use Prim.Native.Nat.{_-_, _/_}
 use native.Mathlib.Omega.{arith}
 use mathlib.Core.Path.{sym, ap, _∙_}
-use mathlib.Core.List.{_++_}
-use lib.ListN.{length, take, drop}
+use lib.ListN.{length}
 use lib.Seq.{length-front, length-take-le}
 use borrow.Author.Needs.{needs}
 use Rattle.definition.specs.Field.{fieldOf, primeField}

@@ -1,9 +1,8 @@
 -- `inversions::invert_all` meets its contract. Assumes nothing.
 use borrow.Author.Needs.{needs}
-use Prim.Native.Nat.{ℕ, suc, _+_, _-_, _*_, _≤_, _<_}
+use Prim.Native.Nat.{_-_}
 use native.Mathlib.Omega.{arith}
-use mathlib.Core.Path.{_≡_, refl, sym, ap, _∙_, subst}
-use lib.ListN.{length, getD, drop, take, set, length-set}
+use mathlib.Core.Path.{sym, ap, _∙_}
 use Rattle.definition.specs.Field.{primeField, fieldOf}
 use Rattle.algebra.specs.PrimeField.{laws}
 use Rattle.field.specs.Answer.{inversionOf}

@@ -3,7 +3,7 @@ use mathlib.Core.Path.{sym, ap, _∙_}
 use Rattle.edition.specs.Meaning.{editionOf}
 use Rattle.outcome.specs.Meaning.{answerOf}
 use Rattle.word_input.specs.Input.{proveWords, proveInputIn}
-use Rattle.word_input.specs.InputWords.{Made, answered-words, refused-words}
+use Rattle.word_input.specs.InputWords.{answered-words, refused-words}
 use borrow.Author.Needs.{needs}
 use Rattle.prove_bytes.proofs.prove_input_in.Statement.{statement}
 use Rattle.prove_bytes.proofs.prove_input_in.Tie as tie
