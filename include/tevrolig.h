@@ -1,10 +1,11 @@
-/* Tevrolig: the judge for STIR transcripts, the prover that it answers, and the three fields below them, called from C.
+/* Tevrolig: the verifier for STIR transcripts, the prover that it answers, and the three fields below them, called from
+ * C.
  *
  * The functions stand in libtevrolig.a, which `rt staticlib tevrolig` writes to target/staticlib for x86-64 Linux. They
  * call memset and nothing else from outside. They are proved against the written definition: on every input each one
  * ends, and what it answers and writes is what the definition says (docs/STATEMENTS.md).
  *
- * examples/judge.c is a program that uses them. A program is built with the first line, or with the second once
+ * examples/verify.c is a program that uses them. A program is built with the first line, or with the second once
  * `tools/install` has put the header, the archive and tevrolig.pc below /usr/local (`tools/install PREFIX`: elsewhere).
  * The third is for a Rust program's Cargo.toml, whose interface is the folder rust/.
  *
@@ -50,7 +51,7 @@ extern "C" {
 #define TEVROLIG_BLOCK_BYTES 512
 #define TEVROLIG_BLOCK_WORDS 127
 
-/* No file with more blocks is accepted, and no order and no file that is converted needs more. */
+/* No file with more blocks is accepted, and no file that is proved or converted needs more. */
 #define TEVROLIG_MAX_BLOCKS 67
 
 /* The largest n0: no table has more words, and so no encoding. */
@@ -107,8 +108,8 @@ enum {
     TEVROLIG_EQUAL_OUT = 14 /* two out coins of a round are equal */
 };
 
-/* Judges a file of any length and content. Answers 0 for accepted, else the number of the first test that fails, in this
- * order:
+/* Verifies a file of any length and content. Answers 0 for accepted, else the number of the first test that fails, in
+ * this order:
  *
  *   number   place
  *   0        0
@@ -130,7 +131,7 @@ enum {
  * file, at most k*(t_0 + .. + t_M). */
 uint32_t tevrolig_verify(const uint8_t *file, size_t length, uint64_t *place, uint64_t *reads);
 
-/* Judges a file of edition 2 likewise. Place 3 is the first in the order in which the sheet's words are tested, and a
+/* Verifies a file of edition 2 likewise. Place 3 is the first in the order in which the sheet's words are tested, and a
  * shift or final coin over domain i leads to k_i places: at most t_0*k_0 + .. + t_M*k_M for an accepted file. */
 uint32_t tevrolig_verify_2(const uint8_t *file, size_t length, uint64_t *place, uint64_t *reads);
 
@@ -155,9 +156,10 @@ uint32_t tevrolig_decide_2(const uint8_t *file, size_t length, uint64_t *place, 
  * 0. */
 uint32_t tevrolig_word(const uint8_t *file, size_t length, uint64_t number, uint32_t *word);
 
-/* Shows the sheet that a file holds, judged or not: writes its words 0 to 11 to the front of the output, as tevrolig_word
- * shows them one by one. Answers 0 for done, and the words after them are as before. Else no word of the output is
- * written: 1 where the file has less than one block, 11 where the output has less than TEVROLIG_SHEET_WORDS words. */
+/* Shows the sheet that a file holds, verified or not: writes its words 0 to 11 to the front of the output, as
+ * tevrolig_word shows them one by one. Answers 0 for done, and the words after them are as before. Else no word of the
+ * output is written: 1 where the file has less than one block, 11 where the output has less than TEVROLIG_SHEET_WORDS
+ * words. */
 uint32_t tevrolig_sheet_of(const uint8_t *file, size_t length, uint32_t *output, size_t output_length);
 
 /* Writes the honest prover's file for d0 coefficients, lowest first, and a full list of coins, in the order in which the
@@ -175,7 +177,7 @@ uint32_t tevrolig_sheet_of(const uint8_t *file, size_t length, uint32_t *output,
  *   14       the position of the second coin in the first such round, likewise
  *   11       the number of blocks needed
  *
- * So an output of length 0 asks for the size, and TEVROLIG_MAX_BLOCKS blocks are enough for every order. */
+ * So an output of length 0 asks for the size, and TEVROLIG_MAX_BLOCKS blocks are enough for every input. */
 uint32_t tevrolig_prove(const uint32_t *sheet, size_t sheet_length, const uint32_t *coefficients,
                         size_t coefficients_length, const uint32_t *coins, size_t coins_length, uint8_t *output,
                         size_t output_length, uint64_t *value);

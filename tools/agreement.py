@@ -1,8 +1,9 @@
 #!/usr/bin/env python3
-"""Writes theorems that hold by computation, from what the model says. Files of either edition: for each line `HEX outcome number place reads` the definition's verdict
-of these bytes. Steps: for each line `EDITION STEP HEX outcome number place reads` what the definition's reading or deciding says of these bytes. Conversions: for each line `EDITION HEX LENGTH answer number place HEX` what the definition's converter makes of these bytes and an output of so many
-bytes 165. Orders: for each line `v | next | sheet | coefficients | coins` what the definition draws in one run of the load from the state v. Arguments:
-the folder with the lines, in the files one, two, steps, convert and orders, and the folder to write to."""
+"""Writes theorems that hold by computation, from what the model says. Files of either edition: for each line `HEX outcome number place reads` the definition's
+verdict of these bytes. Steps: for each line `EDITION STEP HEX outcome number place reads` what the definition's reading or deciding says of these bytes.
+Conversions: for each line `EDITION HEX LENGTH answer number place HEX` what the definition's converter makes of these bytes and an output of so many bytes 165.
+Inputs of the prover: for each line `v | next | sheet | coefficients | coins` what the definition draws in one run of the load from the state v. Arguments: the
+folder with the lines, in the files one, two, steps, convert and inputs, and the folder to write to."""
 import sys
 
 HEAD = """use Prim.Native.Nat.{ℕ}
@@ -23,7 +24,7 @@ CONVERSIONS = """use lib.ListN.{replicate}
 use Rattle.definition.specs.Prove.{done, refusal}
 use Rattle.definition.specs.Convert.{toEdition1, toEdition2}
 """
-DRAWS = """use Rattle.definition.specs.Load.{drawOrder}
+DRAWS = """use Rattle.definition.specs.Load.{drawInput}
 use Rattle.definition.specs.LoadCases.{loadDefinitions}
 """
 
@@ -59,15 +60,15 @@ def conversion(line):
     edition, file, length, answer, number, place, output = line.split()
     before = f"replicate {length} 165"
     after = before if output == int(length) * "a5" else data(output)
-    told = f"done {place}" if answer == "done" else f"refusal {number} {place}"
-    return f"toEdition{edition} ({data(file)}) ({before})", f"record {{ answer = {told}; output = {after} }}"
+    answered = f"done {place}" if answer == "done" else f"refusal {number} {place}"
+    return f"toEdition{edition} ({data(file)}) ({before})", f"record {{ answer = {answered}; output = {after} }}"
 
 
-def order(line):
+def drawn_input(line):
     v, after, *parts = line.split("|")
     sheet, coefficients, coins = (listed(part.split()) for part in parts)
     drawn = f"record {{ sheet = {sheet}; coefficients = {coefficients}; coins = {coins} }}"
-    return f"drawOrder {v.strip()}", f"record {{ value = {drawn}; next = {after.strip()} }}"
+    return f"drawInput {v.strip()}", f"record {{ value = {drawn}; next = {after.strip()} }}"
 
 
 def main():
@@ -77,7 +78,7 @@ def main():
         ("two", "Two", VERDICTS + WORKED, "definitions", verdict("edition2")),
         ("steps", "Steps", STEPS + WORKED, "definitions decideFile", step),
         ("convert", "Conversions", CONVERSIONS + WORKED, "definitions", conversion),
-        ("orders", "Orders", DRAWS, "loadDefinitions", order),
+        ("inputs", "Inputs", DRAWS, "loadDefinitions", drawn_input),
     ]
     for name, module, head, unfolded, theorem in modules:
         with open(f"{lines}/{name}") as f, open(f"{folder}/{module}.antt", "w") as out:

@@ -1,14 +1,14 @@
 #!/usr/bin/env bash
 # slips.sh: writes slips into the definition, one at a time, and shows which theorem refuses each.
-# Run it from the top of the repository. It works on a copy in a temporary folder: the crates definition, algebra and completeness, without the definition's
+# Run it from the top of the repository. It works on a copy in a temporary folder: the crates of theory, without the definition's
 # cases, so that no worked example can refuse a slip before a theorem does. One line for each slip; the exit status is not 0 if any was not refused.
 set -euo pipefail
 
 work=$(mktemp -d)
 trap 'rm -rf "$work"' EXIT
-grep -E '^(definition|algebra|completeness):' crates.txt >"$work/crates.txt"
+grep -E '^(definition|list_laws|algebra|layouts|completeness):' crates.txt >"$work/crates.txt"
 mkdir "$work/crates"
-for crate in definition algebra completeness; do
+for crate in definition list_laws algebra layouts completeness; do
     cp -r "crates/$crate" "$work/crates/$crate"
     rm -rf "$work/crates/$crate/must-fail"
 done

@@ -1,5 +1,5 @@
 /* Measures how much stack calls take, of verify, its two steps and the converter, in both editions, and of tevrolig_word and tevrolig_sheet_of, on each file named
- * and on what is proved here; of prove, in both editions, and tevrolig_encode on the largest orders; and of the field operations. It fails where one is not below
+ * and on what is proved here; of prove, in both editions, and tevrolig_encode on the largest inputs; and of the field operations. It fails where one is not below
  * the header's figure. A call runs on a stack of its own, painted before, and the deepest byte that lost its paint is looked for. */
 #include <stdio.h>
 #include <stdlib.h>
@@ -174,7 +174,7 @@ static size_t done(const char *name, void (*call)(void))
 static size_t verifying, reading, proving, encoding, converting, small;
 
 /* What takes a file, of either edition. */
-static void judge_and_convert(void)
+static void verify_and_convert(void)
 {
     verifying = larger(verifying, larger(depth(verify), depth(verify_2)));
     verifying = larger(verifying, larger(depth(decide), depth(decide_2)));
@@ -194,7 +194,7 @@ int main(int argc, char **argv)
         }
         length = fread(file, 1, sizeof file, input);
         fclose(input);
-        judge_and_convert();
+        verify_and_convert();
     }
     for (size_t i = 0; i < TEVROLIG_MAX_TABLE; i++)
         coefficients[i] = (uint32_t)(i * i);
@@ -205,7 +205,7 @@ int main(int argc, char **argv)
             proving = larger(proving, done("prove", prove));
             encoding = larger(encoding, done("encode", encode));
             converting = larger(converting, done("to edition 2", to_edition_2));
-            judge_and_convert();
+            verify_and_convert();
         }
         proving = larger(proving, done("prove, edition 2", prove_2));
         verifying = larger(verifying, done("verify, edition 2", verify_2));
@@ -213,7 +213,7 @@ int main(int argc, char **argv)
         reading = larger(reading, done("read, edition 2", read_file_2));
         if (i < 2)
             converting = larger(converting, done("to edition 1", to_edition_1));
-        judge_and_convert();
+        verify_and_convert();
     }
     printf("stack: verify and decide %zu, read %zu, prove %zu, encode %zu, convert %zu, others %zu bytes at most\n", verifying, reading, proving, encoding, converting, small);
     return verifying < TEVROLIG_VERIFY_STACK && reading < TEVROLIG_READ_STACK && proving < TEVROLIG_PROVE_STACK && encoding < TEVROLIG_ENCODE_STACK

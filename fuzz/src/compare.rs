@@ -1,7 +1,7 @@
 //! The comparison of the archive with the model.
 
 use crate::fence::Fence;
-use crate::input::{Input, Order};
+use crate::input::{Input, ProverInput};
 use std::cell::RefCell;
 use tevrolig::convert::{to_edition_1, to_edition_2};
 use tevrolig::{edition2, Field, Outcome, Verdict};
@@ -37,11 +37,11 @@ thread_local! {
 /// Panics where the archive and the model differ on an input.
 pub fn agree(input: &Input) {
     FENCES.with_borrow_mut(|fences| match input {
-        Input::Raw(file) | Input::Sealed(file) => {
+        Input::Raw(file) | Input::WithChecks(file) => {
             verdicts(fences, file);
             conversions(fences, file);
         }
-        Input::Order(order) => orders(fences, order),
+        Input::Prover(given) => proofs(fences, given),
         Input::Field(words) => elements(*words),
     });
 }
@@ -139,13 +139,13 @@ fn conversions(fences: &mut Fences, file: &[u8]) {
 }
 
 /// Prove of both in each edition, the verdicts on the files that come of it and their conversions, and encode of both.
-fn orders(fences: &mut Fences, order: &Order) {
-    let Order {
+fn proofs(fences: &mut Fences, given: &ProverInput) {
+    let ProverInput {
         sheet,
         coefficients,
         coins,
         output,
-    } = order;
+    } = given;
     let length = usize::from(*output);
     let [lent_sheet, lent_coefficients, lent_coins] = &mut fences.lists;
     let lent_sheet: &[u32] = lent_sheet.lend(sheet);
@@ -160,7 +160,7 @@ fn orders(fences: &mut Fences, order: &Order) {
         };
         let mut expected = vec![0xA5; length];
         let lent = fences.output.lend(&expected);
-        let answer = told(prove(lent_sheet, lent_coefficients, lent_coins, lent));
+        let answer = model_answer(prove(lent_sheet, lent_coefficients, lent_coins, lent));
         let due = prove_in(edition, sheet, coefficients, coins, &mut expected);
         assert_eq!(answer, due);
         assert!(lent == expected, "prove's output differs");
@@ -174,7 +174,7 @@ fn orders(fences: &mut Fences, order: &Order) {
     let lent = fences.table.lend(&table);
     let encoded = tevrolig::encode(lent_sheet, lent_coefficients, lent);
     assert_eq!(
-        told(encoded),
+        model_answer(encoded),
         model::encode(sheet, coefficients, &mut table)
     );
     assert!(lent == table, "encode's output differs");
@@ -190,7 +190,7 @@ fn orders(fences: &mut Fences, order: &Order) {
 }
 
 /// An answer in the model's terms.
-fn told(answer: Result<usize, tevrolig::OrderRefusal>) -> Answer {
+fn model_answer(answer: Result<usize, tevrolig::InputRefusal>) -> Answer {
     match answer {
         Ok(size) => Answer::Done(size as u64),
         Err(refusal) => Answer::Refused {

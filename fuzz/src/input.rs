@@ -2,9 +2,9 @@
 
 use tevrolig_model::generate;
 
-/// An order to prove and to encode, with the lengths of the outputs.
+/// An input of the prover and the encoder, with the lengths of the outputs.
 #[derive(Default)]
-pub struct Order {
+pub struct ProverInput {
     pub sheet: Vec<u32>,
     pub coefficients: Vec<u32>,
     pub coins: Vec<u32>,
@@ -15,15 +15,15 @@ pub struct Order {
 pub enum Input {
     /// A file as it is.
     Raw(Vec<u8>),
-    /// A file whose checks are made right before it is judged.
-    Sealed(Vec<u8>),
-    Order(Order),
+    /// A file whose checks are made right before it is verified.
+    WithChecks(Vec<u8>),
+    Prover(ProverInput),
     /// A field's number and two words.
     Field([u32; 3]),
 }
 
 impl Input {
-    /// Every byte string is an input; an order's lists end where the bytes do.
+    /// Every byte string is an input; the prover's lists end where the bytes do.
     pub fn read(bytes: &[u8]) -> Input {
         let Some((form, rest)) = bytes.split_first() else {
             return Input::Raw(Vec::new());
@@ -33,9 +33,9 @@ impl Input {
             1 => {
                 let mut file = rest.to_vec();
                 generate::rewrite_checks(&mut file);
-                Input::Sealed(file)
+                Input::WithChecks(file)
             }
-            2 => Input::Order(Order::read(rest)),
+            2 => Input::Prover(ProverInput::read(rest)),
             _ => {
                 let mut words = words(rest).into_iter().chain([0; 3]);
                 Input::Field([(); 3].map(|()| words.next().unwrap_or(0)))
@@ -46,16 +46,16 @@ impl Input {
     pub fn write(&self) -> Vec<u8> {
         match self {
             Input::Raw(file) => [&[0][..], file].concat(),
-            Input::Sealed(file) => [&[1][..], file].concat(),
-            Input::Order(order) => [&[2][..], &order.write()].concat(),
+            Input::WithChecks(file) => [&[1][..], file].concat(),
+            Input::Prover(given) => [&[2][..], &given.write()].concat(),
             Input::Field(words) => [&[3][..], &bytes(words)].concat(),
         }
     }
 }
 
-impl Order {
+impl ProverInput {
     /// Four lengths of 16 bits, then the words of sheet, coefficients and coins.
-    fn read(bytes: &[u8]) -> Order {
+    fn read(bytes: &[u8]) -> ProverInput {
         let (lengths, rest) = bytes.split_at(bytes.len().min(8));
         let mut lengths = lengths
             .chunks_exact(2)
@@ -64,7 +64,7 @@ impl Order {
         let output = length();
         let mut words = words(rest).into_iter();
         let mut list = || words.by_ref().take(length().into()).collect();
-        Order {
+        ProverInput {
             sheet: list(),
             coefficients: list(),
             coins: list(),

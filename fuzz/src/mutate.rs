@@ -1,7 +1,7 @@
 //! New inputs from old ones. Most changes keep the shape of what they change, so that the inputs get past the first tests; now and then an input is
 //! drawn from nothing, which also makes a corpus to begin with needless.
 
-use crate::input::{Input, Order};
+use crate::input::{Input, ProverInput};
 use tevrolig_model::convert::with_equal_folds;
 use tevrolig_model::domain::Subgroup;
 use tevrolig_model::generate::repeats::repeat;
@@ -26,8 +26,8 @@ pub fn mutate(bytes: &[u8], seed: u32, change: impl Fn(&mut [u8])) -> Vec<u8> {
     }
     let mut input = Input::read(bytes);
     match &mut input {
-        Input::Raw(file) | Input::Sealed(file) => change_file(&mut rng, file),
-        Input::Order(order) => change_order(&mut rng, order),
+        Input::Raw(file) | Input::WithChecks(file) => change_file(&mut rng, file),
+        Input::Prover(given) => change_prover_input(&mut rng, given),
         Input::Field(words) => {
             let at = rng.place(3);
             words[at] = some_word(&mut rng, words[at]);
@@ -36,12 +36,12 @@ pub fn mutate(bytes: &[u8], seed: u32, change: impl Fn(&mut [u8])) -> Vec<u8> {
     input.write()
 }
 
-/// An honest file of either edition, whole or damaged, an allowed order, or words for a field.
+/// An honest file of either edition, whole or damaged, an allowed input of the prover, or words for a field.
 fn fresh(rng: &mut Rng) -> Input {
-    let (edition, order) = allowed(rng);
+    let (edition, given) = allowed(rng);
     match rng.below(16) {
         form @ 0..=7 => {
-            let mut file = honest_file(&order.sheet, &order.coefficients, &order.coins);
+            let mut file = honest_file(&given.sheet, &given.coefficients, &given.coins);
             if form == 0 {
                 return Input::Raw(file);
             }
@@ -49,16 +49,16 @@ fn fresh(rng: &mut Rng) -> Input {
             if rng.one_in(2) {
                 aim(edition, rng, &mut file, number);
             }
-            Input::Sealed(file)
+            Input::WithChecks(file)
         }
-        8..=14 => Input::Order(order),
+        8..=14 => Input::Prover(given),
         _ => Input::Field([rng.below(3) as u32, rng.word(), rng.word()]),
     }
 }
 
-/// An allowed order of either edition, in half of them with repeated indices; in edition 2 the folding numbers are equal in one of four, so that the file has
-/// an edition 1.
-fn allowed(rng: &mut Rng) -> (Edition, Order) {
+/// An allowed input of the prover, of either edition, in half of them with repeated indices; in edition 2 the folding numbers are equal in one of four,
+/// so that the file has an edition 1.
+fn allowed(rng: &mut Rng) -> (Edition, ProverInput) {
     let most_n0 = rng.pick(&[16, 16, 32, 64, 128]);
     let (edition, sheet) = match rng.below(8) {
         0..=3 => (
@@ -79,13 +79,13 @@ fn allowed(rng: &mut Rng) -> (Edition, Order) {
     if rng.one_in(2) {
         repeat(rng, &sheet, &mut drawn);
     }
-    let order = Order {
+    let given = ProverInput {
         coefficients: coefficients(rng, &sheet),
         coins: drawn,
         output: output_due(&sheet) + rng.pick(&[0, 0, 1, 600]),
         sheet,
     };
-    (edition, order)
+    (edition, given)
 }
 
 /// The bytes that prove's output needs; none for a sheet with a fault.
@@ -113,29 +113,29 @@ fn change_file(rng: &mut Rng, file: &mut Vec<u8>) {
     }
 }
 
-fn change_order(rng: &mut Rng, order: &mut Order) {
+fn change_prover_input(rng: &mut Rng, given: &mut ProverInput) {
     match rng.below(8) {
         0 => {
-            let due = output_due(&order.sheet);
+            let due = output_due(&given.sheet);
             let lengths = [
                 due,
                 due.saturating_sub(1),
                 due + 1,
                 due + 512,
                 0,
-                order.output / 2,
+                given.output / 2,
             ];
-            order.output = rng.pick(&lengths);
+            given.output = rng.pick(&lengths);
         }
-        1 => order.coins = coins(rng, &order.sheet, true),
-        2 => order.coefficients = coefficients(rng, &order.sheet),
-        3 => change_out_coin(rng, &order.sheet, &mut order.coins),
-        4 => repeat(rng, &order.sheet, &mut order.coins),
+        1 => given.coins = coins(rng, &given.sheet, true),
+        2 => given.coefficients = coefficients(rng, &given.sheet),
+        3 => change_out_coin(rng, &given.sheet, &mut given.coins),
+        4 => repeat(rng, &given.sheet, &mut given.coins),
         _ => {
             let list = match rng.below(4) {
-                0 => &mut order.sheet,
-                1 => &mut order.coefficients,
-                _ => &mut order.coins,
+                0 => &mut given.sheet,
+                1 => &mut given.coefficients,
+                _ => &mut given.coins,
             };
             match rng.below(8) {
                 0 => list.push(0),

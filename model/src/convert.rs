@@ -21,7 +21,7 @@ pub fn to_edition_1(file: &[u8], output: &mut [u8]) -> Answer {
 
 /// Writes a file of the other edition as one of this.
 pub fn convert_to(edition: Edition, file: &[u8], output: &mut [u8]) -> Answer {
-    let judged = read(edition.other(), file).and_then(|Reading { sheet, stream, .. }| {
+    let written = read(edition.other(), file).and_then(|Reading { sheet, stream, .. }| {
         let (words, body) = stream.split_at(edition.other().sheet_words());
         let sheet = match edition {
             Edition::One => without_folds(&sheet, words)?,
@@ -31,7 +31,7 @@ pub fn convert_to(edition: Edition, file: &[u8], output: &mut [u8]) -> Answer {
         test_room(stream.len(), output.len())?;
         Ok(write_blocks(&stream, output))
     });
-    judged.into()
+    written.into()
 }
 
 /// Test 13, and the sheet of edition 1.

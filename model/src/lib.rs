@@ -1,12 +1,11 @@
 //! An independent model of the STIR transcript verifier and prover.
 //!
-//! Everything here is written straight from document 01 ("STIR transcripts:
-//! their words, their prover and their judge"), the load, the counts, the second
-//! edition, the converter, the refusal of equal out coins, the judge's two steps and the
-//! count of reads from the requests of document 02, and by plain means: whole tables
-//! instead of single points, sets of places, Lagrange sums, long division, extended
-//! Euclid. It is the thing other code is compared with, so it prefers being obvious to
-//! being fast.
+//! Everything here is written straight from document 01, the load, the counts, the
+//! second edition, the converter, the refusal of equal out coins, the verifier's two
+//! steps and the count of reads from the requests of document 02, and by plain means:
+//! whole tables instead of single points, sets of places, Lagrange sums, long division,
+//! extended Euclid. It is the thing other code is compared with, so it prefers being
+//! obvious to being fast.
 
 pub mod baseline;
 pub mod convert;

@@ -3,7 +3,7 @@
 //!
 //! The values that a sheet word may have are listed here from document 01's rules, and
 //! the coins are drawn in document 01's order, without the sheet's reader or the
-//! layout: prove takes each order only if those say the same.
+//! layout: prove takes each input only if those say the same.
 
 use crate::domain::Subgroup;
 use crate::field::Field;
@@ -34,13 +34,13 @@ pub fn seed(input: &[u8]) -> u32 {
     u32::from_le_bytes(bytes)
 }
 
-/// The lines that the program prints for a seed, each from proving and judging a file.
+/// The lines that the program prints for a seed, each from proving and verifying a file.
 pub fn lines(seed: u32) -> Vec<String> {
-    lines_by(seed, Order::judged)
+    lines_by(seed, ProverInput::verdict_line)
 }
 
 /// The same with any way to a run's line. Seed 0 is refused before anything is drawn.
-pub fn lines_by(seed: u32, run: impl Fn(&Order) -> String) -> Vec<String> {
+pub fn lines_by(seed: u32, run: impl Fn(&ProverInput) -> String) -> Vec<String> {
     if seed == 0 {
         let outcome = Outcome::Refused {
             number: 12,
@@ -48,26 +48,26 @@ pub fn lines_by(seed: u32, run: impl Fn(&Order) -> String) -> Vec<String> {
         };
         return vec![line(Verdict { outcome, reads: 0 })];
     }
-    orders(seed).map(|order| run(&order)).collect()
+    drawn_inputs(seed).map(|input| run(&input)).collect()
 }
 
 /// What the runs of a seed other than 0 draw, all on one generator.
-pub fn orders(seed: u32) -> impl Iterator<Item = Order> {
+pub fn drawn_inputs(seed: u32) -> impl Iterator<Item = ProverInput> {
     let mut generator = Generator { v: seed };
-    (0..RUNS).map(move |_| generator.order())
+    (0..RUNS).map(move |_| generator.draw_input())
 }
 
 /// What one run draws.
 #[derive(Debug, Clone, PartialEq, Eq)]
-pub struct Order {
+pub struct ProverInput {
     pub sheet: [u32; SHEET_WORDS],
     pub coefficients: Vec<u32>,
     pub coins: Vec<u32>,
 }
 
-impl Order {
+impl ProverInput {
     /// The verdict line of the honest file.
-    fn judged(&self) -> String {
+    fn verdict_line(&self) -> String {
         let mut output = vec![0; ROOM];
         match prove(&self.sheet, &self.coefficients, &self.coins, &mut output) {
             Answer::Done(blocks) => line(verify(&output[..blocks as usize * BLOCK_BYTES])),
@@ -97,7 +97,7 @@ impl Order {
 }
 
 /// Sheet, coefficients and coins, with bars between them.
-impl fmt::Display for Order {
+impl fmt::Display for ProverInput {
     fn fmt(&self, f: &mut fmt::Formatter) -> fmt::Result {
         let listed = |words: &[u32]| {
             let texts: Vec<String> = words.iter().map(u32::to_string).collect();
@@ -168,12 +168,12 @@ impl Generator {
     }
 
     /// Everything that one run draws, in order.
-    pub fn order(&mut self) -> Order {
+    pub fn draw_input(&mut self) -> ProverInput {
         let words = self.sheet();
         let sheet = Sheet::read(&words).expect("a drawn sheet keeps its rules");
         let coefficients = self.several(sheet.d0, sheet.field.p);
         let coins = self.coins(&sheet);
-        Order {
+        ProverInput {
             sheet: words,
             coefficients,
             coins,

@@ -45,8 +45,8 @@ pub fn prove_in(
     coins: &[u32],
     output: &mut [u8],
 ) -> Answer {
-    let judged = request(edition, sheet, coefficients, coins, output.len());
-    let written = judged.map(|mut request| {
+    let tested = request(edition, sheet, coefficients, coins, output.len());
+    let written = tested.map(|mut request| {
         request.run(coefficients);
         write_blocks(&request.stream, output)
     });
@@ -72,14 +72,14 @@ pub(crate) fn test_room(words: usize, output_bytes: usize) -> Result<(), Fault> 
 
 /// Writes table 0.
 pub fn encode(sheet: &[u32], coefficients: &[u32], output: &mut [u32]) -> Answer {
-    let judged = sheet_and_polynomial(Edition::One, sheet, coefficients).and_then(|sheet| {
+    let tested = sheet_and_polynomial(Edition::One, sheet, coefficients).and_then(|sheet| {
         first_above(coefficients, sheet.field.p).map_or(Ok(()), |at| Err(Fault::new(5, at)))?;
         if output.len() < sheet.n0 {
             return Err(Fault::new(11, sheet.n0));
         }
         Ok(sheet)
     });
-    let written = judged.map(|sheet| {
+    let written = tested.map(|sheet| {
         let table = Subgroup::of(&sheet).table(0, &elements(coefficients));
         for (word, value) in output.iter_mut().zip(table) {
             *word = value as u32;

@@ -69,18 +69,18 @@ impl Sheet {
     /// place of the first word that breaks its rule, in the order of the tests.
     pub fn read(words: &[u32]) -> Result<Sheet, usize> {
         let edition = Edition::of(words).expect("12 or 18 words");
-        Sheet::judge(edition, words)
+        Sheet::test(edition, words)
     }
 
     /// The same for words of any number; nothing if the edition has another.
     pub fn read_in(edition: Edition, words: &[u32]) -> Option<Result<Sheet, usize>> {
-        (words.len() == edition.sheet_words()).then(|| Sheet::judge(edition, words))
+        (words.len() == edition.sheet_words()).then(|| Sheet::test(edition, words))
     }
 
     /// Reads the words one after the other, each rule using only words that kept
     /// theirs. So the words of edition 2 that have folding numbers come before
     /// those whose rule asks for d_(i+1).
-    fn judge(edition: Edition, words: &[u32]) -> Result<Sheet, usize> {
+    fn test(edition: Edition, words: &[u32]) -> Result<Sheet, usize> {
         let [number, n0, d0, k_0, rounds, outs] = words[..6].try_into().expect("six words");
 
         let field = Field::numbered(number).ok_or(0_usize)?;

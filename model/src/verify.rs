@@ -1,5 +1,6 @@
-//! The judge (document 01, "Verify, prove, encode"), of both editions, with the test for
-//! equal out coins, in two steps, and with reads as openings (document 02, CR 5 to CR 8).
+//! The verifier (document 01, "Verify, prove, encode"), of both editions, with the test
+//! for equal out coins, in two steps, and with reads as openings (document 02, CR 5 to
+//! CR 8).
 
 use crate::domain::Subgroup;
 use crate::layout::{Layout, Part};
@@ -24,7 +25,7 @@ pub struct Verdict {
     pub reads: u64,
 }
 
-/// Judges a file of any bytes.
+/// Verifies a file of any bytes.
 pub fn verify(file: &[u8]) -> Verdict {
     verify_in(Edition::One, file)
 }
@@ -36,11 +37,11 @@ pub fn verify_2(file: &[u8]) -> Verdict {
 
 pub fn verify_in(edition: Edition, file: &[u8]) -> Verdict {
     let mut opened = Places::new();
-    let judged = read(edition, file)
+    let decided = read(edition, file)
         .and_then(Transcript::new)
         .and_then(|transcript| transcript.decide(&mut opened));
     Verdict {
-        outcome: outcome(judged),
+        outcome: outcome(decided),
         reads: opened.len() as u64,
     }
 }

@@ -43,7 +43,7 @@ fn blocks() {
             let [mut due, mut plain, mut tuned] = outputs();
             let answer = prove_in(edition, &sheet, &coefficients, &coins, &mut due);
             let Answer::Done(blocks) = answer else {
-                panic!("seed {seed}: the order is honest");
+                panic!("seed {seed}: the input is honest");
             };
             let counts = [
                 baseline::prove::<false>(edition, &sheet, &coefficients, &coins, &mut plain),

@@ -244,7 +244,7 @@ fn any_bytes_get_a_verdict() {
 }
 
 #[test]
-fn small_files_are_judged_quickly() {
+fn small_files_are_verified_quickly() {
     let mut rng = Rng::new(107);
     for edition in Edition::BOTH {
         let files: Vec<Vec<u8>> = (0..500)

@@ -55,7 +55,7 @@ fn the_transcript_by_hand() {
     assert_eq!(stream[18..51], STREAM[12..]);
     assert!(stream[51..].iter().all(|&fill| fill == 0));
     assert_eq!(file[508..], 7495_u32.to_le_bytes());
-    assert_eq!(judged(Two, &file), "accepted 0 0 4");
+    assert_eq!(verdict_line(Two, &file), "accepted 0 0 4");
     assert_eq!(back(&file), hand_file());
 }
 
@@ -96,8 +96,8 @@ fn there_and_back() {
         assert!((12..due).all(|word| read_word(&file, word) == read_word(&other, word + 6)));
         assert!((due + 6..all).all(|word| read_word(&other, word) == 0));
 
-        let before = judged(One, &file);
-        let after = judged(Two, &other);
+        let before = verdict_line(One, &file);
+        let after = verdict_line(Two, &other);
         let number = number_of(&before);
         let expected = match number {
             7 | 14 => {
@@ -258,7 +258,7 @@ fn files_with_faults() {
                         11 => assert_eq!(place, case.blocks as u64),
                         13 => assert!((1..=5).contains(&place)),
                         _ => {
-                            let verdict = judged(to.other(), &case.file);
+                            let verdict = verdict_line(to.other(), &case.file);
                             assert_eq!(verdict, format!("refused {number} {place} 0"));
                         }
                     }

@@ -37,14 +37,17 @@ fn the_earlier_test_wins() {
 #[test]
 fn the_first_tests_in_order() {
     let mut broken = changed(&hand_file(), &[(3, 7)]);
-    assert_eq!(judged(One, &broken), "refused 3 3 0");
+    assert_eq!(verdict_line(One, &broken), "refused 3 3 0");
     broken.resize(1024, 0);
-    assert_eq!(judged(One, &broken), "refused 2 1 0");
-    assert_eq!(judged(One, &changed(&broken, &[])), "refused 3 3 0");
-    assert_eq!(judged(One, &changed(&broken, &[(3, 2)])), "refused 4 1 0");
+    assert_eq!(verdict_line(One, &broken), "refused 2 1 0");
+    assert_eq!(verdict_line(One, &changed(&broken, &[])), "refused 3 3 0");
+    assert_eq!(
+        verdict_line(One, &changed(&broken, &[(3, 2)])),
+        "refused 4 1 0"
+    );
     broken.push(0);
-    assert_eq!(judged(One, &broken), "refused 1 0 0");
-    assert_eq!(judged(One, &changed(&broken, &[])), "refused 1 0 0");
+    assert_eq!(verdict_line(One, &broken), "refused 1 0 0");
+    assert_eq!(verdict_line(One, &changed(&broken, &[])), "refused 1 0 0");
 }
 
 #[test]
@@ -84,8 +87,8 @@ fn damage_takes_any_file() {
         for _ in 0..4 {
             let edition = rng.pick(&[edition, edition, One, Two]);
             damage(edition, &mut rng, &mut file);
-            judged(One, &file);
-            judged(Two, &file);
+            verdict_line(One, &file);
+            verdict_line(Two, &file);
         }
     }
 }

@@ -62,7 +62,7 @@ fn equal_folding_numbers_get_the_verdict_of_edition_1() {
     assert!(seen.values().all(|&count| count > 400), "{seen:?}");
 }
 
-/// Of orders with equal folding numbers prove makes the same words after the sheet
+/// Of inputs with equal folding numbers prove makes the same words after the sheet
 /// in both editions, and the same refusals.
 #[test]
 fn equal_folding_numbers_are_proved_as_in_edition_1() {
@@ -88,7 +88,7 @@ fn equal_folding_numbers_are_proved_as_in_edition_1() {
                 assert!((12..words).all(|at| read_word(&one, at) == read_word(&two, at + 6)));
                 let file = &two[..512 * other_blocks as usize];
                 let accepted = format!("accepted 0 0 {}", reads(&other, file));
-                assert_eq!(judged(Two, file), accepted);
+                assert_eq!(verdict_line(Two, file), accepted);
                 done += 1;
             }
             _ => {
@@ -108,8 +108,8 @@ fn a_file_of_both_editions() {
     stream[..7].copy_from_slice(&[0, 8, 2, 2, 0, 1, 1]);
     stream[17] = 2;
     let file = to_blocks(&stream);
-    assert_eq!(judged(One, &file), "accepted 0 0 2");
-    assert_eq!(judged(Two, &file), "accepted 0 0 2");
+    assert_eq!(verdict_line(One, &file), "accepted 0 0 2");
+    assert_eq!(verdict_line(Two, &file), "accepted 0 0 2");
 }
 
 /// But hardly any other is.

@@ -1,5 +1,5 @@
-//! Equal out coins made on purpose, in files and in orders (document 02, CR 6): what
-//! verify, prove, the converter and the baselines say of them.
+//! Equal out coins made on purpose, in files and in the prover's inputs (document 02,
+//! CR 6): what verify, prove, the converter and the baselines say of them.
 
 mod common;
 
@@ -52,7 +52,12 @@ fn verdicts() {
         for _ in 0..10_000 {
             let case = equal_outs::case(edition, &mut rng, 256);
             let expected = format!("refused {} {} 0", case.number, case.word);
-            assert_eq!(judged(edition, &case.file), expected, "{:?}", case.sheet);
+            assert_eq!(
+                verdict_line(edition, &case.file),
+                expected,
+                "{:?}",
+                case.sheet
+            );
             met.count(&case);
         }
         met.all();
@@ -78,7 +83,7 @@ fn verdicts_of_the_baselines() {
 
 /// Nothing is written, whatever the output's length is.
 #[test]
-fn orders() {
+fn prover_inputs() {
     for edition in Edition::BOTH {
         let mut rng = Rng::new(63);
         let mut met = Met::default();
@@ -117,7 +122,7 @@ fn conversions() {
         };
         second.truncate(512 * blocks as usize);
         let expected = format!("refused {} {} 0", case.number, case.word + 6);
-        assert_eq!(judged(Two, &second), expected);
+        assert_eq!(verdict_line(Two, &second), expected);
         let mut first = vec![0; case.file.len()];
         convert_to(One, &second, &mut first);
         assert_eq!(first, case.file);
@@ -131,7 +136,7 @@ fn conversions() {
         };
         first.truncate(512 * blocks as usize);
         let expected = format!("refused {} {} 0", case.number, case.word - 6);
-        assert_eq!(judged(One, &first), expected);
+        assert_eq!(verdict_line(One, &first), expected);
     }
     assert!(seen.keys().eq(&[7, 14]), "{seen:?}");
     assert!(seen.values().all(|&count| count > 500), "{seen:?}");

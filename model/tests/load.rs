@@ -2,7 +2,7 @@
 
 mod common;
 
-use common::{judged, One, SHEET};
+use common::{verdict_line, One, SHEET};
 use std::collections::BTreeSet;
 use std::process::Command;
 use tevrolig_model::domain::Subgroup;
@@ -112,29 +112,29 @@ fn permitted_values_are_those_that_sheets_keep() {
 /// The runs from the states 849, 6 and 56080, worked out by the written definition too.
 /// In the last the second out coin is drawn equal to the first, then in the domain.
 #[test]
-fn three_orders() {
+fn three_inputs() {
     let mut generator = from(849);
-    let order = generator.order();
-    assert_eq!(order.sheet, [0, 16, 8, 2, 1, 1, 1, 10, 0, 0, 0, 0]);
-    assert_eq!(order.coefficients, [2, 14, 2, 11, 15, 7, 15, 4]);
+    let input = generator.draw_input();
+    assert_eq!(input.sheet, [0, 16, 8, 2, 1, 1, 1, 10, 0, 0, 0, 0]);
+    assert_eq!(input.coefficients, [2, 14, 2, 11, 15, 7, 15, 4]);
     let coins = [0, 2, 1, 16, 0, 1, 0, 3, 1, 1, 0, 0, 1, 0, 3];
-    assert_eq!(order.coins, coins);
+    assert_eq!(input.coins, coins);
     assert_eq!(generator.v, 2168865843);
 
     let mut generator = from(6);
-    let order = generator.order();
-    assert_eq!(order.sheet, WORKED_SHEET);
-    assert_eq!(order.coefficients, [0, 9, 0, 0, 0, 3, 9, 3]);
-    assert_eq!(order.coins, [11, 9, 8, 12, 0, 3]);
+    let input = generator.draw_input();
+    assert_eq!(input.sheet, WORKED_SHEET);
+    assert_eq!(input.coefficients, [0, 9, 0, 0, 0, 3, 9, 3]);
+    assert_eq!(input.coins, [11, 9, 8, 12, 0, 3]);
     assert_eq!(generator.v, 509620375);
 
     let mut generator = from(56080);
-    let order = generator.order();
-    assert_eq!(order.sheet, [0, 16, 8, 2, 1, 2, 1, 2, 0, 0, 0, 0]);
-    assert_eq!(order.coefficients, [8, 10, 2, 11, 10, 6, 1, 9]);
-    assert_eq!(order.coins, [9, 16, 8, 15, 10, 6, 1, 0]);
+    let input = generator.draw_input();
+    assert_eq!(input.sheet, [0, 16, 8, 2, 1, 2, 1, 2, 0, 0, 0, 0]);
+    assert_eq!(input.coefficients, [8, 10, 2, 11, 10, 6, 1, 9]);
+    assert_eq!(input.coins, [9, 16, 8, 15, 10, 6, 1, 0]);
     assert_eq!(generator.v, 1591568000);
-    assert!(equal_coin_drawn(&from(56080), &order));
+    assert!(equal_coin_drawn(&from(56080), &input));
 }
 
 /// From 6 the words 0 to 6 are drawn, and then no t_1 is left: seven steps, the worked
@@ -254,7 +254,7 @@ fn second_out_coins_drawn_again() {
 /// The coins of runs with two out coins in field 0, from the draws one by one: in one
 /// of nine the first draw outside the domain is the first coin again.
 #[test]
-fn equal_coins_of_drawn_orders() {
+fn equal_coins_of_drawn_inputs() {
     let (mut pairs, mut equal) = (0, 0);
     for v in 1..100_000 {
         let mut generator = from(v);
@@ -281,21 +281,21 @@ fn equal_coins_of_drawn_orders() {
         let [combination, fold] = [generator.below(17), generator.below(17)];
         let shift = generator.below(8);
 
-        let order = from(v).order();
+        let input = from(v).draw_input();
         let coins = [first, second, combination, fold, shift];
-        assert_eq!(order.coins[1..6], coins, "{v}");
-        assert_eq!(equal_coin_drawn(&from(v), &order), again);
-        assert!(order.promised() == line_of(&order), "{v}");
+        assert_eq!(input.coins[1..6], coins, "{v}");
+        assert_eq!(equal_coin_drawn(&from(v), &input), again);
+        assert!(input.promised() == line_of(&input), "{v}");
         pairs += 1;
         equal += usize::from(again);
     }
     assert!(pairs > 150 && equal > 10, "{equal} of {pairs}");
 }
 
-/// The verdict line of an order's honest file.
-fn line_of(order: &Order) -> String {
-    let file = honest_file(&order.sheet, &order.coefficients, &order.coins);
-    judged(One, &file)
+/// The verdict line of an input's honest file.
+fn line_of(input: &ProverInput) -> String {
+    let file = honest_file(&input.sheet, &input.coefficients, &input.coins);
+    verdict_line(One, &file)
 }
 
 /// In field 0 nearly half of the elements lie in domain 1, so that coins are drawn
@@ -305,20 +305,20 @@ fn drawn_coins_are_allowed() {
     let (mut again, mut rounds, mut sheets) = (0, 0, BTreeSet::new());
     for v in 1..3000 {
         let mut generator = from(v);
-        let order = generator.order();
-        let sheet = Sheet::read(&order.sheet).unwrap();
-        sheets.insert(order.sheet);
-        if order.sheet[..5] != [0, 16, 8, 2, 1] {
+        let input = generator.draw_input();
+        let sheet = Sheet::read(&input.sheet).unwrap();
+        sheets.insert(input.sheet);
+        if input.sheet[..5] != [0, 16, 8, 2, 1] {
             continue;
         }
         rounds += 1;
         let domain = Subgroup::of(&sheet).domain(1);
-        let outs = &order.coins[1..1 + sheet.outs];
+        let outs = &input.coins[1..1 + sheet.outs];
         assert!(outs.iter().all(|&coin| !domain.contains(&coin.into())));
         assert!(outs.len() == 1 || outs[0] != outs[1]);
         let mut least = from(v);
         least.sheet();
-        for _ in 0..8 + order.coins.len() {
+        for _ in 0..8 + input.coins.len() {
             least.step();
         }
         again += usize::from(least != generator);
@@ -334,7 +334,7 @@ fn every_line_is_accepted() {
         let lines = lines(seed);
         assert_eq!(lines.len(), 1000);
         assert!(lines.iter().all(|line| line.starts_with("accepted 0 0 ")));
-        assert_eq!(lines, lines_by(seed, Order::promised), "seed {seed}");
+        assert_eq!(lines, lines_by(seed, ProverInput::promised), "seed {seed}");
         kinds.extend(lines);
     }
     assert!(kinds.len() > 150, "{}", kinds.len());
@@ -350,8 +350,8 @@ fn the_stored_load() {
     let mut generator = from(seed);
     let equal = (0..1000).filter(|_| {
         let before = generator.clone();
-        let order = generator.order();
-        order.sheet[4] > 0 && order.sheet[5] == 2 && equal_coin_drawn(&before, &order)
+        let input = generator.draw_input();
+        input.sheet[4] > 0 && input.sheet[5] == 2 && equal_coin_drawn(&before, &input)
     });
     assert!(equal.count() > 0);
 }
@@ -360,15 +360,15 @@ fn the_stored_load() {
 #[test]
 fn one_generator() {
     let mut generator = from(77);
-    let mut orders = orders(77);
+    let mut inputs = drawn_inputs(77);
     for _ in 0..1000 {
-        assert_eq!(orders.next(), Some(generator.order()));
+        assert_eq!(inputs.next(), Some(generator.draw_input()));
     }
-    assert_eq!(orders.next(), None);
+    assert_eq!(inputs.next(), None);
 }
 
 #[test]
-fn the_program_prints_lines_and_orders() {
+fn the_program_prints_lines_and_inputs() {
     let printed = |arguments: &[&str]| {
         let program = env!("CARGO_BIN_EXE_load");
         let output = Command::new(program).args(arguments).output().unwrap();
@@ -376,8 +376,8 @@ fn the_program_prints_lines_and_orders() {
     };
     assert_eq!(printed(&["0"]), "refused 12 0 0\n");
     assert_eq!(printed(&["1"]), lines(1).join("\n") + "\n");
-    let orders = printed(&["6", "orders"]);
-    assert_eq!(orders.lines().count(), 1000);
+    let inputs = printed(&["6", "inputs"]);
+    assert_eq!(inputs.lines().count(), 1000);
     let first = "0 16 8 2 1 1 1 1 0 0 0 0 | 0 9 0 0 0 3 9 3 | 11 9 8 12 0 3";
-    assert_eq!(orders.lines().next(), Some(first));
+    assert_eq!(inputs.lines().next(), Some(first));
 }

@@ -116,7 +116,7 @@ fn p10_the_whole_file() {
     assert_eq!(file.to_vec(), hand_file());
     assert_eq!(to_blocks(&STREAM), hand_file());
     assert_eq!(u32::from_le_bytes(file[508..].try_into().unwrap()), 6143);
-    assert_eq!(judged(One, &file), "accepted 0 0 4");
+    assert_eq!(verdict_line(One, &file), "accepted 0 0 4");
 
     let mut table = [0; 16];
     let answer = encode(&SHEET, &COEFFICIENTS, &mut table);
@@ -127,20 +127,20 @@ fn p10_the_whole_file() {
 #[test]
 fn p11_wrong_final_coefficient() {
     let file = changed(&hand_file(), &[(FINAL, 15)]);
-    assert_eq!(judged(One, &file), "refused 9 0 4");
+    assert_eq!(verdict_line(One, &file), "refused 9 0 4");
 }
 
 #[test]
 fn p12_clash() {
     let file = changed(&hand_file(), &[(OUT, 9), (REPLY, 5)]);
-    assert_eq!(judged(One, &file), "refused 8 1 2");
+    assert_eq!(verdict_line(One, &file), "refused 8 1 2");
 }
 
 #[test]
 fn p13_one_point_twice() {
     let changes = [(OUT, 9), (REPLY, 16), (FINAL, 0), (FINAL + 1, 15)];
     let file = changed(&hand_file(), &changes);
-    assert_eq!(judged(One, &file), "accepted 0 0 4");
+    assert_eq!(verdict_line(One, &file), "accepted 0 0 4");
 
     let coins = [2, 9, 3, 4, 0, 1];
     let mut honest = [0; 512];
@@ -153,7 +153,7 @@ fn p13_one_point_twice() {
 #[test]
 fn p14_out_coin_in_the_domain() {
     let file = changed(&hand_file(), &[(OUT, 3)]);
-    assert_eq!(judged(One, &file), "refused 7 37 0");
+    assert_eq!(verdict_line(One, &file), "refused 7 37 0");
 }
 
 #[test]
@@ -176,10 +176,10 @@ fn edges() {
     assert_eq!(edge(&[1, 256, 128, 2, 1, 2, 48, 48]), Ok(()));
     assert_eq!(edge(&[1, 256, 128, 2, 1, 2, 49, 48]), Err(6));
     assert_eq!(edge(&[1, 256, 128, 2, 1, 2, 48, 49]), Err(7));
-    assert_eq!(judged(One, &[]), "refused 1 0 0");
+    assert_eq!(verdict_line(One, &[]), "refused 1 0 0");
 
     // The same through whole files.
-    let of_sheet = |changes: &[(usize, u32)]| judged(One, &changed(&hand_file(), changes));
+    let of_sheet = |changes: &[(usize, u32)]| verdict_line(One, &changed(&hand_file(), changes));
     assert_eq!(of_sheet(&[(1, 32)]), "refused 3 1 0");
     assert_eq!(of_sheet(&[(6, 3)]), "refused 3 6 0");
     for t in [49, 64, 65] {
@@ -197,5 +197,5 @@ fn the_smallest_sheet_by_hand() {
     assert_eq!(answer, Answer::Done(1));
     let stream: Vec<u32> = (12..21).map(|word| read_word(&file, word)).collect();
     assert_eq!(stream, [10, 16, 9, 3, 3, 7, 0, 1, 0]);
-    assert_eq!(judged(One, &file), "accepted 0 0 4");
+    assert_eq!(verdict_line(One, &file), "accepted 0 0 4");
 }

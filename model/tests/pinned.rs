@@ -10,7 +10,7 @@ use tevrolig_model::stream::{read_word, BLOCK_BYTES};
 use tevrolig_model::{prove, Answer};
 
 /// Proves, compares the check words, which every word of a block goes into, and has
-/// the file judged.
+/// the file verified.
 fn proved(
     sheet: &[u32],
     coefficients: &[u32],
@@ -25,7 +25,10 @@ fn proved(
     for (block, check) in file.chunks(BLOCK_BYTES).zip(checks) {
         assert_eq!(block[508..], check.to_le_bytes());
     }
-    assert_eq!(judged(edition, &file), format!("accepted 0 0 {reads}"));
+    assert_eq!(
+        verdict_line(edition, &file),
+        format!("accepted 0 0 {reads}")
+    );
     file
 }
 
@@ -105,7 +108,7 @@ fn fours_over_the_large_field() {
     let out = 12 + 64 + 1 + 32;
     for reply in [793160831, 1835118651] {
         let equal = changed(&file, &[(out + 1, 5), (out + 3, reply)]);
-        assert_eq!(judged(One, &equal), "refused 14 110 0");
+        assert_eq!(verdict_line(One, &equal), "refused 14 110 0");
     }
 }
 
@@ -127,7 +130,7 @@ fn the_transcript_by_hand() {
         (&[(51, 1)], "refused 6 51 0"),
     ];
     for (changes, line) in cases {
-        assert_eq!(judged(Two, &changed(&file, changes)), line);
+        assert_eq!(verdict_line(Two, &changed(&file, changes)), line);
     }
 }
 

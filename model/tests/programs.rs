@@ -65,13 +65,13 @@ fn check_prints_one_line() {
 }
 
 #[test]
-fn check_judges_the_first_65536_bytes() {
+fn check_verifies_the_first_65536_bytes() {
     let mut long = hand_file();
     long.resize(65_536, 0);
     let mut long = changed(&long, &[]);
     assert_eq!(check(&long), "refused 4 1 0\n");
     long.extend([1, 2, 3]);
-    assert_eq!(judged(One, &long), "refused 1 0 0");
+    assert_eq!(verdict_line(One, &long), "refused 1 0 0");
     assert_eq!(check(&long), "refused 4 1 0\n");
 }
 
@@ -85,7 +85,7 @@ fn definition_cases_are_small_and_of_every_kind() {
     for case in text.lines() {
         let (hexadecimal, verdict) = case.split_once(' ').unwrap();
         let file = bytes(hexadecimal);
-        assert_eq!(judged(One, &file), verdict);
+        assert_eq!(verdict_line(One, &file), verdict);
         assert!(file.len() <= 1024);
         empty += usize::from(file.is_empty());
         let kind = verdict.split(' ').nth(1).unwrap();
@@ -111,7 +111,7 @@ fn definition_cases_of_edition_2() {
     for case in text.lines() {
         let (hexadecimal, verdict) = case.split_once(' ').unwrap();
         let file = bytes(hexadecimal);
-        assert_eq!(judged(Two, &file), verdict);
+        assert_eq!(verdict_line(Two, &file), verdict);
         assert!(file.len() <= 1024);
         let kind = verdict.split(' ').nth(1).unwrap();
         *kinds.entry(kind.to_string()).or_default() += 1;
@@ -193,7 +193,7 @@ fn cases_of_the_gate() {
             assert!(met, "{step} {kind}");
         }
     }
-    assert!(equal_coins_drawn(&cases(&["1", "150", "orders"])) > 15);
+    assert!(equal_coins_drawn(&cases(&["1", "150", "inputs"])) > 15);
 }
 
 /// The repeats in files that pass reading.
@@ -222,8 +222,8 @@ fn equal_coins_drawn(text: &str) -> usize {
         let before = Generator {
             v: v.parse().unwrap(),
         };
-        let order = before.clone().order();
-        order.sheet[4] > 0 && order.sheet[5] == 2 && equal_coin_drawn(&before, &order)
+        let input = before.clone().draw_input();
+        input.sheet[4] > 0 && input.sheet[5] == 2 && equal_coin_drawn(&before, &input)
     };
     text.lines().filter(drawn).count()
 }
@@ -261,18 +261,18 @@ fn conversions_are_small_and_of_every_kind() {
 }
 
 #[test]
-fn drawn_orders_are_short_and_of_every_kind() {
-    let text = cases(&["9", "400", "orders"]);
+fn drawn_inputs_are_short_and_of_every_kind() {
+    let text = cases(&["9", "400", "inputs"]);
     assert_eq!(text.lines().count(), 400);
     let (mut worked, mut rounds, mut fields) = (0, 0, [0; 3]);
     for case in text.lines() {
         let (v, rest) = case.split_once(" | ").unwrap();
-        let (next, order) = rest.split_once(" | ").unwrap();
+        let (next, input) = rest.split_once(" | ").unwrap();
         let mut generator = Generator {
             v: v.parse().unwrap(),
         };
-        let drawn = generator.order();
-        assert_eq!(drawn.to_string(), order);
+        let drawn = generator.draw_input();
+        assert_eq!(drawn.to_string(), input);
         assert_eq!(generator.v.to_string(), next);
         assert!(drawn.coefficients.len() + drawn.coins.len() <= 100);
         worked += usize::from(drawn.sheet == WORKED_SHEET);

@@ -51,7 +51,7 @@ fn encoded(sheet: &[u32], coefficients: &[u32], length: usize) -> (u32, u64) {
     }
 }
 
-/// What prove says of a sample's order with another list.
+/// What prove says of a sample's input with another list.
 trait Proves {
     fn with_sheet(&self, sheet: &[u32], length: usize) -> (u32, u64);
     fn with_lists(&self, coefficients: &[u32], coins: &[u32], length: usize) -> (u32, u64);

@@ -9,7 +9,7 @@ use tevrolig_model::convert::with_equal_folds;
 use tevrolig_model::generate::repeats::{self, reads_due, Met};
 use tevrolig_model::generate::{self, Rng};
 use tevrolig_model::layout::Part;
-use tevrolig_model::load::orders;
+use tevrolig_model::load::drawn_inputs;
 use tevrolig_model::stream::read_word;
 use tevrolig_model::verify::verify_in;
 use tevrolig_model::Outcome;
@@ -33,7 +33,7 @@ fn the_transcript_by_hand() {
         let coins = [&COINS[..4], shifts, finals].concat();
         for sheet in [with_equal_folds(&sheet), sheet] {
             let file = generate::honest_file(&sheet, &COEFFICIENTS, &coins);
-            assert_eq!(judged(edition(&sheet), &file), accepted, "{coins:?}");
+            assert_eq!(verdict_line(edition(&sheet), &file), accepted, "{coins:?}");
         }
     }
 }
@@ -63,13 +63,14 @@ fn one_index_in_two_rounds() {
     let reads = [[2, 2 + 2, 2 + 2 + 2], [16, 16 + 4, 16 + 4 + 2]];
     for ((sample, levels), [one, two, all]) in samples().iter().zip(lists).zip(reads) {
         let file = with_indices(sample, levels);
-        let judged = |changes: &[(usize, u32)]| judged(sample.edition, &changed(&file, changes));
-        assert_eq!(judged(&[]), format!("accepted 0 0 {all}"));
+        let verdict_line =
+            |changes: &[(usize, u32)]| verdict_line(sample.edition, &changed(&file, changes));
+        assert_eq!(verdict_line(&[]), format!("accepted 0 0 {all}"));
         for (i, reads) in [(1, one), (2, two)] {
             let k = u64::from(fold(sample.words, i - 1));
             let point = sample.sheet.field.pow(sample.subgroup.point(i - 1, 5), k);
             let out = sample.layout.range(Part::OutCoins(i)).start;
-            let clash = judged(&[(out, point as u32)]);
+            let clash = verdict_line(&[(out, point as u32)]);
             assert_eq!(clash, format!("refused 8 {i} {reads}"));
         }
     }
@@ -94,7 +95,7 @@ fn repeats_in_a_round_that_clashes() {
                 for out in sample.layout.range(Part::OutCoins(i)) {
                     let clash = changed(&file, &[(out, power)]);
                     let refused = format!("refused 8 {i} {reads}");
-                    assert_eq!(judged(sample.edition, &clash), refused);
+                    assert_eq!(verdict_line(sample.edition, &clash), refused);
                 }
             }
         }
@@ -129,15 +130,16 @@ fn repeats_around_a_failing_coin() {
             coins[at..at + indices.len()].copy_from_slice(indices);
         }
         let file = generate::honest_file(&sheet, &coefficients, &coins);
-        let judged = |changes: &[(usize, u32)]| judged(edition(&sheet), &changed(&file, changes));
-        assert_eq!(judged(&[]), format!("accepted 0 0 {}", 4 + 4 * 6));
+        let verdict_line =
+            |changes: &[(usize, u32)]| verdict_line(edition(&sheet), &changed(&file, changes));
+        assert_eq!(verdict_line(&[]), format!("accepted 0 0 {}", 4 + 4 * 6));
         let table = layout.range(Part::Table(1)).start;
         for (index, place, different) in cases {
             for m in 0..4 {
                 let word = table + index + 8 * m;
                 let other = (word, (read_word(&file, word) + 1) % 2013265921);
                 let refused = format!("refused 9 {place} {}", 4 + 4 * different);
-                assert_eq!(judged(&[other]), refused);
+                assert_eq!(verdict_line(&[other]), refused);
             }
         }
     }
@@ -168,7 +170,7 @@ fn lists_of_every_length() {
             let accepted = format!("accepted 0 0 {}", 2 * different.len());
             for sheet in [sheet.to_vec(), with_equal_folds(&sheet)] {
                 let file = generate::honest_file(&sheet, &coefficients, &coins);
-                assert_eq!(judged(edition(&sheet), &file), accepted, "{finals:?}");
+                assert_eq!(verdict_line(edition(&sheet), &file), accepted, "{finals:?}");
                 agree_with_baselines(edition(&sheet), &file);
             }
         }
@@ -233,9 +235,9 @@ fn repeats_in_other_files() {
 #[test]
 fn repeats_in_the_load() {
     let repeats = |seed: u32| {
-        let fewer = orders(seed).filter(|order| {
-            let coins: u32 = order.sheet[3] * order.sheet[6..].iter().sum::<u32>();
-            order.promised() != format!("accepted 0 0 {coins}")
+        let fewer = drawn_inputs(seed).filter(|input| {
+            let coins: u32 = input.sheet[3] * input.sheet[6..].iter().sum::<u32>();
+            input.promised() != format!("accepted 0 0 {coins}")
         });
         fewer.count()
     };

@@ -12,12 +12,12 @@ use tevrolig_model::stream::read_word;
 fn length_1() {
     for Sample { edition, file, .. } in samples() {
         for length in [0, 1, 4, 511, file.len() - 1] {
-            assert_eq!(judged(edition, &file[..length]), "refused 1 0 0");
+            assert_eq!(verdict_line(edition, &file[..length]), "refused 1 0 0");
         }
         for extra in [1, 4, 511] {
             let mut longer = file.clone();
             longer.resize(file.len() + extra, 0);
-            assert_eq!(judged(edition, &longer), "refused 1 0 0");
+            assert_eq!(verdict_line(edition, &longer), "refused 1 0 0");
         }
     }
 }
@@ -31,16 +31,19 @@ fn check_2() {
             for byte in [0, 17, 400, 508, 511] {
                 let mut wrong = file.clone();
                 wrong[512 * b + byte] ^= 0x40;
-                assert_eq!(judged(edition, &wrong), format!("refused 2 {b} 0"));
+                assert_eq!(verdict_line(edition, &wrong), format!("refused 2 {b} 0"));
                 // A later wrong block changes nothing.
                 wrong[512 * (blocks - 1) + 100] ^= 1;
-                assert_eq!(judged(edition, &wrong), format!("refused 2 {b} 0"));
+                assert_eq!(verdict_line(edition, &wrong), format!("refused 2 {b} 0"));
             }
         }
         // A block too many with a wrong check is 2, not 4.
         let mut longer = file.clone();
         longer.resize(file.len() + 512, 0);
-        assert_eq!(judged(edition, &longer), format!("refused 2 {blocks} 0"));
+        assert_eq!(
+            verdict_line(edition, &longer),
+            format!("refused 2 {blocks} 0")
+        );
     }
 }
 
@@ -50,12 +53,12 @@ fn check_words_are_canonical_remainders() {
         // A lone word w at place 0 makes the check w + 1 modulo 4294967291.
         let mut file = vec![0; 512];
         file[..4].copy_from_slice(&4294967290_u32.to_le_bytes());
-        assert_eq!(judged(edition, &file), "refused 3 0 0");
+        assert_eq!(verdict_line(edition, &file), "refused 3 0 0");
         file[508..].copy_from_slice(&4294967291_u32.to_le_bytes());
-        assert_eq!(judged(edition, &file), "refused 2 0 0");
+        assert_eq!(verdict_line(edition, &file), "refused 2 0 0");
         // Every word at its greatest.
         let file = changed(&vec![0xFF; 1024], &[]);
-        assert_eq!(judged(edition, &file), "refused 3 0 0");
+        assert_eq!(verdict_line(edition, &file), "refused 3 0 0");
     }
 }
 
@@ -69,12 +72,12 @@ fn block_count_4() {
         for present in [1, blocks - 1, blocks + 1, blocks + 40] {
             let mut other = file.clone();
             other.resize(512 * present, 0);
-            assert_eq!(judged(*edition, &changed(&other, &[])), expected);
+            assert_eq!(verdict_line(*edition, &changed(&other, &[])), expected);
         }
         // Beyond the need contents do not matter, only checks.
         let mut longer = file.clone();
         longer.resize(file.len() + 512, 0xEE);
-        assert_eq!(judged(*edition, &changed(&longer, &[])), expected);
+        assert_eq!(verdict_line(*edition, &changed(&longer, &[])), expected);
     }
 }
 
@@ -95,7 +98,7 @@ fn a_stream_that_ends_with_its_block_has_no_fill() {
         let mut longer = honest(&mut rng, &sheet, false);
         longer.resize(1024, 0);
         let longer = changed(&longer, &[]);
-        assert_eq!(judged(edition(&sheet), &longer), "refused 4 1 0");
+        assert_eq!(verdict_line(edition(&sheet), &longer), "refused 4 1 0");
     }
 }
 
@@ -131,10 +134,10 @@ fn range_5() {
             for word in [first, (first + last) / 2, last] {
                 for value in [limit, limit + 1, u32::MAX] {
                     let refused = format!("refused 5 {word} 0");
-                    assert_eq!(sample.judged(&[(word, value)]), refused);
+                    assert_eq!(sample.verdict_line(&[(word, value)]), refused);
                     // The fault behind it changes nothing.
                     let also = (sample.layout.words() - 1, u32::MAX);
-                    assert_eq!(sample.judged(&[(word, value), also]), refused);
+                    assert_eq!(sample.verdict_line(&[(word, value), also]), refused);
                 }
                 assert_ne!(sample.number(&[(word, limit - 1)]), 5);
             }
@@ -150,11 +153,11 @@ fn fill_6() {
         for word in [first, (first + end) / 2, end - 1] {
             for value in [1, 65537, u32::MAX] {
                 let refused = format!("refused 6 {word} 0");
-                assert_eq!(sample.judged(&[(word, value)]), refused);
+                assert_eq!(sample.verdict_line(&[(word, value)]), refused);
             }
         }
         let both = [(end - 1, 1), (first, 1)];
-        assert_eq!(sample.judged(&both), format!("refused 6 {first} 0"));
+        assert_eq!(sample.verdict_line(&both), format!("refused 6 {first} 0"));
     }
 }
 
@@ -169,7 +172,7 @@ fn out_coin_7() {
             for word in layout.range(Part::OutCoins(i)) {
                 for j in [0, domain.len() / 3, domain.len() - 1] {
                     let inside = [(word, domain[j] as u32)];
-                    assert_eq!(sample.judged(&inside), format!("refused 7 {word} 0"));
+                    assert_eq!(sample.verdict_line(&inside), format!("refused 7 {word} 0"));
                 }
             }
         }
@@ -182,10 +185,13 @@ fn out_coin_7() {
         let shift = layout.range(Part::ShiftIndices(1)).start;
         let out = layout.range(Part::OutCoins(1)).start;
         let clash = (out, sample.shift_point(1, shift));
-        assert_eq!(sample.judged(&[clash]), format!("refused 8 1 {reads}"));
+        assert_eq!(
+            sample.verdict_line(&[clash]),
+            format!("refused 8 1 {reads}")
+        );
         let inside = (word, subgroup.point(2, 0) as u32);
         let refused = format!("refused 7 {word} 0");
-        assert_eq!(sample.judged(&[clash, inside]), refused);
+        assert_eq!(sample.verdict_line(&[clash, inside]), refused);
     }
 }
 
@@ -203,10 +209,10 @@ fn equal_out_coins_14() {
             let shift = layout.range(Part::ShiftIndices(i)).start;
             for coin in [coins[0], coins[1], 0, sample.shift_point(i, shift)] {
                 let equal = [(first, coin), (second, coin)];
-                assert_eq!(sample.judged(&equal), refused);
+                assert_eq!(sample.verdict_line(&equal), refused);
                 for replies in [[5, 5], [5, 6], [0, 0]] {
                     let [a, b] = [(first + 2, replies[0]), (second + 2, replies[1])];
-                    assert_eq!(sample.judged(&[equal[0], equal[1], a, b]), refused);
+                    assert_eq!(sample.verdict_line(&[equal[0], equal[1], a, b]), refused);
                 }
             }
         }
@@ -224,33 +230,36 @@ fn equal_out_coins_in_the_order_of_tests() {
         let equal = |out: usize| (out + 1, read_word(&sample.file, out));
         let at = |number: u32, word: usize| format!("refused {number} {word} 0");
         // Of two rounds the first counts.
-        assert_eq!(sample.judged(&[equal(one), equal(two)]), at(14, one + 1));
-        assert_eq!(sample.judged(&[equal(two)]), at(14, two + 1));
+        assert_eq!(
+            sample.verdict_line(&[equal(one), equal(two)]),
+            at(14, one + 1)
+        );
+        assert_eq!(sample.verdict_line(&[equal(two)]), at(14, two + 1));
         // A 7 in the other round.
         for (i, inside, equal_one) in [(1, one, two), (1, one + 1, two), (2, two, one)] {
             let moved = (inside, subgroup.point(i, 3) as u32);
             let changes = [moved, equal(equal_one)];
-            assert_eq!(sample.judged(&changes), at(7, inside));
+            assert_eq!(sample.verdict_line(&changes), at(7, inside));
         }
         // Equal coins in their domain.
         for (i, out) in [(1, one), (2, two)] {
             let point = subgroup.point(i, 0) as u32;
             let inside = [(out, point), (out + 1, point)];
-            assert_eq!(sample.judged(&inside), at(7, out));
+            assert_eq!(sample.verdict_line(&inside), at(7, out));
         }
         // An 8 in the first round, and a 9; then ranges and the fill.
         let shift = layout.range(Part::ShiftIndices(1)).start;
         let clash = (one, sample.shift_point(1, shift));
         assert_eq!(sample.number(&[clash]), 8);
-        assert_eq!(sample.judged(&[clash, equal(two)]), at(14, two + 1));
+        assert_eq!(sample.verdict_line(&[clash, equal(two)]), at(14, two + 1));
         let last = layout.range(Part::FinalCoefficients).start;
         let other = (last, (read_word(&sample.file, last) + 1) % 65537);
         assert_eq!(sample.number(&[other]), 9);
-        assert_eq!(sample.judged(&[other, equal(two)]), at(14, two + 1));
+        assert_eq!(sample.verdict_line(&[other, equal(two)]), at(14, two + 1));
         let (fill, above) = (layout.words(), layout.words() - 1);
-        assert_eq!(sample.judged(&[equal(one), (fill, 1)]), at(6, fill));
+        assert_eq!(sample.verdict_line(&[equal(one), (fill, 1)]), at(6, fill));
         let range = [equal(one), (above, u32::MAX)];
-        assert_eq!(sample.judged(&range), at(5, above));
+        assert_eq!(sample.verdict_line(&range), at(5, above));
     }
 }
 
@@ -262,7 +271,7 @@ fn other_equal_words() {
     let coins = with(&COINS, &[(1, 16), (2, 16)]);
     let file = generate::honest_file(&SHEET, &COEFFICIENTS, &coins);
     assert_eq!([OUT, REPLY].map(|word| read_word(&file, word)), [16, 16]);
-    assert_eq!(judged(One, &file), "accepted 0 0 4");
+    assert_eq!(verdict_line(One, &file), "accepted 0 0 4");
 
     for sample in samples() {
         let layout = &sample.layout;
@@ -278,7 +287,7 @@ fn other_equal_words() {
             let coins = with(&sample.coins, &changes);
             let file = generate::honest_file(sample.words, &sample.coefficients, &coins);
             let accepted = format!("accepted 0 0 {}", reads(sample.words, &file));
-            assert_eq!(judged(sample.edition, &file), accepted);
+            assert_eq!(verdict_line(sample.edition, &file), accepted);
         }
     }
 }
@@ -295,7 +304,7 @@ fn clash_8() {
             for word in layout.range(Part::ShiftIndices(i)) {
                 let power = sample.shift_point(i, word);
                 for out in outs.clone() {
-                    assert_eq!(sample.judged(&[(out, power)]), expected);
+                    assert_eq!(sample.verdict_line(&[(out, power)]), expected);
                 }
             }
         }
@@ -306,7 +315,7 @@ fn clash_8() {
             (out, sample.shift_point(i, shift))
         };
         let expected = format!("refused 8 1 {}", reads[0]);
-        assert_eq!(sample.judged(&[clash(1), clash(2)]), expected);
+        assert_eq!(sample.verdict_line(&[clash(1), clash(2)]), expected);
     }
 }
 
@@ -326,10 +335,11 @@ fn comparison_9() {
         let indices = layout.range(Part::FinalIndices);
         let spread: Vec<(usize, u32)> = indices.clone().zip([0, 1, 2, 3, 4, 5, 6, 7, 0]).collect();
         let file = changed(&honest, &spread);
-        let judged = |changes: &[(usize, u32)]| judged(edition, &changed(&file, changes));
+        let verdict_line =
+            |changes: &[(usize, u32)]| verdict_line(edition, &changed(&file, changes));
         // The last index opens nothing new.
         let accepted = |different: usize| format!("accepted 0 0 {}", before + 4 * different);
-        assert_eq!(judged(&[]), accepted(8));
+        assert_eq!(verdict_line(&[]), accepted(8));
 
         // A wrong table word under one index fails at its first place alone.
         let table = layout.range(Part::Table(1)).start;
@@ -339,14 +349,17 @@ fn comparison_9() {
                 let value = (read_word(&file, word) + 1) % 2013265921;
                 let reads = before + 4 * (index + 1);
                 let refused = format!("refused 9 {index} {reads}");
-                assert_eq!(judged(&[(word, value)]), refused);
+                assert_eq!(verdict_line(&[(word, value)]), refused);
             }
         }
         // At the last position, where the index is moved there.
         let moved = [(indices.start, 1), (table, read_word(&file, table) ^ 1)];
-        assert_eq!(judged(&moved), format!("refused 9 8 {}", before + 4 * 8));
+        assert_eq!(
+            verdict_line(&moved),
+            format!("refused 9 8 {}", before + 4 * 8)
+        );
         // Words that no coin leads to are tested for their range alone.
         let unused: Vec<(usize, u32)> = indices.map(|word| (word, 1)).chain([moved[1]]).collect();
-        assert_eq!(judged(&unused), accepted(1));
+        assert_eq!(verdict_line(&unused), accepted(1));
     }
 }

@@ -202,7 +202,7 @@ fn places_by_hand() {
             assert_eq!(found(&words), Some(place), "{changes:?}");
             assert_eq!(first_broken(&words), Some(place), "{changes:?}");
             let refused = format!("refused 3 {place} 0");
-            assert_eq!(sample.judged(changes), refused, "{changes:?}");
+            assert_eq!(sample.verdict_line(changes), refused, "{changes:?}");
         }
         for changes in fine {
             assert_eq!(found(&with(sample.words, changes)), None, "{changes:?}");
@@ -300,10 +300,10 @@ fn one_fault_and_two() {
                 .collect();
             for (turn, &first) in faults.iter().enumerate() {
                 let refused = format!("refused 3 {} 0", first.0);
-                assert_eq!(judged(edition, &changed(&file, &[first])), refused);
+                assert_eq!(verdict_line(edition, &changed(&file, &[first])), refused);
                 let second = rng.pick(&faults[turn..]);
                 let both = changed(&file, &[first, second]);
-                assert_eq!(judged(edition, &both), refused, "{sheet:?}");
+                assert_eq!(verdict_line(edition, &both), refused, "{sheet:?}");
                 let third = rng.pick(&faults[turn..]);
                 let all = with(&sheet, &[first, second, third]);
                 assert_eq!(found(&all), Some(first.0), "{all:?}");

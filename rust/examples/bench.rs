@@ -30,8 +30,8 @@ fn least<const N: usize>(calls: usize, mut work: [&mut dyn FnMut(); N]) -> [f64;
     best
 }
 
-/// What a sheet's honest run needs.
-struct Order {
+/// An honest run: what the prover is given, and its file.
+struct HonestRun {
     edition: Edition,
     sheet: Vec<u32>,
     coefficients: Vec<u32>,
@@ -39,12 +39,12 @@ struct Order {
     file: Vec<u8>,
 }
 
-impl Order {
+impl HonestRun {
     fn new(sheet: &[u32]) -> Self {
         let mut rng = Rng::new(7);
         let coefficients = generate::coefficients(&mut rng, sheet);
         let coins = generate::coins(&mut rng, sheet, false);
-        Order {
+        HonestRun {
             edition: Edition::of(sheet).expect("a sheet"),
             sheet: sheet.to_vec(),
             file: generate::honest_file(sheet, &coefficients, &coins),
@@ -107,7 +107,7 @@ impl Order {
             [
                 &mut || {
                     let answer = prove(black_box(sheet), f, coins, proved);
-                    black_box(answer.expect("an honest order"));
+                    black_box(answer.expect("an honest input"));
                 },
                 &mut || {
                     let sheet = black_box(sheet);
@@ -134,7 +134,7 @@ impl Order {
             [
                 &mut || {
                     let answer = tevrolig::encode(black_box(sheet), f, proved);
-                    black_box(answer.expect("an honest order"));
+                    black_box(answer.expect("an honest input"));
                 },
                 &mut || {
                     black_box(baseline::encode::<false>(black_box(sheet), f, plain));
@@ -149,9 +149,9 @@ impl Order {
     }
 }
 
-/// A row: the ratios of the first time to each other, the times, and the order.
-fn show(what: &str, order: &Order, times: &[f64]) {
-    let words: Vec<String> = order.sheet.iter().map(u32::to_string).collect();
+/// A row: the ratios of the first time to each other, the times, and the sheet.
+fn show(what: &str, run: &HonestRun, times: &[f64]) {
+    let words: Vec<String> = run.sheet.iter().map(u32::to_string).collect();
     let ratio = |i: usize| {
         times.get(i).map_or("    -".to_string(), |time| {
             format!("{:5.2}", times[0] / time)
@@ -171,7 +171,7 @@ fn show(what: &str, order: &Order, times: &[f64]) {
         time(1),
         time(2),
         time(3),
-        order.file.len(),
+        run.file.len(),
         what,
         words.join(" ")
     );
@@ -192,25 +192,25 @@ fn main() {
         &[0, 16, 8, 2, 1, 1, 1, 1, 0, 0, 0, 0],
     ];
     for sheet in named {
-        let order = Order::new(sheet);
-        show("verify ", &order, &order.verify());
-        show("prove  ", &order, &order.prove());
-        if order.edition == Edition::One {
-            show("encode ", &order, &order.encode());
+        let run = HonestRun::new(sheet);
+        show("verify ", &run, &run.verify());
+        show("prove  ", &run, &run.prove());
+        if run.edition == Edition::One {
+            show("encode ", &run, &run.encode());
         }
     }
 
     // What the pass over the file and its ranges takes: a file whose first out coin lies in its domain is refused right after it.
-    let mut order = Order::new(named[0]);
-    let whole = order.verify()[0];
-    stream::write_word(&mut order.file, 12 + 4096 + 1 + 2048, 1282623253);
-    stream::write_checks(&mut order.file);
-    let refused = tevrolig::verify(&order.file);
+    let mut run = HonestRun::new(named[0]);
+    let whole = run.verify()[0];
+    stream::write_word(&mut run.file, 12 + 4096 + 1 + 2048, 1282623253);
+    stream::write_checks(&mut run.file);
+    let refused = tevrolig::verify(&run.file);
     assert_eq!(refused.line(), "refused 7 6157 0");
     let pass = least(
-        order.calls(),
+        run.calls(),
         [&mut || {
-            black_box(tevrolig::verify(black_box(&order.file)));
+            black_box(tevrolig::verify(black_box(&run.file)));
         }],
     )[0];
     println!(
@@ -225,12 +225,12 @@ fn main() {
     let sheets = by_size.iter().map(|sheet| ("n0", sheet[1], sheet));
     let sheets = sheets.chain(by_coins.iter().map(|s| ("tk", s[3] * s[6], s)));
     for (kind, value, sheet) in sheets {
-        let order = Order::new(sheet);
-        let verify = order.verify();
-        let prove = order.prove();
+        let run = HonestRun::new(sheet);
+        let verify = run.verify();
+        let prove = run.prove();
         let mut times = vec![(verify[0], verify[1]), (prove[0], prove[1])];
         if kind == "n0" {
-            let encode = order.encode();
+            let encode = run.encode();
             times.push((encode[0], encode[1]));
         }
         for (rows, (proved, plain)) in rows.iter_mut().zip(times) {

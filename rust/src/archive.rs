@@ -3,13 +3,13 @@
 //! Every pointer that the crate hands over comes from a slice or a reference, so it is aligned, not null and lent for the call, and what
 //! is written overlaps nothing else; a slice without elements has such a pointer too.
 
-/// Judges or decides a file in one of the editions: number, place and reads.
+/// Verifies or decides a file in one of the editions: number, place and reads.
 pub type Verify = unsafe extern "C" fn(*const u8, usize, &mut u64, &mut u64) -> u32;
 
 /// Reads a file in one of the editions: number and place.
 pub type Read = unsafe extern "C" fn(*const u8, usize, &mut u64) -> u32;
 
-/// Proves an order in one of the editions: sheet, coefficients, coins and output, each with its length, and the value.
+/// Proves in one of the editions: sheet, coefficients, coins and output, each with its length, and the value.
 pub type Prove = unsafe extern "C" fn(
     *const u32,
     usize,

@@ -108,6 +108,6 @@ fn converted(
         11 => Err(ConvertRefusal::OutputBlocks { needed: value }),
         13 => Err(ConvertRefusal::Folds { round: value }),
         // The archive is proved to answer 1 to 6 besides.
-        _ => Err(ConvertRefusal::File(Refusal::told(number, value))),
+        _ => Err(ConvertRefusal::File(Refusal::from_answer(number, value))),
     }
 }

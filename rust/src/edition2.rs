@@ -16,15 +16,15 @@
 //! assert_eq!(verify(&file).line(), "accepted 0 0 12");
 //! ```
 
-use crate::order::proved;
-use crate::steps::told;
-use crate::verdict::judged;
-use crate::{archive, OrderRefusal, Outcome, Verdict};
+use crate::prove::prove_with;
+use crate::steps::read_with;
+use crate::verdict::verify_with;
+use crate::{archive, InputRefusal, Outcome, Verdict};
 
 /// Words of the sheet.
 pub const SHEET_WORDS: usize = 18;
 
-/// Judges a file of edition 2, of any length and content. A shift or final coin over domain i leads to k_i places of table i.
+/// Verifies a file of edition 2, of any length and content. A shift or final coin over domain i leads to k_i places of table i.
 ///
 /// ```
 /// let file = include_bytes!("../../examples/worked-transcript");
@@ -33,7 +33,7 @@ pub const SHEET_WORDS: usize = 18;
 /// ```
 #[must_use]
 pub fn verify(file: &[u8]) -> Verdict {
-    judged(archive::tevrolig_verify_2, file)
+    verify_with(archive::tevrolig_verify_2, file)
 }
 
 /// The first of verify's two steps, as [`read`](crate::read) is for edition 1.
@@ -48,7 +48,7 @@ pub fn verify(file: &[u8]) -> Verdict {
 /// ```
 #[must_use]
 pub fn read(file: &[u8]) -> Outcome {
-    told(archive::tevrolig_read_2, file)
+    read_with(archive::tevrolig_read_2, file)
 }
 
 /// The second, as [`decide`](crate::decide) is for edition 1.
@@ -59,13 +59,13 @@ pub fn read(file: &[u8]) -> Outcome {
 /// ```
 #[must_use]
 pub fn decide(file: &[u8]) -> Verdict {
-    judged(archive::tevrolig_decide_2, file)
+    verify_with(archive::tevrolig_decide_2, file)
 }
 
-/// Writes the honest prover's file of edition 2 as [`prove`](crate::prove) writes one of edition 1; the sheet has 18 words.
+/// Writes the honest prover's file of edition 2 as [`prove`](crate::prove()) writes one of edition 1; the sheet has 18 words.
 ///
 /// ```
-/// use tevrolig::{edition2, OrderRefusal};
+/// use tevrolig::{edition2, InputRefusal};
 ///
 /// let sheet = [0, 16, 8, 2, 1, 1, 1, 1, 0, 0, 0, 0, 2, 0, 0, 0, 0, 2];
 /// let (coefficients, coins) = ([1, 2, 3, 4, 5, 0, 0, 0], [2, 0, 3, 4, 0, 1]);
@@ -74,14 +74,14 @@ pub fn decide(file: &[u8]) -> Verdict {
 /// assert_eq!(edition2::verify(&file).line(), "accepted 0 0 4");
 ///
 /// let refused = edition2::prove(&sheet[..12], &coefficients, &coins, &mut file);
-/// assert_eq!(refused, Err(OrderRefusal::SheetLength2));
+/// assert_eq!(refused, Err(InputRefusal::SheetLength2));
 /// ```
 pub fn prove(
     sheet: &[u32],
     coefficients: &[u32],
     coins: &[u32],
     output: &mut [u8],
-) -> Result<usize, OrderRefusal> {
-    let (prove, sheet_length) = (archive::tevrolig_prove_2, OrderRefusal::SheetLength2);
-    proved(prove, sheet_length, sheet, coefficients, coins, output)
+) -> Result<usize, InputRefusal> {
+    let (prove, sheet_length) = (archive::tevrolig_prove_2, InputRefusal::SheetLength2);
+    prove_with(prove, sheet_length, sheet, coefficients, coins, output)
 }

@@ -1,4 +1,4 @@
-//! The proved judge for STIR transcripts, the prover that it answers, and the three fields below them, called from Rust.
+//! The proved verifier for STIR transcripts, the prover that it answers, and the three fields below them, called from Rust.
 //!
 //! The archive's functions are proved against the written definition for every input; they allocate nothing and keep no state. What
 //! stands here only hands slices over and names the answers: it has no rule of its own.
@@ -33,12 +33,12 @@ mod archive;
 pub mod convert;
 pub mod edition2;
 mod field;
-mod order;
+mod prove;
 mod steps;
 mod verdict;
 
 pub use field::{Field, Powered};
-pub use order::{encode, prove, OrderRefusal};
+pub use prove::{encode, prove, InputRefusal};
 pub use steps::{decide, read};
 pub use verdict::{place_sheet, sheet_of, verify, word, Outcome, Refusal, Verdict};
 
@@ -54,7 +54,7 @@ pub const BLOCK_WORDS: usize = 127;
 /// Words of the sheet.
 pub const SHEET_WORDS: usize = 12;
 
-/// No file with more blocks is accepted, and no order and no file that is converted needs more.
+/// No file with more blocks is accepted, and no file that is proved or converted needs more.
 pub const MAX_BLOCKS: usize = 67;
 
 /// What the documents call the words of the sheet; the last six are of edition 2 alone.

@@ -1,6 +1,6 @@
 //! Verify in two steps, for whoever receives a file long before he may decide.
 
-use crate::verdict::judged;
+use crate::verdict::verify_with;
 use crate::{archive, Outcome, Verdict};
 
 /// The first step, reading: accepted, or one of the refusals 1 to 6, as [`verify`](crate::verify) gives them. No table word is used, so there are no reads.
@@ -15,7 +15,7 @@ use crate::{archive, Outcome, Verdict};
 /// ```
 #[must_use]
 pub fn read(file: &[u8]) -> Outcome {
-    told(archive::tevrolig_read, file)
+    read_with(archive::tevrolig_read, file)
 }
 
 /// The second step, deciding. Nothing is handed over from the first: the file is read again, so that this may be asked of any file, and answers on each what
@@ -32,13 +32,13 @@ pub fn read(file: &[u8]) -> Outcome {
 /// ```
 #[must_use]
 pub fn decide(file: &[u8]) -> Verdict {
-    judged(archive::tevrolig_decide, file)
+    verify_with(archive::tevrolig_decide, file)
 }
 
 /// Reads a file in the edition whose function this is.
-pub(crate) fn told(read: archive::Read, file: &[u8]) -> Outcome {
+pub(crate) fn read_with(read: archive::Read, file: &[u8]) -> Outcome {
     let mut place = 0;
     // SAFETY: as the archive's module says.
     let number = unsafe { read(file.as_ptr(), file.len(), &mut place) };
-    Outcome::told(number, place)
+    Outcome::from_answer(number, place)
 }

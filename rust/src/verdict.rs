@@ -1,4 +1,4 @@
-//! The judge: verdicts, and the words that they are about.
+//! The verifier: verdicts, and the words that they are about.
 
 use crate::{archive, broken_sheet, SHEET_WORDS};
 use std::fmt::{self, Display, Formatter};
@@ -72,7 +72,7 @@ impl Refusal {
     }
 
     /// The answer of the archive, which is proved to be one of these.
-    pub(crate) fn told(number: u32, place: u64) -> Refusal {
+    pub(crate) fn from_answer(number: u32, place: u64) -> Refusal {
         match number {
             1 => Refusal::Length,
             2 => Refusal::Check { block: place },
@@ -139,10 +139,10 @@ pub enum Outcome {
 }
 
 impl Outcome {
-    pub(crate) fn told(number: u32, place: u64) -> Outcome {
+    pub(crate) fn from_answer(number: u32, place: u64) -> Outcome {
         match number {
             0 => Outcome::Accepted,
-            _ => Outcome::Refused(Refusal::told(number, place)),
+            _ => Outcome::Refused(Refusal::from_answer(number, place)),
         }
     }
 
@@ -213,7 +213,7 @@ impl Display for Verdict {
     }
 }
 
-/// Judges a transcript file of any length and content.
+/// Verifies a transcript file of any length and content.
 ///
 /// ```
 /// let file = include_bytes!("../../examples/worked-transcript");
@@ -222,16 +222,16 @@ impl Display for Verdict {
 /// ```
 #[must_use]
 pub fn verify(file: &[u8]) -> Verdict {
-    judged(archive::tevrolig_verify, file)
+    verify_with(archive::tevrolig_verify, file)
 }
 
-/// Judges a file in the edition whose function this is.
-pub(crate) fn judged(verify: archive::Verify, file: &[u8]) -> Verdict {
+/// Verifies a file in the edition whose function this is.
+pub(crate) fn verify_with(verify: archive::Verify, file: &[u8]) -> Verdict {
     let (mut place, mut reads) = (0, 0);
     // SAFETY: as the archive's module says.
     let number = unsafe { verify(file.as_ptr(), file.len(), &mut place, &mut reads) };
     Verdict {
-        outcome: Outcome::told(number, place),
+        outcome: Outcome::from_answer(number, place),
         reads,
     }
 }
@@ -255,7 +255,7 @@ pub fn word(file: &[u8], number: u64) -> Option<u32> {
     found.then_some(word)
 }
 
-/// The sheet that a file holds, judged or not: the words 0 to 11 of its stream. Nothing where the file has less than one block.
+/// The sheet that a file holds, verified or not: the words 0 to 11 of its stream. Nothing where the file has less than one block.
 ///
 /// ```
 /// let file = include_bytes!("../../examples/worked-transcript");

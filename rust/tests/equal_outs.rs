@@ -1,8 +1,8 @@
-//! Equal out coins made on purpose, in files and in orders: the archive refuses them as they are made for, and as the model does.
+//! Equal out coins made on purpose, in files and in the prover's inputs: the archive refuses them as they are made for, and as the model does.
 
 mod common;
 
-use common::{agree, edition, judged, refused, Edition, One, Order, Two, LARGEST};
+use common::{agree, edition, refused, verdict_line, Edition, One, ProverInput, Two, LARGEST};
 use std::collections::BTreeMap;
 use tevrolig::convert::{to_edition_1, to_edition_2};
 use tevrolig_model::convert::{convert_to, with_equal_folds};
@@ -15,9 +15,9 @@ use tevrolig_model::Answer;
 fn refuse(edition: Edition, case: &Case, what: &str) {
     let Case { number, word, .. } = case;
     let expected = format!("refused {number} {word} 0");
-    assert_eq!(judged(edition, &case.file, what), expected, "{what}");
+    assert_eq!(verdict_line(edition, &case.file, what), expected, "{what}");
 
-    let order = Order {
+    let input = ProverInput {
         edition,
         sheet: case.sheet.clone(),
         coefficients: case.coefficients.clone(),
@@ -25,13 +25,13 @@ fn refuse(edition: Edition, case: &Case, what: &str) {
     };
     let expected = refused((case.number, case.position));
     for length in [case.file.len(), case.file.len() - 1, 0] {
-        assert_eq!(order.prove(length, what), expected, "{what}");
+        assert_eq!(input.prove(length, what), expected, "{what}");
     }
 }
 
 /// Both numbers, with replies that agree and others, in the first round and in later ones, alone and with each other fault, are met.
 #[test]
-fn files_and_orders() {
+fn files_and_inputs() {
     for edition in Edition::BOTH {
         let mut met: BTreeMap<(u32, bool, bool, u32), usize> = BTreeMap::new();
         let mut honest = 0;
@@ -104,7 +104,7 @@ fn conversions() {
                 One => case.word - 6,
                 Two => case.word + 6,
             };
-            let line = judged(to, &output[..512 * blocks as usize], &what);
+            let line = verdict_line(to, &output[..512 * blocks as usize], &what);
             assert_eq!(line, format!("refused {} {word} 0", case.number), "{what}");
         }
     }
@@ -118,8 +118,8 @@ fn rounds_may_share_their_out_coins() {
         let mut rng = Rng::new(seed);
         let edition = rng.pick(&Edition::BOTH);
         let sheet = generate::sheet_up_to(edition, &mut rng, 128);
-        let mut order = Order::allowed(&mut rng, &sheet, seed % 2 == 0);
-        let (known, layout) = order.known();
+        let mut input = ProverInput::allowed(&mut rng, &sheet, seed % 2 == 0);
+        let (known, layout) = input.known();
         if known.rounds < 2 {
             continue;
         }
@@ -129,14 +129,14 @@ fn rounds_may_share_their_out_coins() {
             .map(|section| layout.coin_position(section.words.start))
             .collect();
         // A coin outside domain 1 is outside the later ones, which are parts of it.
-        let mut coins = order.coins[outs[0]..outs[0] + known.outs].to_vec();
+        let mut coins = input.coins[outs[0]..outs[0] + known.outs].to_vec();
         for &at in &outs[1..] {
             if rng.one_in(2) {
                 coins.reverse();
             }
-            order.coins[at..at + known.outs].copy_from_slice(&coins);
+            input.coins[at..at + known.outs].copy_from_slice(&coins);
         }
-        order.is_done(0, &format!("shared out coins, seed {seed}"));
+        input.is_proved(0, &format!("shared out coins, seed {seed}"));
         shared += usize::from(known.outs == 2);
     }
     assert!(shared > 300, "{shared}");

@@ -124,8 +124,8 @@ fn no_inverse_for_zero() {
     let answer = |number, a| {
         let mut element = 7;
         // The operation writes one word.
-        let told = unsafe { tevrolig_inverse(number, a, &mut element) };
-        (told, element)
+        let answer = unsafe { tevrolig_inverse(number, a, &mut element) };
+        (answer, element)
     };
     for (number, p) in (0..).zip(PRIMES) {
         let field = Field::new(number).unwrap();

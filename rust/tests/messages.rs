@@ -2,7 +2,7 @@
 
 use std::error::Error;
 use tevrolig::convert::ConvertRefusal;
-use tevrolig::{OrderRefusal, Outcome, Refusal, Verdict};
+use tevrolig::{InputRefusal, Outcome, Refusal, Verdict};
 
 #[test]
 fn refusals_of_verify() {
@@ -111,64 +111,64 @@ fn accepted() {
 }
 
 #[test]
-fn refusals_of_orders() {
+fn refusals_of_inputs() {
     let all = [
         (
-            OrderRefusal::SheetLength,
+            InputRefusal::SheetLength,
             10,
             0,
             "the sheet has not 12 words",
         ),
         (
-            OrderRefusal::SheetLength2,
+            InputRefusal::SheetLength2,
             10,
             0,
             "the sheet has not 18 words",
         ),
         (
-            OrderRefusal::Sheet { word: 5 },
+            InputRefusal::Sheet { word: 5 },
             3,
             5,
             "word 5 of the sheet (s) breaks its rule",
         ),
         (
-            OrderRefusal::CoefficientCount,
+            InputRefusal::CoefficientCount,
             10,
             1,
             "the coefficients are not as many as the sheet's d0",
         ),
         (
-            OrderRefusal::CoinCount,
+            InputRefusal::CoinCount,
             10,
             2,
             "the coins are not as many as the sheet makes due",
         ),
         (
-            OrderRefusal::Range { position: 9 },
+            InputRefusal::Range { position: 9 },
             5,
             9,
             "word 9 of the coefficients followed by the coins is out of range",
         ),
         (
-            OrderRefusal::OutCoin { position: 1 },
+            InputRefusal::OutCoin { position: 1 },
             7,
             1,
             "coin 1 is an out coin inside its round's domain",
         ),
         (
-            OrderRefusal::EqualOut { position: 2 },
+            InputRefusal::EqualOut { position: 2 },
             14,
             2,
             "coin 2 is an out coin and equals the one before it in its round",
         ),
         (
-            OrderRefusal::OutputBlocks { needed: 2 },
+            InputRefusal::OutputBlocks { needed: 2 },
             11,
             2,
             "the output is too short for the blocks needed: 2",
         ),
         (
-            OrderRefusal::OutputWords { needed: 16 },
+            InputRefusal::OutputWords { needed: 16 },
             11,
             16,
             "the output is too short for the words needed: 16",
@@ -187,7 +187,7 @@ fn words_of_the_longer_sheet() {
     for (word, name) in (12..).zip(names) {
         let text = format!("word {word} of the sheet ({name}) breaks its rule");
         assert_eq!(Refusal::Sheet { word }.to_string(), text);
-        assert_eq!(OrderRefusal::Sheet { word }.to_string(), text);
+        assert_eq!(InputRefusal::Sheet { word }.to_string(), text);
     }
 }
 

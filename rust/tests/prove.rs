@@ -1,9 +1,9 @@
-//! Prove of both editions and encode in the archive against the model: the answer and every byte of the output are equal, for orders that
+//! Prove of both editions and encode in the archive against the model: the answer and every byte of the output are equal, for inputs that
 //! are allowed and for lists of any kind. A difference is shown with its seed.
 
 mod common;
 
-use common::{limits, refused, Edition, One, Order, Two, LARGEST};
+use common::{limits, refused, Edition, One, ProverInput, Two, LARGEST};
 use std::collections::BTreeSet;
 use tevrolig_model::domain::Subgroup;
 use tevrolig_model::generate::{self, Rng};
@@ -12,32 +12,32 @@ use tevrolig_model::Answer;
 
 #[test]
 fn the_transcript_by_hand() {
-    let order = Order {
+    let input = ProverInput {
         edition: One,
         sheet: vec![0, 16, 8, 2, 1, 1, 1, 1, 0, 0, 0, 0],
         coefficients: vec![1, 2, 3, 4, 5, 0, 0, 0],
         coins: vec![2, 0, 3, 4, 0, 1],
     };
-    order.is_done(0, "by hand");
-    order.is_done(300, "by hand");
+    input.is_proved(0, "by hand");
+    input.is_proved(300, "by hand");
     let mut file = [0; 512];
-    assert_eq!(order.proved(&mut file), Ok(1));
+    assert_eq!(input.proved(&mut file), Ok(1));
     assert_eq!(&file, include_bytes!("../../examples/worked-transcript"));
 }
 
 /// k = 2 and then 4; the words after the sheet were worked out by other formulas than the model's.
 #[test]
 fn a_transcript_of_edition_2() {
-    let order = Order {
+    let input = ProverInput {
         edition: Two,
         sheet: vec![0, 16, 8, 2, 1, 1, 2, 2, 0, 0, 0, 0, 4, 0, 0, 0, 0, 2],
         coefficients: (1..9).collect(),
         coins: vec![2, 0, 3, 4, 0, 5, 1, 0],
     };
-    order.is_done(0, "by hand");
-    order.is_done(300, "by hand");
+    input.is_proved(0, "by hand");
+    input.is_proved(300, "by hand");
     let mut file = [0; 512];
-    assert_eq!(order.proved(&mut file), Ok(1));
+    assert_eq!(input.proved(&mut file), Ok(1));
     #[rustfmt::skip]
     let after = [
         5, 1, 9, 12, 13, 3, 5, 13, 0, 6, 11, 14, 8, 8, 8, 2,
@@ -47,7 +47,7 @@ fn a_transcript_of_edition_2() {
         5,
         1, 0,
     ];
-    let mut words = [&order.sheet[..], &after].concat();
+    let mut words = [&input.sheet[..], &after].concat();
     words.resize(127, 0);
     words.push(8101);
     let bytes: Vec<u8> = words.iter().flat_map(|word| word.to_le_bytes()).collect();
@@ -55,9 +55,9 @@ fn a_transcript_of_edition_2() {
 }
 
 #[test]
-fn allowed_orders_are_done() {
-    for (edition, orders, most_n0) in [(One, 100_000, 64), (Two, 60_000, 128)] {
-        for seed in 0..orders {
+fn allowed_inputs_are_proved() {
+    for (edition, inputs, most_n0) in [(One, 100_000, 64), (Two, 60_000, 128)] {
+        for seed in 0..inputs {
             let mut rng = Rng::new(seed);
             let most_n0 = if seed % 100 == 0 {
                 4 * most_n0
@@ -65,20 +65,20 @@ fn allowed_orders_are_done() {
                 most_n0
             };
             let sheet = generate::sheet_up_to(edition, &mut rng, most_n0);
-            let order = Order::allowed(&mut rng, &sheet, seed % 3 != 0);
+            let input = ProverInput::allowed(&mut rng, &sheet, seed % 3 != 0);
             let more = rng.place(700) * rng.place(2);
-            order.is_done(more, &format!("allowed, {edition:?}, seed {seed}"));
+            input.is_proved(more, &format!("allowed, {edition:?}, seed {seed}"));
         }
     }
 }
 
 #[test]
-fn the_largest_orders_are_done() {
+fn the_largest_inputs_are_proved() {
     for (seed, sheet) in (0..).zip(LARGEST) {
         let mut rng = Rng::new(seed);
         for hostile in [false, true] {
-            let order = Order::allowed(&mut rng, sheet, hostile);
-            order.is_done(seed as usize, &format!("largest {seed}"));
+            let input = ProverInput::allowed(&mut rng, sheet, hostile);
+            input.is_proved(seed as usize, &format!("largest {seed}"));
         }
     }
 }
@@ -86,7 +86,7 @@ fn the_largest_orders_are_done() {
 /// Every position of the coefficients and of the coins in turn, and every round's out coins, in their domain and equal: an index's limit goes by
 /// its round's k.
 #[test]
-fn every_position_of_an_order() {
+fn every_position_of_an_input() {
     let sheets: [&[u32]; 6] = [
         &[0, 16, 8, 2, 1, 1, 1, 1, 0, 0, 0, 0],
         &[1, 256, 64, 2, 2, 2, 4, 3, 5, 0, 0, 0],
@@ -97,20 +97,20 @@ fn every_position_of_an_order() {
     ];
     for (seed, sheet) in (0..).zip(sheets) {
         let mut rng = Rng::new(seed);
-        let mut order = Order::allowed(&mut rng, sheet, false);
-        let (known, layout) = order.known();
+        let mut input = ProverInput::allowed(&mut rng, sheet, false);
+        let (known, layout) = input.known();
         let what = format!("every position, seed {seed}");
         let length = 512 * layout.blocks();
         for at in 0..known.d0 {
-            let kept = order.coefficients[at];
+            let kept = input.coefficients[at];
             for word in [known.field.p as u32, u32::MAX] {
-                order.coefficients[at] = word;
-                assert_eq!(order.prove(length, &what), refused((5, at)));
-                if order.edition == One {
-                    assert_eq!(order.encode(known.n0, &what), refused((5, at)));
+                input.coefficients[at] = word;
+                assert_eq!(input.prove(length, &what), refused((5, at)));
+                if input.edition == One {
+                    assert_eq!(input.encode(known.n0, &what), refused((5, at)));
                 }
             }
-            order.coefficients[at] = kept;
+            input.coefficients[at] = kept;
         }
         let every: Vec<(Part, u64)> = layout
             .coin_sections()
@@ -118,30 +118,30 @@ fn every_position_of_an_order() {
             .collect();
         let subgroup = Subgroup::of(&known);
         for (at, (part, limit)) in every.into_iter().enumerate() {
-            let kept = order.coins[at];
+            let kept = input.coins[at];
             for word in [limit as u32, u32::MAX] {
-                order.coins[at] = word;
-                assert_eq!(order.prove(length, &what), refused((5, known.d0 + at)));
+                input.coins[at] = word;
+                assert_eq!(input.prove(length, &what), refused((5, known.d0 + at)));
             }
             if let Part::OutCoins(round) = part {
                 for point in subgroup.domain(round) {
-                    order.coins[at] = point as u32;
-                    assert_eq!(order.prove(length, &what), refused((7, at)));
+                    input.coins[at] = point as u32;
+                    assert_eq!(input.prove(length, &what), refused((7, at)));
                 }
                 if known.outs == 2 {
                     let first = layout.coin_position(layout.range(part).start);
-                    order.coins[at] = order.coins[2 * first + 1 - at];
+                    input.coins[at] = input.coins[2 * first + 1 - at];
                     for length in [length, 0] {
-                        assert_eq!(order.prove(length, &what), refused((14, first + 1)));
+                        assert_eq!(input.prove(length, &what), refused((14, first + 1)));
                     }
                 }
             } else {
-                order.coins[at] = limit as u32 - 1;
-                order.is_done(0, &what);
+                input.coins[at] = limit as u32 - 1;
+                input.is_proved(0, &what);
             }
-            order.coins[at] = kept;
+            input.coins[at] = kept;
         }
-        order.is_done(0, &what);
+        input.is_proved(0, &what);
     }
 }
 
@@ -149,32 +149,32 @@ fn every_position_of_an_order() {
 #[test]
 fn any_lists() {
     for edition in Edition::BOTH {
-        let empty = Order::empty(edition);
+        let empty = ProverInput::empty(edition);
         assert_eq!(empty.prove(0, "empty"), refused((10, 0)));
         assert_eq!(empty.encode(0, "empty"), refused((10, 0)));
         let (mut done, mut numbers) = (0, BTreeSet::new());
         for seed in 300_000..330_000 {
             let mut rng = Rng::new(seed);
             let sheet = generate::sheet_up_to(edition, &mut rng, 32);
-            let mut order = Order::allowed(&mut rng, &sheet, true);
-            for list in [&mut order.sheet, &mut order.coefficients, &mut order.coins] {
+            let mut input = ProverInput::allowed(&mut rng, &sheet, true);
+            for list in [&mut input.sheet, &mut input.coefficients, &mut input.coins] {
                 generate::disturb(&mut rng, list);
             }
-            if let (true, [_, first, second, ..]) = (rng.one_in(8), &mut order.coins[..]) {
+            if let (true, [_, first, second, ..]) = (rng.one_in(8), &mut input.coins[..]) {
                 // Out coins, where there are rounds with two.
                 *second = *first;
             }
             let length = rng.pick(&[0, 511, 512, 1024, 1500]);
             let what = format!("any, {edition:?}, seed {seed}");
-            match order.prove(length, &what) {
+            match input.prove(length, &what) {
                 Answer::Done(_) => done += 1,
                 Answer::Refused { number, place } => {
                     numbers.insert((number, if number == 10 { place } else { 0 }));
                 }
             }
-            order.encode(length / 30, &what);
+            input.encode(length / 30, &what);
         }
-        assert!(done > 3_000, "{done} of these orders are done");
+        assert!(done > 3_000, "{done} of these inputs are proved");
         let lengths = [(10, 0), (10, 1), (10, 2)];
         let others = [3, 5, 7, 11, 14].map(|number| (number, 0));
         assert_eq!(numbers, lengths.into_iter().chain(others).collect());

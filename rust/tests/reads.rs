@@ -2,7 +2,7 @@
 
 mod common;
 
-use common::{edition, judged, verify, Edition, Order, LARGEST};
+use common::{edition, verdict_line, verify, Edition, ProverInput, LARGEST};
 use tevrolig_model as model;
 use tevrolig_model::convert::with_equal_folds;
 use tevrolig_model::generate::repeats::{case, case_of, reads_due, Case, Met};
@@ -12,18 +12,21 @@ use tevrolig_model::verify::verify_in;
 /// Verify of both, also in two steps, with the reads due, and prove of both.
 fn agree(edition: Edition, case: &Case, met: &mut Met, what: &str) {
     let expected = verify_in(edition, &case.file);
-    assert_eq!(judged(edition, &case.file, what), model::line(expected));
+    assert_eq!(
+        verdict_line(edition, &case.file, what),
+        model::line(expected)
+    );
     let due = reads_due(&case.sheet, &case.file, expected.outcome);
     assert_eq!(expected.reads, due, "{what}");
     met.count(&case.sheet, &case.file, expected.outcome);
 
-    let order = Order {
+    let input = ProverInput {
         edition,
         sheet: case.sheet.clone(),
         coefficients: case.coefficients.clone(),
         coins: case.coins.clone(),
     };
-    order.is_done(0, what);
+    input.is_proved(0, what);
 }
 
 /// Of every kind, in honest files and in files with an 8 or a 9.

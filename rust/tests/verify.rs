@@ -2,7 +2,7 @@
 
 mod common;
 
-use common::{edition, honest, judged, reads, Edition, One, Two, LARGEST};
+use common::{edition, honest, reads, verdict_line, Edition, One, Two, LARGEST};
 use std::collections::BTreeMap;
 use tevrolig_model::generate::{self, Rng, REFUSALS};
 use tevrolig_model::stream::write_word;
@@ -10,7 +10,7 @@ use tevrolig_model::stream::write_word;
 /// Both verdicts of a file as a line, which must be equal and leave the file as it was; likewise of the two steps.
 fn agree(edition: Edition, file: &[u8], what: &str, seed: u64) -> String {
     let before = file.to_vec();
-    let line = judged(edition, file, &format!("{what}, seed {seed}"));
+    let line = verdict_line(edition, file, &format!("{what}, seed {seed}"));
     assert_eq!(file, before, "{what}: the file changed, seed {seed}");
     line
 }

@@ -8,7 +8,7 @@ use lib.ListN.{length}
 use Rattle.definition.specs.Lists.{chunks}
 use Rattle.definition.specs.Field.{Field}
 use Rattle.definition.specs.Polynomial.{Sample, points, evaluate, scale, addPoly, subPoly, mulPoly, vanishing, interpolate, horner, foldPoly}
-use Rattle.algebra.specs.ListFacts.{All, all-map, all-map₂}
+use Rattle.list_laws.specs.All.{All, all-map, all-map₂}
 use Rattle.algebra.specs.Laws.{FieldLaws}
 use Rattle.algebra.specs.RingLaws.{neg-one, sub-self, sub-zero}
 use Rattle.algebra.specs.Lengths.{length-sub-le, length-horner, length-points, length-interpolate}

@@ -4,7 +4,7 @@ use mathlib.Core.List.{List}
 use lib.ListN.{length}
 use Rattle.definition.specs.Field.{Field, reciprocal}
 use Rattle.definition.specs.Polynomial.{Sample, points, evaluate, subPoly, vanishing, interpolate, quotient, geometric, correctedValue, correctedPoly}
-use Rattle.algebra.specs.ListFacts.{All, all-map₂}
+use Rattle.list_laws.specs.All.{All, all-map₂}
 use Rattle.algebra.specs.Laws.{FieldLaws}
 use Rattle.algebra.specs.RingLaws.{sub-self}
 use Rattle.algebra.specs.Evaluation.{reduce-evaluate, evaluate-mul, evaluate-sub}

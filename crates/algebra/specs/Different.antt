@@ -1,13 +1,14 @@
 -- Elements whose difference is not 0, and lists whose elements are pairwise different.
 use Prim.Native.Nat.{ℕ, zero, suc, _+_, _-_, _≤_, _<_}
 use native.Mathlib.Omega.{arith}
-use mathlib.Core.Path.{_≡_, sym, ap, _∙_, subst}
+use mathlib.Core.Path.{_≡_, refl, sym, ap, _∙_, subst}
 use mathlib.Core.List.{List, [], _∷_, map}
+use lib.ListN.{length, getD}
 use Rattle.definition.specs.Lists.{range}
 use Rattle.definition.specs.Field.{Field}
-use Rattle.algebra.specs.ListFacts.{All, all-of-map, all-range}
+use Rattle.list_laws.specs.All.{All, all-of-map, all-range, at-place}
 use Rattle.algebra.specs.Laws.{FieldLaws}
-use Rattle.algebra.specs.RingLaws.{sub-zero}
+use Rattle.algebra.specs.RingLaws.{sub-self, sub-zero}
 
 module _ {A : Type 0} (F : Field A) where
   infixl 65 _⊖_
@@ -43,3 +44,11 @@ module _ {A : Type 0} (F : Field A) (L : FieldLaws F) where
     where
       back : (m : ℕ) → suc from ≤ m → from + (m - from) ≡ m
       back m l = omega arith
+
+  -- elements of a list that is pairwise different, by place
+  pub same-place : (xs : List A) (d : A) → Apart F xs → (a b : ℕ) → a < length xs → b < length xs → getD xs a d ≡ getD xs b d → a ≡ b
+  same-place [] d h a b la lb e = absurd (omega arith)
+  same-place (x ∷ xs) d h zero zero la lb e = refl
+  same-place (x ∷ xs) d h zero (suc b) la lb e = absurd (at-place (λ y. Differ F x y) xs d (h .0) b (omega arith) (ap (λ (y : A). x ⊖ y) (sym e) ∙ sub-self F L x))
+  same-place (x ∷ xs) d h (suc a) zero la lb e = absurd (at-place (λ y. Differ F x y) xs d (h .0) a (omega arith) (ap (λ (y : A). x ⊖ y) e ∙ sub-self F L x))
+  same-place (x ∷ xs) d h (suc a) (suc b) la lb e = ap suc (same-place xs d (h .1) a b (omega arith) (omega arith) e)

@@ -6,7 +6,7 @@ use native.Mathlib.Nat.{le-of-suc-le-suc, not-suc-le-zero}
 use lib.ListN.{length, getD}
 use Rattle.definition.specs.Field.{Field}
 use Rattle.definition.specs.Polynomial.{evaluate, vanishing, horner, divide, quotient}
-use Rattle.algebra.specs.ListFacts.{All, all-map, all-map₂}
+use Rattle.list_laws.specs.All.{All, all-map, all-map₂}
 use Rattle.algebra.specs.Laws.{FieldLaws}
 use Rattle.algebra.specs.Solver.{_:+_, _:-_, _:*_, _:=_, solve₅}
 use Rattle.algebra.specs.RingLaws.{zero-add, zero-mul, sub-self, reduce-sub, cancel}

@@ -3,28 +3,22 @@ use Prim.Native.Nat.{ℕ, zero, suc, _-_, _%_, _^_, _<_}
 use native.Mathlib.Nat
 use native.Mathlib.Nat.{pow-suc, zero-mod}
 use native.Mathlib.Omega.{arith}
-use mathlib.Core.Bool.{Bool, true, false, cond, true≢false}
+use mathlib.Core.Bool.{Bool, true, false, cond}
 use mathlib.Core.List.{List}
-use mathlib.Core.Option.{Option, none, some}
+use mathlib.Core.Option.{none, some}
 use mathlib.Core.Path.{_≡_, refl, sym, ap, _∙_}
 use lib.Dec.{eqb}
 use borrow.Author.Tests.{eqb-true}
 use Rattle.definition.specs.Field.{Field, powerMod, primeField, foundOr, reciprocal}
 use Rattle.definition.specs.Polynomial.{evaluate, vanishing}
+use Rattle.list_laws.specs.Booleans.{some≢none}
 use Rattle.algebra.specs.Different.{Differ}
 use Rattle.algebra.specs.Division.{vanishing-nonzero}
 use Rattle.algebra.specs.Evaluation.{reduce-evaluate}
 use Rattle.algebra.specs.Laws.{FieldLaws}
-use Rattle.algebra.specs.ListFacts.{All}
+use Rattle.list_laws.specs.All.{All}
 use Rattle.algebra.specs.ModularArithmetic.{pow-mod}
 use Rattle.algebra.specs.PowerBySquaring.{powerMod-is}
-
-pub some≢none : {A : Type 0} (x : A) → _≡_ {A = Option A} (some x) none → ⊥
-some≢none {A} x e = let z : _≡_ {A = Bool} true false = ap there e in true≢false z
-  where
-    there : Option A → Bool
-    there none = false
-    there (some y) = true
 
 module _ {A : Type 0} (F : Field A) (L : FieldLaws F) where
   open Field F using (𝟘, inverse, equal)
@@ -34,26 +28,12 @@ module _ {A : Type 0} (F : Field A) (L : FieldLaws F) where
   abbrev pub Nonzero : A → Type 0
   Nonzero x = reduce x ≡ 𝟘 → ⊥
 
-  pub zero-or-not : (x : A) → Dec (reduce x ≡ 𝟘)
-  zero-or-not x = go (equal (reduce x) 𝟘) refl
-    where
-      go : (b : Bool) → equal (reduce x) 𝟘 ≡ b → Dec (reduce x ≡ 𝟘)
-      go true e = yes (equal-true (reduce x) 𝟘 e)
-      go false e = no (λ z. true≢false (sym (equal-refl 𝟘) ∙ ap (λ (y : A). equal y 𝟘) (sym z) ∙ e))
-
   -- what has an inverse differs from 0, what differs from 0 has one, and what has none is 0
   pub found-differs : (x : A) {u : A} → inverse x ≡ some u → Nonzero x
   found-differs x {u} e z = some≢none u (sym e ∙ inverse-none x z)
 
   pub never-none : (x : A) → Nonzero x → inverse x ≡ none → ⊥
   never-none x h e = some≢none (reciprocal F x) (sym (inverse-found x h) ∙ e)
-
-  pub none-zero : (x : A) → inverse x ≡ none → reduce x ≡ 𝟘
-  none-zero x e = go (zero-or-not x)
-    where
-      go : Dec (reduce x ≡ 𝟘) → reduce x ≡ 𝟘
-      go (yes z) = z
-      go (no h) = absurd (never-none x h e)
 
   pub vanishing-differs : (xs : List A) (x : A) → All (λ a. Differ F x a) xs → Nonzero (evaluate F (vanishing F xs) x)
   vanishing-differs xs x h z = vanishing-nonzero F L xs x h (sym (reduce-evaluate F L _ _) ∙ z)

@@ -5,7 +5,7 @@ use mathlib.Core.List.{List, [], _∷_}
 use lib.ListN.{length}
 use Rattle.definition.specs.Field.{Field, reciprocal}
 use Rattle.definition.specs.Polynomial.{Sample, points, evaluate, subPoly, vanishing, interpolate}
-use Rattle.algebra.specs.ListFacts.{All, all-map, all-map₂, all-of-map, all-in-map}
+use Rattle.list_laws.specs.All.{All, all-map, all-map₂, all-of-map, all-in-map}
 use Rattle.algebra.specs.Laws.{FieldLaws}
 use Rattle.algebra.specs.RingLaws.{sub-self, sub-add, sub-zero}
 use Rattle.algebra.specs.Lengths.{length-sub-le}

@@ -1,7 +1,6 @@
 -- Algebra over the definition's own operations and polynomials: fields on words, polynomials as coefficient lists, roots of unity, and the three
 -- prime fields. A lemma takes a field F, and its laws L where it uses them.
 -- fields, and a solver for identities in them
-pub mod ListFacts
 pub mod Laws
 pub mod RingLaws
 pub mod NormalForm

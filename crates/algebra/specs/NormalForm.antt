@@ -8,6 +8,7 @@ use mathlib.Core.Bool.{Bool, true, false, _&&_}
 use mathlib.Core.List.{List, [], _∷_}
 use Prim.Native.Nat.{ℕ, zero, suc, _+_, _*_, compare, Ordering, Ordering·lt, Ordering·eq, Ordering·gt}
 use lib.Dec.{T, isEq, eqb, eqb→eq}
+use Rattle.list_laws.specs.Booleans.{and-left, and-right}
 
 -- ---- expressions
 
@@ -123,14 +124,6 @@ abbrev pub same : Expr → Expr → Bool
 same a b = sameP (addP (normal a .plus) (normal b .minus)) (addP (normal b .plus) (normal a .minus))
 
 -- ---- the test means what it says
-
-and-left : (a b : Bool) → T (a && b) → T a
-and-left true b t = tt
-and-left false b t = t
-
-and-right : (a b : Bool) → T (a && b) → T b
-and-right true b t = t
-and-right false b t = absurd t
 
 sameM-sound : (m n : Monomial) → T (sameM m n) → m ≡ n
 sameM-sound [] [] t = refl

@@ -113,3 +113,8 @@ suited (suc (suc field)) = suited₂
 pub laws : (field : ℕ) → FieldLaws (fieldOf field)
 unfolding fieldOf
 laws field = prime-field (primeOf field) (suited field .prime)
+
+-- In each of them -1 differs from 1.
+pub opposite-signs : (field : ℕ) → minusOne (fieldOf field) ≡ fieldOf field .𝟙 → ⊥
+unfolding fieldOf
+opposite-signs field = signs-differ (primeOf field) (suited field .large)

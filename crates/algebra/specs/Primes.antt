@@ -6,8 +6,9 @@ use native.Mathlib.Decide.{decLt}
 use native.Mathlib.Omega.{arith}
 use mathlib.Core.Path.{_≡_, sym, ap, _∙_, subst}
 use mathlib.Core.Logic.{_≢_}
-use mathlib.Core.Bool.{Bool, true, false, not, _&&_}
+use mathlib.Core.Bool.{Bool, true, not, _&&_}
 use lib.Dec.{eqb, T, T-not, lit<}
+use Rattle.list_laws.specs.Booleans.{and-left, and-right}
 
 -- p is prime: above 1, and divided by no number between 1 and p
 pub record Prime (p : ℕ) : Type 0 where
@@ -18,14 +19,6 @@ pub record Prime (p : ℕ) : Type 0 where
 unfoldable pub noDivisor : ℕ → ℕ → ℕ → Bool
 noDivisor p from zero = true
 noDivisor p from (suc count) = not (eqb (p % from) 0) && noDivisor p (suc from) count
-
-and-left : (a b : Bool) → T (a && b) → T a
-and-left true b t = tt
-and-left false b t = t
-
-and-right : (a b : Bool) → T (a && b) → T b
-and-right true b t = t
-and-right false b t = absurd t
 
 no-divisor : (p from count : ℕ) → T (noDivisor p from count) → (d : ℕ) → from ≤ d → d < from + count → p % d ≢ 0
 unfolding noDivisor

@@ -39,9 +39,6 @@ module _ {A : Type 0} (F : Field A) (L : FieldLaws F) where
   pub one-mul : (x : A) → 𝟙 ⊗ x ≡ reduce x
   one-mul x = mul-comm 𝟙 x ∙ mul-one x
 
-  pub reduce-idempotent : (x : A) → reduce (reduce x) ≡ reduce x
-  reduce-idempotent x = ap reduce (sym (add-zero x)) ∙ reduce-add x 𝟘 ∙ add-zero x
-
   -- ---- differences
 
   pub sub-self : (x : A) → x ⊖ x ≡ 𝟘

@@ -1,6 +1,6 @@
-// G of a round, and the first final index at which the final polynomial differs, with places of their own for the values at the roots and for the fractions. A
-// small round is spared the clearing of many places.
-use fractions::Function;
+// G of a round, and the first final index at which the final polynomial differs, with places of their own for the fractions. A small round is spared the clearing
+// of many places.
+use fractions::Oracle;
 use outcome::Found;
 use samples::Gathered;
 ghost use mathlib.Core.Path.{_≡_};
@@ -10,13 +10,6 @@ ghost use Rattle.fractions.specs.Values.{Fits, Below, Clear};
 ghost use Rattle.outcome.specs.Meaning.{placeOf};
 ghost use Rattle.rounds.specs.RoundLaws.{Answered, Compared};
 ghost use Rattle.samples.specs.Samples.{kept, Room};
-
-// Places for the values at the roots of a shift point, at most 16.
-fn roots() -> [u32; 16]
-    ensures { λ r. ⌜ length r ≡ 16 ⌝ }
-{
-    [0u32; 16]
-}
 
 // Places for the fractions of a round, at most 50 coins with 16 roots each; and for those of a small one.
 fn many() -> [u32; 800]
@@ -31,62 +24,14 @@ fn few() -> [u32; 64]
     [0u32; 64]
 }
 
-// G of a round in the last places of px and py, with places of its own for k values. The caller lends places for the fractions.
-fn answer_in(
-    field: u32,
-    pw: &[u32],
-    table: &[u32],
-    ac: &[u32],
-    vg: &[u32],
-    how: Function,
-    k: usize,
-    r: u32,
-    shifts: &[u32],
-    outs: &[u32],
-    replies: &[u32],
-    tops: &mut [u32],
-    bottoms: &mut [u32],
-    behind: &mut [u32],
-    px: &mut [u32],
-    py: &mut [u32],
-) -> Gathered
-    requires { ⌜ (length (now ac) ≡ 66) × ((length (now vg) ≡ 132) × (Clear field (now pw) (length (now table)) (now vg) how)) ⌝ }
-    requires { ⌜ Fits (length (now pw)) (length (now table)) how k ⌝ }
-    requires { ⌜ Below (how .step) (now shifts) ⌝ }
-    requires { ⌜ (length (now py) ≡ length (now px)) × ((length (now replies) ≡ length (now outs)) × (length (now outs) + length (now shifts) ≤ length (now px))) ⌝ }
-    requires { ⌜ (length (now shifts) * k ≤ length (now tops)) × ((length (now shifts) * k ≤ length (now bottoms)) × ((length (now shifts) * k ≤ length (now behind)) × (length (now shifts) ≤ 4096))) ⌝ }
-    ensures { λ v. ⌜ Answered field (now (pw .entry)) (now (table .entry)) (now (ac .entry)) (now (vg .entry)) how k r (now (shifts .entry)) (now (outs .entry)) (now (replies .entry)) (kept v (now (px .exit)) (now (py .exit))) ⌝ }
-    ensures { λ v. ⌜ Room (length (now (px .entry))) (length (now (outs .entry)) + length (now (shifts .entry))) v ⌝ }
-{
-    let mut values = roots();
-    rounds::answer(
-        field,
-        pw,
-        table,
-        ac,
-        vg,
-        how,
-        r,
-        shifts,
-        outs,
-        replies,
-        &mut values[..k],
-        tops,
-        bottoms,
-        behind,
-        px,
-        py,
-    )
-}
-
 // G of a round in the last places of px and py.
-pub fn answer(
+pub fn gather_round(
     field: u32,
     pw: &[u32],
     table: &[u32],
     ac: &[u32],
     vg: &[u32],
-    how: Function,
+    oracle: Oracle,
     k: usize,
     r: u32,
     shifts: &[u32],
@@ -95,25 +40,25 @@ pub fn answer(
     px: &mut [u32],
     py: &mut [u32],
 ) -> Gathered
-    requires { ⌜ (length (now ac) ≡ 66) × ((length (now vg) ≡ 132) × (Clear field (now pw) (length (now table)) (now vg) how)) ⌝ }
-    requires { ⌜ Fits (length (now pw)) (length (now table)) how k ⌝ }
-    requires { ⌜ Below (how .step) (now shifts) ⌝ }
+    requires { ⌜ (length (now ac) ≡ 66) × ((length (now vg) ≡ 132) × (Clear field (now pw) (length (now table)) (now vg) oracle)) ⌝ }
+    requires { ⌜ Fits (length (now pw)) (length (now table)) oracle k ⌝ }
+    requires { ⌜ Below (oracle .step) (now shifts) ⌝ }
     requires { ⌜ (length (now py) ≡ length (now px)) × ((length (now replies) ≡ length (now outs)) × (length (now outs) + length (now shifts) ≤ length (now px))) ⌝ }
     requires { ⌜ length (now px) ≤ 50 ⌝ }
-    ensures { λ v. ⌜ Answered field (now (pw .entry)) (now (table .entry)) (now (ac .entry)) (now (vg .entry)) how k r (now (shifts .entry)) (now (outs .entry)) (now (replies .entry)) (kept v (now (px .exit)) (now (py .exit))) ⌝ }
+    ensures { λ v. ⌜ Answered field (now (pw .entry)) (now (table .entry)) (now (ac .entry)) (now (vg .entry)) oracle k r (now (shifts .entry)) (now (outs .entry)) (now (replies .entry)) (kept v (now (px .exit)) (now (py .exit))) ⌝ }
     ensures { λ v. ⌜ Room (length (now (px .entry))) (length (now (outs .entry)) + length (now (shifts .entry))) v ⌝ }
 {
     if shifts.len() * k <= 64 {
         let mut tops = few();
         let mut bottoms = few();
         let mut behind = few();
-        return answer_in(
+        return rounds::gather_samples(
             field,
             pw,
             table,
             ac,
             vg,
-            how,
+            oracle,
             k,
             r,
             shifts,
@@ -129,13 +74,13 @@ pub fn answer(
     let mut tops = many();
     let mut bottoms = many();
     let mut behind = many();
-    answer_in(
+    rounds::gather_samples(
         field,
         pw,
         table,
         ac,
         vg,
-        how,
+        oracle,
         k,
         r,
         shifts,
@@ -149,75 +94,35 @@ pub fn answer(
     )
 }
 
-// The first final index at which the final polynomial differs, with places of its own for k values. The caller lends places for the fractions.
-fn difference_in(
-    field: u32,
-    pw: &[u32],
-    table: &[u32],
-    ac: &[u32],
-    vg: &[u32],
-    how: Function,
-    k: usize,
-    r: u32,
-    coefficients: &[u32],
-    finals: &[u32],
-    tops: &mut [u32],
-    bottoms: &mut [u32],
-    behind: &mut [u32],
-) -> Found
-    requires { ⌜ (length (now ac) ≡ 66) × ((length (now vg) ≡ 132) × (Clear field (now pw) (length (now table)) (now vg) how)) ⌝ }
-    requires { ⌜ Fits (length (now pw)) (length (now table)) how k ⌝ }
-    requires { ⌜ Below (how .step) (now finals) ⌝ }
-    requires { ⌜ (length (now finals) * k ≤ length (now tops)) × ((length (now finals) * k ≤ length (now bottoms)) × ((length (now finals) * k ≤ length (now behind)) × (length (now finals) ≤ 4096))) ⌝ }
-    ensures { λ v. ⌜ Compared field (now (pw .entry)) (now (table .entry)) (now (ac .entry)) (now (vg .entry)) how k r (now (coefficients .entry)) (now (finals .entry)) (placeOf v) ⌝ }
-{
-    let mut values = roots();
-    comparison::first_difference(
-        field,
-        pw,
-        table,
-        ac,
-        vg,
-        how,
-        r,
-        coefficients,
-        finals,
-        &mut values[..k],
-        tops,
-        bottoms,
-        behind,
-    )
-}
-
 // The first final index at which the final polynomial differs.
-pub fn difference(
+pub fn compare_finals(
     field: u32,
     pw: &[u32],
     table: &[u32],
     ac: &[u32],
     vg: &[u32],
-    how: Function,
+    oracle: Oracle,
     k: usize,
     r: u32,
     coefficients: &[u32],
     finals: &[u32],
 ) -> Found
-    requires { ⌜ (length (now ac) ≡ 66) × ((length (now vg) ≡ 132) × (Clear field (now pw) (length (now table)) (now vg) how)) ⌝ }
-    requires { ⌜ Fits (length (now pw)) (length (now table)) how k ⌝ }
-    requires { ⌜ (Below (how .step) (now finals)) × (length (now finals) ≤ 50) ⌝ }
-    ensures { λ v. ⌜ Compared field (now (pw .entry)) (now (table .entry)) (now (ac .entry)) (now (vg .entry)) how k r (now (coefficients .entry)) (now (finals .entry)) (placeOf v) ⌝ }
+    requires { ⌜ (length (now ac) ≡ 66) × ((length (now vg) ≡ 132) × (Clear field (now pw) (length (now table)) (now vg) oracle)) ⌝ }
+    requires { ⌜ Fits (length (now pw)) (length (now table)) oracle k ⌝ }
+    requires { ⌜ (Below (oracle .step) (now finals)) × (length (now finals) ≤ 50) ⌝ }
+    ensures { λ v. ⌜ Compared field (now (pw .entry)) (now (table .entry)) (now (ac .entry)) (now (vg .entry)) oracle k r (now (coefficients .entry)) (now (finals .entry)) (placeOf v) ⌝ }
 {
     if finals.len() * k <= 64 {
         let mut tops = few();
         let mut bottoms = few();
         let mut behind = few();
-        return difference_in(
+        return comparison::first_difference(
             field,
             pw,
             table,
             ac,
             vg,
-            how,
+            oracle,
             k,
             r,
             coefficients,
@@ -230,13 +135,13 @@ pub fn difference(
     let mut tops = many();
     let mut bottoms = many();
     let mut behind = many();
-    difference_in(
+    comparison::first_difference(
         field,
         pw,
         table,
         ac,
         vg,
-        how,
+        oracle,
         k,
         r,
         coefficients,

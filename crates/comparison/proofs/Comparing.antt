@@ -6,56 +6,48 @@ use mathlib.Core.List.{List}
 use mathlib.Core.Option.{Option, none, some}
 use native.Mathlib.Numerals.{add-one}
 use native.Mathlib.Omega.{arith}
-use lib.Dec.{eqb}
 use lib.ListN.{length, drop, getD, drop-of-length-le, List·getD-eq-default}
-use borrow.Author.Tests.{eq-eqb, ne-eqb}
 use Rattle.definition.specs.Lists.{firstTrue}
-use Rattle.definition.specs.Field.{Field, fieldOf, power}
-use Rattle.definition.specs.Polynomial.{evaluate}
-use Rattle.algebra.specs.PrimeField.{laws}
-use Rattle.domain.specs.Powers.{Powers}
+use Rattle.definition.specs.Field.{Field, power}
+use Rattle.definition.specs.Polynomial.{evaluate, geometric}
+use Rattle.algebra.specs.Laws.{FieldLaws}
+use Rattle.algebra.specs.RootsOfUnity.{minusOne}
+use Rattle.domain.specs.Powers.{PowersOver}
 use Rattle.sums.specs.Sums.{products, products-powers}
 use Rattle.folds.specs.PointsIn.{shiftIn, shift-power}
-use Rattle.fractions.specs.declared.Function.{Function}
-use Rattle.fractions.specs.Values.{Fits, Below, ShiftPowers, rootIn}
-use Rattle.root_values.specs.Places.{Prepared}
-use Rattle.rounds.specs.RoundLaws.{Compared, compared, differsIn}
+use Rattle.fractions.specs.declared.Oracle.{Oracle}
+use Rattle.fractions.specs.Values.{Fits, Below, rootIn}
+use Rattle.root_values.specs.Places.{PreparedOver}
+use Rattle.rounds.specs.RoundLaws.{ComparedOver, compared, differsIn}
 use Rattle.rounds.specs.SamplesIn.{foldBy, numbered, sampleBy, sampleIn}
 use Rattle.rounds.proofs.Shifts.{numbered-front, numbered-map, sample-same}
 
 -- the final polynomial's value v at the shift point, beside the fold y there
-module _ (field : ℕ) (pw roots : List ℕ) (how : Function) (k r i : ℕ) (coefficients : List ℕ) {v y k′ k″ j j′ : ℕ} (value : v ≡ evaluate (fieldOf field) coefficients (shiftIn pw (how .scale) k″ j))
-    (fold : y ≡ foldBy field pw roots how k′ r i j) (length″ : k″ ≡ k) (length′ : k′ ≡ k) (index : j ≡ j′) where
-  tested : not (eqb v y) ≡ differsIn field coefficients (sampleBy field pw roots how k r i j′)
+module _ {A : Type 0} (F : Field A) (pw roots : List A) (oracle : Oracle) (k : ℕ) (r : A) (i : ℕ) (coefficients : List A) {v y : A} {k′ k″ j j′ : ℕ}
+    (value : v ≡ evaluate F coefficients (shiftIn (F .𝟘) pw (oracle .scale) k″ j)) (fold : y ≡ foldBy F pw roots oracle k′ r i j) (length″ : k″ ≡ k) (length′ : k′ ≡ k) (index : j ≡ j′) where
+  pub tested : not (F .equal v y) ≡ differsIn F coefficients (sampleBy F pw roots oracle k r i j′)
   unfolding differsIn sampleBy
   tested =
-      (λ z. not (eqb (value z) (fold z)))
-      ∙ (λ z. not (eqb (evaluate (fieldOf field) coefficients (shiftIn pw (how .scale) (length″ z) (index z))) (foldBy field pw roots how (length′ z) r i (index z))))
-
-  pub differs : (v ≡ y → ⊥) → differsIn field coefficients (sampleBy field pw roots how k r i j′) ≡ true
-  differs h = sym tested ∙ ap not (ne-eqb v y h)
-
-  pub agrees : v ≡ y → differsIn field coefficients (sampleBy field pw roots how k r i j′) ≡ false
-  agrees h = sym tested ∙ ap not (eq-eqb v y h)
+      (λ z. not (F .equal (value z) (fold z)))
+      ∙ (λ z. not (F .equal (evaluate F coefficients (shiftIn (F .𝟘) pw (oracle .scale) (length″ z) (index z))) (foldBy F pw roots oracle (length′ z) r i (index z))))
 
 -- the final polynomial by the powers of a shift point, which has no more coefficients than there are powers
-pub final-is : (field ω : ℕ) (pw : List ℕ) (scale k j : ℕ) (coefficients powers : List ℕ) {v : ℕ} → Powers field ω pw → 0 < k → 0 < length pw →
-    ShiftPowers pw scale k j powers → length coefficients < length powers → v ≡ products (fieldOf field) coefficients powers → v ≡ evaluate (fieldOf field) coefficients (shiftIn pw scale k j)
-final-is field ω pw scale k j coefficients powers w pos long list more ev =
-    let F = fieldOf field in
-    let y = power F (power F ω (1 + scale * j)) k in
-    ev ∙ ap (products F coefficients) (list field ω w)
-    ∙ products-powers F (laws field) coefficients y (length powers - 1) (λ m l. List·getD-eq-default coefficients (F .𝟘) (omega arith))
-    ∙ ap (evaluate F coefficients) (sym (shift-power pw scale k j pos long field ω w))
+pub final-is : {A : Type 0} (F : Field A) (L : FieldLaws F) (ω : A) (pw : List A) (scale k j : ℕ) (coefficients powers : List A) {v : A} → PowersOver F ω pw → 0 < k → 0 < length pw →
+    powers ≡ geometric F (power F (power F ω (1 + scale * j)) k) (length powers - 1) → length coefficients < length powers → v ≡ products F coefficients powers →
+    v ≡ evaluate F coefficients (shiftIn (F .𝟘) pw scale k j)
+final-is F L ω pw scale k j coefficients powers w pos long list more ev =
+    ev ∙ ap (products F coefficients) list
+    ∙ products-powers F L coefficients (power F (power F ω (1 + scale * j)) k) (length powers - 1) (λ m l. List·getD-eq-default coefficients (F .𝟘) (omega arith))
+    ∙ ap (evaluate F coefficients) (sym (shift-power F L w scale k j pos long))
 
 -- the comparison by the values at the roots
-pub comparison-is : (field : ℕ) (pw table ac vg : List ℕ) (how : Function) (k r : ℕ) (js roots : List ℕ) → Fits (length pw) (length table) how k →
-    Prepared k (rootIn field pw table ac vg how) js roots → (coefficients : List ℕ) {v : Option ℕ} → Below (how .step) js →
-    v ≡ firstTrue 0 (numbered (λ i j. differsIn field coefficients (sampleBy field pw roots how k r i j)) 0 js) → Compared field pw table ac vg how k r coefficients js v
-comparison-is field pw table ac vg how k r js roots fits ready coefficients below e =
-    compared field pw table ac vg how k r fits coefficients js below
-    (e ∙ ap (firstTrue 0) (numbered-map (λ i j. differsIn field coefficients (sampleBy field pw roots how k r i j)) (λ j. differsIn field coefficients (sampleIn field pw table ac vg how k r j)) js
-    (λ i l. ap (differsIn field coefficients) (sample-same field pw table ac vg how k r js roots fits ready i l))))
+pub comparison-is : {A : Type 0} (F : Field A) → FieldLaws F → (minusOne F ≡ F .𝟙 → ⊥) → (pw table ac vg : List A) (oracle : Oracle) (k : ℕ) (r : A) (js : List ℕ) (roots : List A) →
+    Fits (length pw) (length table) oracle k → PreparedOver (F .𝟘) k (rootIn F pw table ac vg oracle) js roots → (coefficients : List A) {v : Option ℕ} → Below (oracle .step) js →
+    v ≡ firstTrue 0 (numbered (λ i j. differsIn F coefficients (sampleBy F pw roots oracle k r i j)) 0 js) → ComparedOver F pw table ac vg oracle k r coefficients js v
+comparison-is F L signs pw table ac vg oracle k r js roots fits ready coefficients below e =
+    compared F L signs pw table ac vg oracle k r fits coefficients js below
+    (e ∙ ap (firstTrue 0) (numbered-map (λ i j. differsIn F coefficients (sampleBy F pw roots oracle k r i j)) (λ j. differsIn F coefficients (sampleIn F pw table ac vg oracle k r j)) js
+    (λ i l. ap (differsIn F coefficients) (sample-same F pw table ac vg oracle k r js roots fits ready i l))))
 
 -- ---- comparing, from the first index to the last
 

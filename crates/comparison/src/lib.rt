@@ -1,7 +1,7 @@
 // The final comparison: of the final polynomial with the folds at the shift points of the final indices.
 //
 // The caller lends the words, as for the samples of a round.
-use fractions::Function;
+use fractions::Oracle;
 use outcome::Found;
 ghost use mathlib.Core.Path.{_≡_};
 ghost use Prim.Native.Nat.{ℕ, _+_, _*_, _≤_, _<_};
@@ -27,7 +27,7 @@ fn final_value(
 ) -> u32
     requires { ⌜ (scale * j < length (now pw)) × ((length (now pw) ≤ 4096) × ((0 < k) × (k ≤ 16))) ⌝ }
     requires { ⌜ PowerTable field (now pw) ⌝ }
-    ensures { λ v. ⌜ v ≡ evaluate (fieldOf field) (now (coefficients .entry)) (shiftIn (now (pw .entry)) scale k j) ⌝ }
+    ensures { λ v. ⌜ v ≡ evaluate (fieldOf field) (now (coefficients .entry)) (shiftIn 0 (now (pw .entry)) scale k j) ⌝ }
 {
     let n = coefficients.len();
     if 8 < n {
@@ -42,27 +42,27 @@ fn final_value(
 }
 
 // The first final index at whose shift point the final polynomial differs from the fold, by the values at the roots.
-fn compare(
+fn compare_by_roots(
     field: u32,
     pw: &[u32],
     roots: &[u32],
-    how: Function,
+    oracle: Oracle,
     r: u32,
     coefficients: &[u32],
     finals: &[u32],
     values: &mut [u32],
 ) -> Found
     requires { ⌜ length (now finals) * length (now values) ≤ length (now roots) ⌝ }
-    requires { ⌜ Fits (length (now pw)) (length (now values) * how .step) how (length (now values)) ⌝ }
-    requires { ⌜ Below (how .step) (now finals) ⌝ }
+    requires { ⌜ Fits (length (now pw)) (length (now values) * oracle .step) oracle (length (now values)) ⌝ }
+    requires { ⌜ Below (oracle .step) (now finals) ⌝ }
     requires { ⌜ PowerTable field (now pw) ⌝ }
-    ensures { λ v. ⌜ placeOf v ≡ firstTrue 0 (numbered (λ i j. differsIn field (now (coefficients .entry)) (sampleBy field (now (pw .entry)) (now (roots .entry)) how (length (now (values .entry))) r i j)) 0 (now (finals .entry))) ⌝ }
+    ensures { λ v. ⌜ placeOf v ≡ firstTrue 0 (numbered (λ i j. differsIn (fieldOf field) (now (coefficients .entry)) (sampleBy (fieldOf field) (now (pw .entry)) (now (roots .entry)) oracle (length (now (values .entry))) r i j)) 0 (now (finals .entry))) ⌝ }
 {
     let mut i = 0;
     while i < finals.len() {
         let j = folds::wide(finals[i]);
-        let y = rounds::fold_at(field, pw, roots, how, i, j, r, values);
-        let value = final_value(field, pw, how.scale, j, values.len(), coefficients);
+        let y = rounds::fold_at(field, pw, roots, oracle, i, j, r, values);
+        let value = final_value(field, pw, oracle.scale, j, values.len(), coefficients);
         if value != y {
             return Found::At(i);
         }
@@ -78,34 +78,43 @@ pub fn first_difference(
     table: &[u32],
     ac: &[u32],
     vg: &[u32],
-    how: Function,
+    oracle: Oracle,
+    k: usize,
     r: u32,
     coefficients: &[u32],
     finals: &[u32],
-    values: &mut [u32],
     tops: &mut [u32],
     bottoms: &mut [u32],
     behind: &mut [u32],
 ) -> Found
-    requires { ⌜ (length (now ac) ≡ 66) × ((length (now vg) ≡ 132) × (Clear field (now pw) (length (now table)) (now vg) how)) ⌝ }
-    requires { ⌜ Fits (length (now pw)) (length (now table)) how (length (now values)) ⌝ }
-    requires { ⌜ Below (how .step) (now finals) ⌝ }
-    requires { ⌜ (length (now finals) * length (now values) ≤ length (now tops)) × ((length (now finals) * length (now values) ≤ length (now bottoms)) × ((length (now finals) * length (now values) ≤ length (now behind)) × (length (now finals) ≤ 4096))) ⌝ }
-    ensures { λ v. ⌜ Compared field (now (pw .entry)) (now (table .entry)) (now (ac .entry)) (now (vg .entry)) how (length (now (values .entry))) r (now (coefficients .entry)) (now (finals .entry)) (placeOf v) ⌝ }
+    requires { ⌜ (length (now ac) ≡ 66) × ((length (now vg) ≡ 132) × (Clear field (now pw) (length (now table)) (now vg) oracle)) ⌝ }
+    requires { ⌜ Fits (length (now pw)) (length (now table)) oracle (k) ⌝ }
+    requires { ⌜ Below (oracle .step) (now finals) ⌝ }
+    requires { ⌜ (length (now finals) * k ≤ length (now tops)) × ((length (now finals) * k ≤ length (now bottoms)) × ((length (now finals) * k ≤ length (now behind)) × (length (now finals) ≤ 4096))) ⌝ }
+    ensures { λ v. ⌜ Compared field (now (pw .entry)) (now (table .entry)) (now (ac .entry)) (now (vg .entry)) oracle k r (now (coefficients .entry)) (now (finals .entry)) (placeOf v) ⌝ }
 {
-    let k = values.len();
     root_values::prepare(
         field,
         pw,
         table,
         ac,
         vg,
-        how,
+        oracle,
         k,
         finals,
         tops,
         bottoms,
         behind,
     );
-    compare(field, pw, tops, how, r, coefficients, finals, values)
+    let mut values = fractions::roots();
+    compare_by_roots(
+        field,
+        pw,
+        tops,
+        oracle,
+        r,
+        coefficients,
+        finals,
+        &mut values[..k],
+    )
 }

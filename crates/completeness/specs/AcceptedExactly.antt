@@ -12,9 +12,9 @@ use Rattle.definition.specs.Block.{streamOf}
 use Rattle.definition.specs.Sheet.{Edition, Sheet}
 use Rattle.definition.specs.Verdict.{accepted, refused}
 use Rattle.definition.specs.Verify.{verifyIn}
+use Rattle.layouts.specs.Levels.{outCoinCount, roundsOf}
 use Rattle.completeness.specs.Faults.{Fault, FirstFault, Kept, NoFault, faultsOf, numberTurn, outs, partWord, sheetIn, turnOf}
 use Rattle.completeness.specs.FirstFaults.{accepted-then, first-then, none-then, refused-then}
-use Rattle.completeness.specs.Numbered.{outsOf, roundsOf}
 use Rattle.completeness.specs.VerifyExactly.{apart, exact, is-true, numbered, own-turn}
 
 stable : (a b : ℕ) → ((a ≡ b → ⊥) → ⊥) → a ≡ b
@@ -49,7 +49,7 @@ module _ (ed : Edition) (file : List ℕ) where
     match = λ j l. stable _ _ (λ k. clear 9 j (l, k));
   }
     where
-      same-coin : (i : ℕ) → i < roundsOf h → (a b : ℕ) → a < outsOf h → b < outsOf h → partWord ed h w (outs i) a ≡ partWord ed h w (outs i) b → Dec (a < b) → Dec (b < a) → a ≡ b
+      same-coin : (i : ℕ) → i < roundsOf h → (a b : ℕ) → a < outCoinCount h → b < outCoinCount h → partWord ed h w (outs i) a ≡ partWord ed h w (outs i) b → Dec (a < b) → Dec (b < a) → a ≡ b
       same-coin i l a b la lb e (yes u) v = absurd (clear 14 _ (i, l, (b, lb, refl, (a, u, sym e))))
       same-coin i l a b la lb e (no u) (yes v) = absurd (clear 14 _ (i, l, (a, la, refl, (b, v, e))))
       same-coin i l a b la lb e (no u) (no v) = omega arith

@@ -14,13 +14,12 @@ use Rattle.definition.specs.Prove.{coefficientsTest, coinDomainTest, coinEqualT
 use Rattle.definition.specs.Reading.{outOfRange}
 use Rattle.definition.specs.Sheet.{Edition, Sheet, firstLevel, laterLevels, sheetLength, sheetOf}
 use Rattle.definition.specs.Verdict.{accepted}
-use Rattle.algebra.specs.ListFacts.{All, all-map}
-use Rattle.completeness.specs.EachWord.{Each, each-append-at, each-false, each-pair, each-replicate}
+use Rattle.list_laws.specs.All.{All, all-map}
+use Rattle.layouts.specs.EachWord.{Each, Passes, each-append-at, each-false, each-pair, each-replicate}
+use Rattle.layouts.specs.LayoutFacts.{CoinRuns, coins-append, coins-messages, coin-runs}
+use Rattle.layouts.specs.Tests.{all-false, at-passes, equal-passes}
 use Rattle.completeness.specs.EqualOuts.{NoRepeat}
-use Rattle.completeness.specs.FairCoins.{Passes}
-use Rattle.completeness.specs.LayoutFacts.{Dealt, coins-append, coins-messages, dealt}
 use Rattle.completeness.specs.Numbered.{Allowed}
-use Rattle.completeness.specs.Tests.{all-false, at-passes, equal-passes}
 
 pub sheet-long : (ed : Edition) (w : List ℕ) → sheetLengthTest ed w ≡ accepted → length w ≡ sheetLength ed
 unfolding sheetLengthTest
@@ -92,8 +91,8 @@ module _ {ed : Edition} {w f coins : List ℕ} (ok : Allowed ed w f coins) where
   pub allowed-first : Passes (sheetOf ed w) coin (getD coins 0 0)
   allowed-first = split-coins .0
 
-  pub allowed-rounds : Dealt (Passes (sheetOf ed w)) (sheetOf ed w .outCoins) (firstLevel (sheetOf ed w)) (laterLevels (sheetOf ed w)) (drop 1 coins)
-  allowed-rounds = dealt (Passes (sheetOf ed w)) (sheetOf ed w .outCoins) (firstLevel (sheetOf ed w)) (laterLevels (sheetOf ed w)) (drop 1 coins) (split-coins .1)
+  pub allowed-rounds : CoinRuns (Passes (sheetOf ed w)) (sheetOf ed w .outCoins) (firstLevel (sheetOf ed w)) (laterLevels (sheetOf ed w)) (drop 1 coins)
+  allowed-rounds = coin-runs (Passes (sheetOf ed w)) (sheetOf ed w .outCoins) (firstLevel (sheetOf ed w)) (laterLevels (sheetOf ed w)) (drop 1 coins) (split-coins .1)
 
   -- no two out coins of a round are equal
   pub allowed-apart : NoRepeat none (coinKinds (layout (sheetOf ed w))) coins

@@ -2,26 +2,27 @@
 use Prim.Native.Nat.{ℕ, zero, suc, _+_, _≤_, _<_}
 use native.Mathlib.Omega.{arith}
 use mathlib.Core.Bool.{Bool, true, false, not}
-use mathlib.Core.List.{List, [], _∷_, _++_, map, zipWith}
+use mathlib.Core.List.{List, [], _++_, map}
 use mathlib.Core.Option.{Option, none, some}
 use mathlib.Core.Path.{_≡_, refl, sym, subst}
 use lib.ListN.{getD, length, replicate, length-append}
+use Rattle.definition.specs.Deciding.{outInDomain}
 use Rattle.definition.specs.Layout.{coinKinds, layout, message}
 use Rattle.definition.specs.Lists.{firstOf, firstTrue}
 use Rattle.definition.specs.Prove.{coefficientsTest, coinDomainTest, coinEqualTest, coinsTest, encode, encodeTests, finish, inputRangeTest, outputTest, proveIn, proveTests, refusal, sheetLengthTest}
-use Rattle.definition.specs.Deciding.{outInDomain}
 use Rattle.definition.specs.Reading.{outOfRange, sheetTest}
 use Rattle.definition.specs.Sheet.{Edition, edition1, sheetLength, sheetOf, sheetRules, testOrder}
 use Rattle.definition.specs.Verdict.{Outcome, _then_, accepted, refuseAt, refuseIf, refused}
 use Rattle.definition.specs.Verify.{verifyIn}
+use Rattle.list_laws.specs.First.{FirstAt, FirstTrue, first-of, first-true}
+use Rattle.list_laws.specs.Lists.{zip-short}
+use Rattle.layouts.specs.Levels.{outCoinCount, roundsOf}
+use Rattle.layouts.specs.RulesByWord.{rules-counted, rules-length, turn-of-word}
 use Rattle.completeness.specs.AcceptedExactly.{refused-exactly}
 use Rattle.completeness.specs.EqualOuts.{repeated-most}
 use Rattle.completeness.specs.Faults
 use Rattle.completeness.specs.Faults.{EncodeRefusal, Fault, NoFault, ProveRefusal, VerifyRefusal, dueOf, faultsOf, numberTurn, outs, partLength, partStart, sheetIn}
-use Rattle.completeness.specs.Numbered.{outsOf, roundsOf}
-use Rattle.completeness.specs.FirstFaults.{FirstAt, FirstTrue, first-of, first-true}
 use Rattle.completeness.specs.PartsByNumber.{part-below}
-use Rattle.completeness.specs.RulesByWord.{order-count, rules-length, turn-of-word}
 use Rattle.completeness.specs.VerifyExactly.{own-turn}
 
 -- what holds of every refusal of an outcome
@@ -50,18 +51,11 @@ module _ (Q : ℕ → ℕ → Type 0) where
 
   pub refuses-sheet : (ed : Edition) (w : List ℕ) → ((i : ℕ) → i < sheetLength ed → Q 3 i) → Refuses (sheetTest ed w)
   unfolding sheetTest refuseAt
-  refuses-sheet ed w h = go (firstOf (testOrder ed) (map not (sheetRules ed w))) (first-of (testOrder ed) (map not (sheetRules ed w)) (omega (arith, rules-length ed w, order-count ed)))
+  refuses-sheet ed w h = go (firstOf (testOrder ed) (map not (sheetRules ed w))) (first-of (testOrder ed) (map not (sheetRules ed w)) (omega (arith, rules-length ed w, rules-counted ed)))
     where
       go : (o : Option ℕ) → FirstAt (λ j. getD (testOrder ed) j 0) (map not (sheetRules ed w)) o → Refuses (refuseAt 3 o)
       go none k = tt
       go (some q) k = subst (Q 3) (sym (k .1)) (h _ (turn-of-word ed (k .0) (omega (arith, k .2, rules-length ed w)) .1))
-
--- a test of the words of one list is no longer than it
-zip-most : {A : Type 0} (t : A → ℕ → Bool) (ks : List A) (v : List ℕ) → length (zipWith t ks v) ≤ length v
-unfolding zipWith
-zip-most t [] v = omega arith
-zip-most t (k ∷ ks) [] = omega arith
-zip-most t (k ∷ ks) (x ∷ v) = omega (arith, zip-most t ks v)
 
 -- the refusal of an answer is that of its tests
 finish-refusal : (Q : ℕ → ℕ → Type 0) (o : Outcome) (count n q : ℕ) (written output : List ℕ) → Refuses Q o → finish o count written output .answer ≡ refusal n q → Q n q
@@ -83,9 +77,9 @@ module _ (ed : Edition) (w f coins output : List ℕ) where
       (then-refuses Q (coefficientsTest (sheetOf ed w) f) _ (if-refuses Q 10 1 _ Faults.ProveRefusal.coefficient·count)
       (then-refuses Q (coinsTest (sheetOf ed w) coins) _ (if-refuses Q 10 2 _ Faults.ProveRefusal.coin·count)
       (then-refuses Q (inputRangeTest (sheetOf ed w) (coinKinds (layout (sheetOf ed w))) (f ++ coins)) _
-      (at-refuses Q 5 0 _ (λ j l. Faults.ProveRefusal.word·over (0 + j) (omega (arith, zip-most (outOfRange (sheetOf ed w)) (replicate (sheetOf ed w .degree) message ++ coinKinds (layout (sheetOf ed w))) (f ++ coins), length-append f coins))))
+      (at-refuses Q 5 0 _ (λ j l. Faults.ProveRefusal.word·over (0 + j) (omega (arith, zip-short (outOfRange (sheetOf ed w)) (replicate (sheetOf ed w .degree) message ++ coinKinds (layout (sheetOf ed w))) (f ++ coins), length-append f coins))))
       (then-refuses Q (coinDomainTest (sheetOf ed w) coins) _
-      (at-refuses Q 7 0 _ (λ j l. Faults.ProveRefusal.coin·inside (0 + j) (omega (arith, zip-most (outInDomain (sheetOf ed w)) (coinKinds (layout (sheetOf ed w))) coins))))
+      (at-refuses Q 7 0 _ (λ j l. Faults.ProveRefusal.coin·inside (0 + j) (omega (arith, zip-short (outInDomain (sheetOf ed w)) (coinKinds (layout (sheetOf ed w))) coins))))
       (then-refuses Q (coinEqualTest (sheetOf ed w) coins) _
       (at-refuses Q 14 0 _ (λ j l. Faults.ProveRefusal.coin·equal (0 + j) (omega (arith, repeated-most none (coinKinds (layout (sheetOf ed w))) coins))))
       (if-refuses Q 11 _ _ Faults.ProveRefusal.output·short)))))))) e
@@ -100,13 +94,13 @@ module _ (w f output : List ℕ) where
       (then-refuses Q (sheetTest edition1 w) _ (refuses-sheet Q edition1 w Faults.EncodeRefusal.rule·broken)
       (then-refuses Q (coefficientsTest (sheetOf edition1 w) f) _ (if-refuses Q 10 1 _ Faults.EncodeRefusal.coefficient·count)
       (then-refuses Q (inputRangeTest (sheetOf edition1 w) [] f) _
-      (at-refuses Q 5 0 _ (λ j l. Faults.EncodeRefusal.word·over (0 + j) (omega (arith, zip-most (outOfRange (sheetOf edition1 w)) (replicate (sheetOf edition1 w .degree) message ++ []) f))))
+      (at-refuses Q 5 0 _ (λ j l. Faults.EncodeRefusal.word·over (0 + j) (omega (arith, zip-short (outOfRange (sheetOf edition1 w)) (replicate (sheetOf edition1 w .degree) message ++ []) f))))
       (if-refuses Q 11 _ _ Faults.EncodeRefusal.output·short))))) e
 
 -- A refusal of verify is a fault, and each fault has its range.
 module _ (ed : Edition) (file : List ℕ) where
   -- an out coin of a round is among the words due
-  out-below : (i j q : ℕ) → i < roundsOf (sheetIn ed file) → j < outsOf (sheetIn ed file) → q ≡ partStart ed (sheetIn ed file) (outs i) + j →
+  out-below : (i j q : ℕ) → i < roundsOf (sheetIn ed file) → j < outCoinCount (sheetIn ed file) → q ≡ partStart ed (sheetIn ed file) (outs i) + j →
       (sheetLength ed ≤ q) × (q < dueOf ed (sheetIn ed file))
   unfolding partLength
   out-below i j q l u e = let r = part-below ed (sheetIn ed file) (outs i) l j u in (omega (arith, e, r .0), omega (arith, e, r .1))

@@ -17,16 +17,17 @@ use Rattle.definition.specs.Reading.{outOfRange, rangeTest, reading, sheetTest}
 use Rattle.definition.specs.Sheet.{Edition, Sheet, firstLevel, rootOfUnity, sheetLength, sheetOf}
 use Rattle.definition.specs.Verdict.{Outcome, Verdict, _then_, accepted, refuseAt, thenVerdict}
 use Rattle.definition.specs.Verify.{verifyIn}
-use Rattle.algebra.specs.ListFacts.{All}
-use Rattle.completeness.specs.EachWord.{Each, each-false}
+use Rattle.list_laws.specs.All.{All}
+use Rattle.layouts.specs.EachWord.{Each, each-false}
+use Rattle.layouts.specs.FileTrip.{fillCount, filled}
+use Rattle.layouts.specs.FileWords.{stream-length}
+use Rattle.layouts.specs.Passed.{Passed, passed}
+use Rattle.layouts.specs.SheetLevels.{sheet-front}
+use Rattle.layouts.specs.Tests.{at-passes}
 use Rattle.completeness.specs.EqualOuts.{repeated-front}
 use Rattle.completeness.specs.FileBack.{file-back}
 use Rattle.completeness.specs.FileRead.{InRange, file-reads, stream-is}
-use Rattle.completeness.specs.FileTrip.{fillCount, filled, stream-length}
 use Rattle.completeness.specs.FrontOfStream.{transcript-front, zip-front}
-use Rattle.completeness.specs.Passed.{Passed, passed}
-use Rattle.completeness.specs.SheetLevels.{sheet-front}
-use Rattle.completeness.specs.Tests.{at-passes}
 
 -- the verdict on words after a sheet h, where the first of them has number n
 unfoldable pub decidedFrom : Sheet → List ℕ → ℕ → Verdict

@@ -18,27 +18,29 @@ use Rattle.definition.specs.Sheet.{Edition, Level, Sheet, firstLevel, laterLeve
 use Rattle.definition.specs.Transcript.{Coins, Transcript, transcriptWords}
 use Rattle.definition.specs.Verdict.{_then_, accepted, thenVerdict}
 use Rattle.definition.specs.Verify.{verifyIn}
-use Rattle.algebra.specs.ListFacts.{All}
+use Rattle.list_laws.specs.All.{All}
 use Rattle.algebra.specs.PrimeField.{signs-differ}
+use Rattle.layouts.specs.EachWord.{Each, Passes, each-length, each-map, each-none}
+use Rattle.layouts.specs.FileTrip.{Word, fillCount}
+use Rattle.layouts.specs.Lawful.{lawful}
+use Rattle.layouts.specs.LevelSizes.{chain-head}
+use Rattle.layouts.specs.Levels.{levelOf, roundsOf}
+use Rattle.layouts.specs.LevelsByNumber.{level-first}
+use Rattle.layouts.specs.SheetLevels.{sheet-front}
+use Rattle.layouts.specs.Tests.{at-none, none-true}
 use Rattle.completeness.specs.Allowed.{allowed-apart, allowed-degree, allowed-enough, allowed-first, allowed-long, allowed-rounds, allowed-some}
 use Rattle.completeness.specs.CoinsByNumber.{coins-read}
 use Rattle.completeness.specs.DecidingAccepts
-use Rattle.completeness.specs.DecidingAccepts.{Fair, allPlaces}
+use Rattle.completeness.specs.DecidingAccepts.{Admissible, allPlaces}
 use Rattle.completeness.specs.Domains.{foldable}
-use Rattle.completeness.specs.EachWord.{Each, each-length, each-map, each-none}
 use Rattle.completeness.specs.EqualOuts.{NoRepeat, repeated-front, stream-apart}
-use Rattle.completeness.specs.FairCoins.{Passes, chain-head, fair}
+use Rattle.completeness.specs.AdmissibleCoins.{admissible}
 use Rattle.completeness.specs.FileRead
 use Rattle.completeness.specs.FileRead.{InRange}
-use Rattle.completeness.specs.FileTrip.{Word, fillCount}
 use Rattle.completeness.specs.HonestStream.{first-degree, words-coins, words-each, words-read}
-use Rattle.completeness.specs.LevelsByNumber.{level-first}
-use Rattle.completeness.specs.Numbered.{Allowed, coinsOf, finalIndices, foldCoin, levelOf, readsDue, roundsOf}
+use Rattle.completeness.specs.Numbered.{Allowed, coinsOf, finalIndices, foldCoin, readsDue}
 use Rattle.completeness.specs.Reads.{all-reads}
 use Rattle.completeness.specs.Ready.{Ready, ready, ready-sized}
-use Rattle.completeness.specs.SheetLevels.{sheet-front}
-use Rattle.completeness.specs.Lawful.{lawful}
-use Rattle.completeness.specs.Tests.{at-none, none-true}
 
 module _ {ed : Edition} {w f coins : List ℕ} (ok : Allowed ed w f coins) where
   abbrev h : Sheet
@@ -60,10 +62,10 @@ module _ {ed : Edition} {w f coins : List ℕ} (ok : Allowed ed w f coins) where
   τ = honest (primeField (sheetOf ed w .prime)) (rootOfUnity (sheetOf ed w)) (firstLevel (sheetOf ed w)) f (readCoins (sheetOf ed w) coins)
 
   -- the allowed coins are fair
-  pub fair-coins : Fair F (sheetReady .laws) ω (firstLevel h) (readCoins h coins .rounds) (readCoins h coins .finals)
+  pub admissible-coins : Admissible F (sheetReady .laws) ω (firstLevel h) (readCoins h coins .rounds) (readCoins h coins .finals)
   unfolding readCoins
-  fair-coins =
-      fair h (sheetReady .laws) (signs-differ (h .prime) (sheetReady .large)) (sheetReady .e) (sheetReady .root)
+  admissible-coins =
+      admissible h (sheetReady .laws) (signs-differ (h .prime) (sheetReady .large)) (sheetReady .e) (sheetReady .root)
       (h .outCoins) (firstLevel h) (laterLevels h) (drop 1 coins) (sheetReady .chain) (sheetReady .steps) (allowed-rounds ok)
 
   positive : 0 < h .prime
@@ -72,7 +74,7 @@ module _ {ed : Edition} {w f coins : List ℕ} (ok : Allowed ed w f coins) where
   -- the words after the sheet
   honest-each : Each (Passes h) (layout h) (transcriptWords τ)
   unfolding readCoins
-  honest-each = words-each h positive (sheetReady .laws) f coins (allowed-degree ok) (allowed-first ok) (allowed-rounds ok) fair-coins
+  honest-each = words-each h positive (sheetReady .laws) f coins (allowed-degree ok) (allowed-first ok) (allowed-rounds ok) admissible-coins
 
   inside : Each (InRange (sheetOf ed w)) (layout (sheetOf ed w)) (transcriptWords τ)
   inside = each-map (layout h) (transcriptWords τ) honest-each (λ k x p. p .0)
@@ -115,7 +117,7 @@ module _ {ed : Edition} {w f coins : List ℕ} (ok : Allowed ed w f coins) where
       subst (λ (bs : List Bool). All (λ b. b ≡ false) bs) (sym (repeated-front none (layout h) (transcriptWords τ) fill (each-length (Passes h) (layout h) (transcriptWords τ) honest-each)))
       (stream-apart none none tt (layout h) (transcriptWords τ)
       (subst (NoRepeat none (coinKinds (layout h)))
-      (sym (words-coins h positive (sheetReady .laws) f coins (allowed-degree ok) (allowed-first ok) (allowed-rounds ok) fair-coins (allowed-some ok))) (allowed-apart ok)))
+      (sym (words-coins h positive (sheetReady .laws) f coins (allowed-degree ok) (allowed-first ok) (allowed-rounds ok) admissible-coins (allowed-some ok))) (allowed-apart ok)))
 
   equal-passes : equalTest h (sheetLength ed) (layout h) (w ++ (transcriptWords τ ++ fill)) ≡ accepted
   unfolding equalTest
@@ -124,7 +126,7 @@ module _ {ed : Edition} {w f coins : List ℕ} (ok : Allowed ed w f coins) where
   -- reading the words back, whatever follows them
   read-words : (z : List ℕ) → readTranscript h (transcriptWords τ ++ z) ≡ τ
   unfolding readCoins
-  read-words z = words-read h positive (sheetReady .laws) f coins (allowed-degree ok) (allowed-first ok) (allowed-rounds ok) fair-coins z
+  read-words z = words-read h positive (sheetReady .laws) f coins (allowed-degree ok) (allowed-first ok) (allowed-rounds ok) admissible-coins z
 
   pub read-back : (z : List ℕ) → readTranscript h (drop (sheetLength ed) (honestStream ed w f coins ++ z)) ≡ τ
   unfolding honestStream
@@ -134,15 +136,15 @@ module _ {ed : Edition} {w f coins : List ℕ} (ok : Allowed ed w f coins) where
   numbered : readCoins h coins ≡ record { fold = foldCoin h coins 0; rounds = map (coinsOf h coins) (range 1 (roundsOf h)); finals = finalIndices h coins }
   numbered = coins-read h coins (lawful ed w (allowed-enough ok) (ok .sheet) .paired)
 
-  fair-numbered : Fair F (sheetReady .laws) ω (levelOf h 0) (map (coinsOf h coins) (range 1 (roundsOf h))) (finalIndices h coins)
-  fair-numbered =
-      subst (λ (c : Coins ℕ). Fair F (sheetReady .laws) ω (levelOf h 0) (c .rounds) (c .finals)) numbered
-      (subst (λ (b : Level). Fair F (sheetReady .laws) ω b (readCoins h coins .rounds) (readCoins h coins .finals)) (level-first h) fair-coins)
+  admissible-numbered : Admissible F (sheetReady .laws) ω (levelOf h 0) (map (coinsOf h coins) (range 1 (roundsOf h))) (finalIndices h coins)
+  admissible-numbered =
+      subst (λ (c : Coins ℕ). Admissible F (sheetReady .laws) ω (levelOf h 0) (c .rounds) (c .finals)) numbered
+      (subst (λ (b : Level). Admissible F (sheetReady .laws) ω b (readCoins h coins .rounds) (readCoins h coins .finals)) (level-first h) admissible-coins)
 
   coins-counted : readsOf (allPlaces (firstLevel h) (ownPlace (firstLevel h)) (readCoins h coins .rounds) (readCoins h coins .finals)) ≡ readsDue h coins
   coins-counted =
       (λ i. readsOf (allPlaces (level-first h i) (ownPlace (level-first h i)) (numbered i .rounds) (numbered i .finals)))
-      ∙ all-reads h coins (suc (sheetReady .e)) (sheetReady .laws) (ready-sized ed w (allowed-enough ok) (ok .sheet)) fair-numbered
+      ∙ all-reads h coins (suc (sheetReady .e)) (sheetReady .laws) (ready-sized ed w (allowed-enough ok) (ok .sheet)) admissible-numbered
 
   -- deciding: refusals 8 and 9
   decided : counted (decide F ω (firstLevel h) (readTranscript h (transcriptWords τ ++ fill))) ≡ record { outcome = accepted; reads = readsDue (sheetOf ed w) coins }
@@ -151,7 +153,7 @@ module _ {ed : Edition} {w f coins : List ℕ} (ok : Allowed ed w f coins) where
       ap counted (ap (decide F ω (firstLevel h)) (read-words fill)
       ∙ DecidingAccepts.deciding-accepts F (sheetReady .laws) ω (firstLevel h) f (readCoins h coins) degree
       (foldable F (sheetReady .laws) ω (signs-differ (h .prime) (sheetReady .large)) (sheetReady .e) (sheetReady .root) (firstLevel h) (chain-head _ (firstLevel h) (laterLevels h) (sheetReady .chain)))
-      fair-coins)
+      admissible-coins)
       ∙ (λ i. record { outcome = accepted; reads = coins-counted i })
     where
       degree : length f ≡ firstLevel h .degree

@@ -19,17 +19,18 @@ use Rattle.definition.specs.Reading.{reading, sheetTest}
 use Rattle.definition.specs.Sheet.{Edition, Sheet, edition1, edition2, firstLevel, foldPlaces, foldWords, rootOfUnity, sheetLength, sheetOf}
 use Rattle.definition.specs.Verdict.{Outcome, Verdict, _then_, accepted, refuseAt, refused, thenVerdict}
 use Rattle.definition.specs.Verify.{verifyIn}
-use Rattle.algebra.specs.ListFacts.{All}
+use Rattle.list_laws.specs.All.{All}
+use Rattle.list_laws.specs.Lists.{take-replicate}
+use Rattle.layouts.specs.Passed.{passed}
+use Rattle.layouts.specs.SheetLevels.{rules-back, sheet-front}
+use Rattle.layouts.specs.SheetRules.{rounds-most}
+use Rattle.layouts.specs.Tests.{at-none, none-true}
 use Rattle.completeness.specs.Answers.{Refuses, at-refuses, then-refuses}
 use Rattle.completeness.specs.Carried.{body-long, carried-body, carried-front, carried-reads, carried-sheet, carried-verdict, decidedFrom, file-is, front-long, verdict-is}
 use Rattle.completeness.specs.DecidedByNumber.{decided}
 use Rattle.completeness.specs.Faults.{sixHigher}
-use Rattle.completeness.specs.Passed.{passed}
 use Rattle.completeness.specs.SameVerdict.{ordered}
-use Rattle.completeness.specs.SheetLevels.{rules-back, sheet-front}
-use Rattle.completeness.specs.SheetRules.{rounds-most, take-replicate}
 use Rattle.completeness.specs.Spread.{cut-passes, cut-sheet, spread-count, spread-cut, spread-passes, spread-sheet}
-use Rattle.completeness.specs.Tests.{at-none, none-true}
 
 -- the folding numbers of edition 1 are equal
 all-same : (k n : ℕ) → All (λ (b : Bool). b ≡ false) (map (λ (x : ℕ). not (eqb x k)) (replicate n k))

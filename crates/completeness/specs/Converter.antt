@@ -19,13 +19,13 @@ use Rattle.definition.specs.Reading.{reading}
 use Rattle.definition.specs.Sheet.{Sheet, edition1, edition2, sheetOf}
 use Rattle.definition.specs.Verdict.{Outcome, _then_, accepted, refuseAt, refuseIf, refused}
 use Rattle.definition.specs.Verify.{verifyIn}
-use Rattle.completeness.specs.ByPlace.{all-places}
+use Rattle.list_laws.specs.All.{all-places}
+use Rattle.list_laws.specs.First.{FirstTrue, first-true}
+use Rattle.list_laws.specs.Lists.{getD-map}
+use Rattle.layouts.specs.FileTrip.{file-length}
+use Rattle.layouts.specs.Tests.{if-false, if-passes, then-passes}
 use Rattle.completeness.specs.Conversion.{backward-body, backward-forward, backward-length, backward-reads, backward-sheet, backward-verdict, converted, forward-back, forward-body, forward-folds, forward-length, forward-reads, forward-sheet, forward-verdict}
-use Rattle.completeness.specs.FileTrip.{file-length}
-use Rattle.completeness.specs.FirstFaults.{FirstTrue, first-true}
-use Rattle.completeness.specs.ListLaws.{getD-map}
 use Rattle.completeness.specs.ProveAccepted.{finish-done, finish-failed}
-use Rattle.completeness.specs.Tests.{if-false, if-passes, then-passes}
 
 -- ---- the output, whatever the words
 

@@ -13,13 +13,14 @@ use Rattle.definition.specs.Layout.{laterCount, readRest, readTranscript, round
 use Rattle.definition.specs.Lists.{firstTrue, range}
 use Rattle.definition.specs.Polynomial.{clash}
 use Rattle.definition.specs.Sheet.{Edition, Sheet, firstLevel, sheetLength}
-use Rattle.definition.specs.Transcript.{Rest}
 use Rattle.definition.specs.Transcript
+use Rattle.definition.specs.Transcript.{Rest}
 use Rattle.definition.specs.Verdict.{Outcome, _then_, refuseAt, refused}
+use Rattle.list_laws.specs.Lists.{drop-take}
+use Rattle.layouts.specs.Levels.{levelOf, outCoinCount, roundStart, roundsOf, sheetField, sheetRoot, wordCount}
+use Rattle.layouts.specs.LevelsByNumber.{Paired, level-first, levels-later}
 use Rattle.completeness.specs.Faults.{combination, finals, fold, functionIn, outs, pairsIn, partLength, partStart, partWord, partWords, roundIn, shifts, words}
-use Rattle.completeness.specs.LevelsByNumber.{Paired, level-first, levels-later}
-use Rattle.completeness.specs.ListLaws.{drop-take}
-use Rattle.completeness.specs.Numbered.{final, lengthOf, levelOf, outsOf, replies, roundStart, roundsOf, sheetField, sheetRoot, startOf, table, wordCount}
+use Rattle.completeness.specs.Numbered.{final, lengthOf, replies, startOf, table}
 
 module _ (ed : Edition) (h : Sheet) (w : List ℕ) where
   abbrev F : Field ℕ
@@ -35,15 +36,15 @@ module _ (ed : Edition) (h : Sheet) (w : List ℕ) where
   round-read : (i : ℕ) →
       record {
         table = take (levelOf h (suc i) .size) (drop (roundStart ed h (suc i)) w);
-        coins = roundCoins (levelOf h (suc i)) (take (outsOf h) (drop (levelOf h (suc i) .size) (drop (roundStart ed h (suc i)) w)))
-            (take (laterCount (levelOf h i)) (drop (outsOf h) (drop (outsOf h) (drop (levelOf h (suc i) .size) (drop (roundStart ed h (suc i)) w)))));
-        replies = take (outsOf h) (drop (outsOf h) (drop (levelOf h (suc i) .size) (drop (roundStart ed h (suc i)) w)));
+        coins = roundCoins (levelOf h (suc i)) (take (outCoinCount h) (drop (levelOf h (suc i) .size) (drop (roundStart ed h (suc i)) w)))
+            (take (laterCount (levelOf h i)) (drop (outCoinCount h) (drop (outCoinCount h) (drop (levelOf h (suc i) .size) (drop (roundStart ed h (suc i)) w)))));
+        replies = take (outCoinCount h) (drop (outCoinCount h) (drop (levelOf h (suc i) .size) (drop (roundStart ed h (suc i)) w)));
       } ≡ roundIn ed h w i
   unfolding roundCoins laterCount partWords partStart partLength startOf lengthOf
   round-read i =
       let a = roundStart ed h (suc i) in
       let n = levelOf h (suc i) .size in
-      let s = outsOf h in
+      let s = outCoinCount h in
       let t = levelOf h i .repetitions in
       let e₁ : drop n (drop a w) ≡ drop (a + n) w = drop-drop n a w in
       let e₂ : drop s (drop n (drop a w)) ≡ drop (a + (n + s)) w = ap (drop s) e₁ ∙ drop-drop s (a + n) w ∙ ap (λ (m : ℕ). drop m w) (add-assoc a n s) in
@@ -65,23 +66,23 @@ module _ (ed : Edition) (h : Sheet) (w : List ℕ) where
       }
 
   next-words : (i : ℕ) →
-      drop (laterCount (levelOf h i)) (drop (outsOf h) (drop (outsOf h) (drop (levelOf h (suc i) .size) (drop (roundStart ed h (suc i)) w)))) ≡ drop (roundStart ed h (suc (suc i))) w
+      drop (laterCount (levelOf h i)) (drop (outCoinCount h) (drop (outCoinCount h) (drop (levelOf h (suc i) .size) (drop (roundStart ed h (suc i)) w)))) ≡ drop (roundStart ed h (suc (suc i))) w
   unfolding roundStart wordCount
   next-words i =
       let a = roundStart ed h (suc i) in
       let n = levelOf h (suc i) .size in
-      let s = outsOf h in
+      let s = outCoinCount h in
       let c = laterCount (levelOf h i) in
       ap (drop c) (ap (drop s) (ap (drop s) (drop-drop n a w) ∙ drop-drop s (a + n) w) ∙ drop-drop s (a + n + s) w) ∙ drop-drop c (a + n + s + s) w
       ∙ ap (λ (m : ℕ). drop m w) (let q : a + n + s + s + c ≡ a + (n + (s + (s + c))) = omega arith in q)
 
   -- what is read from the words after round i
   abbrev pub restAfter : ℕ → ℕ → Rest ℕ
-  restAfter i m = readRest (outsOf h) (levelOf h i) (map (levelOf h) (range (suc i) m)) (drop (roundStart ed h (suc i)) w)
+  restAfter i m = readRest (outCoinCount h) (levelOf h i) (map (levelOf h) (range (suc i) m)) (drop (roundStart ed h (suc i)) w)
 
   pub rest-round : (i m : ℕ) → restAfter i (suc m) ≡ Transcript.round (roundIn ed h w i) (restAfter (suc i) m)
   unfolding readRest range
-  rest-round i m = λ x. Transcript.round (round-read i x) (readRest (outsOf h) (levelOf h (suc i)) (map (levelOf h) (range (suc (suc i)) m)) (next-words i x))
+  rest-round i m = λ x. Transcript.round (round-read i x) (readRest (outCoinCount h) (levelOf h (suc i)) (map (levelOf h) (range (suc (suc i)) m)) (next-words i x))
 
   pub rest-final : restAfter M 0 ≡ Transcript.final (partWords ed h w (words final)) (partWords ed h w finals)
   unfolding readRest range partWords partStart partLength startOf lengthOf
@@ -121,9 +122,9 @@ module _ (ed : Edition) (h : Sheet) (w : List ℕ) where
   decide-rounds long =
       let n = levelOf h 0 .size in
       (λ x. decideRest F ω (level-first h x) (tableFunction F ω (level-first h x) (take (level-first h x .size) (drop (sheetLength ed) w))) (getD (drop (level-first h x .size) (drop (sheetLength ed) w)) 0 0) []
-      (readRest (outsOf h) (level-first h x) (levels-later h long x) (drop 1 (drop (level-first h x .size) (drop (sheetLength ed) w)))))
+      (readRest (outCoinCount h) (level-first h x) (levels-later h long x) (drop 1 (drop (level-first h x .size) (drop (sheetLength ed) w)))))
       ∙ (λ x. decideRest F ω (levelOf h 0) (functionIn ed h w 0) ((ap (λ (l : List ℕ). getD l 0 0) (drop-drop n (sheetLength ed) w) ∙ getD-drop (sheetLength ed + n) w 0 0) x) []
-      (readRest (outsOf h) (levelOf h 0) (map (levelOf h) (range 1 M)) ((ap (drop 1) (drop-drop n (sheetLength ed) w) ∙ drop-drop 1 (sheetLength ed + n) w ∙ ap (λ (m : ℕ). drop m w) (add-assoc (sheetLength ed) n 1)) x)))
+      (readRest (outCoinCount h) (levelOf h 0) (map (levelOf h) (range 1 M)) ((ap (drop 1) (drop-drop n (sheetLength ed) w) ∙ drop-drop 1 (sheetLength ed + n) w ∙ ap (λ (m : ℕ). drop m w) (add-assoc (sheetLength ed) n 1)) x)))
 
   pub decided : Paired h → decide F ω (firstLevel h) (readTranscript h (drop (sheetLength ed) w)) .outcome
       ≡ (refuseAt 8 (firstTrue 1 (clashes 0 M)) then refuseAt 9 (firstTrue 0 finalTests))

@@ -17,13 +17,13 @@ use Rattle.definition.specs.Polynomial.{Sample, clash, correctedValue, distinct
 use Rattle.definition.specs.Sheet.{Edition, Level, Sheet, shiftCount}
 use Rattle.definition.specs.Transcript
 use Rattle.definition.specs.Verdict.{refuseAt, refused}
-use Rattle.algebra.specs.ListFacts.{All, all-of-map, all-range, map-all}
-use Rattle.completeness.specs.ByPlace.{all-places}
+use Rattle.list_laws.specs.All.{All, all-of-map, all-places, all-range, map-all}
+use Rattle.list_laws.specs.Lists.{getD-map}
+use Rattle.layouts.specs.Levels.{levelOf, roundsOf, sheetField, sheetRoot}
 use Rattle.completeness.specs.DecidedByNumber.{rest-final, rest-round, restAfter}
 use Rattle.completeness.specs.Faults
 use Rattle.completeness.specs.Faults.{ClashFault, dueOf, FinalFault, OutsPass, Part, PartDue, SameWhereUsed, Used, combination, finals, fold, functionIn, outs, pairsIn, partLength, partStart, partWord, partWords, shifts, words}
-use Rattle.completeness.specs.ListLaws.{getD-map}
-use Rattle.completeness.specs.Numbered.{final, lengthOf, levelOf, replies, roundsOf, sheetField, sheetRoot, table}
+use Rattle.completeness.specs.Numbered.{final, lengthOf, replies, table}
 use Rattle.completeness.specs.PairsByNumber.{part-length, part-word}
 use Rattle.completeness.specs.TestsByNumber.{clash-there}
 

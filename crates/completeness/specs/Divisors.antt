@@ -3,7 +3,7 @@
 use Prim.Native.Nat.{ℕ, suc, _%_, _≤_, _<_}
 use native.Mathlib.Nat
 use native.Mathlib.Omega.{arith}
-use mathlib.Core.List.{List, [], _∷_, _++_, flatMap, map, zipWith}
+use mathlib.Core.List.{List, [], _∷_, _++_, flatMap, map, zipWith, map-map}
 use mathlib.Core.Option.{some}
 use mathlib.Core.Path.{_≡_, sym, ap, _∙_, subst}
 use lib.ListN.{length, take, drop, replicate, length-drop, length-replicate}
@@ -21,32 +21,30 @@ use Rattle.definition.specs.Sheet.{Edition, Level, Sheet, finalCount, firstLeve
 use Rattle.definition.specs.Transcript.{Rest, Round, round}
 use Rattle.definition.specs.Verdict.{Verdict, accepted}
 use Rattle.definition.specs.Verify.{verifyIn}
+use Rattle.list_laws.specs.All.{All, all-append, all-flat, all-in-map, all-left, all-map, all-of-map, all-range, all-right, everywhere}
+use Rattle.list_laws.specs.Booleans.{some≢none}
+use Rattle.list_laws.specs.Lists.{regroup}
 use Rattle.algebra.specs.Different.{Apart, Differ}
-use Rattle.algebra.specs.Divisors.{some≢none, vanishing-differs}
+use Rattle.algebra.specs.Divisors.{vanishing-differs}
 use Rattle.algebra.specs.Interpolation.{all-of-points}
 use Rattle.algebra.specs.Laws.{FieldLaws}
-use Rattle.algebra.specs.ListFacts.{All, all-append, all-map, all-of-map, all-in-map, all-range, everywhere, map-map}
 use Rattle.algebra.specs.PrimeField.{signs-differ}
 use Rattle.algebra.specs.RingLaws.{reduce-power}
 use Rattle.algebra.specs.RootsOfUnity.{minusOne}
+use Rattle.layouts.specs.EachWord.{Front, Passes, front-at, front-false, front-run, front-tail, in-range}
+use Rattle.layouts.specs.LevelSizes.{Chain, chain-head}
+use Rattle.layouts.specs.Levels.{roundsOf, sheetField, sheetRoot}
+use Rattle.layouts.specs.Passed.{passed}
+use Rattle.layouts.specs.SheetLevels.{Steps}
+use Rattle.layouts.specs.Tests.{at-passes, then-passes, verdict-passes}
 use Rattle.completeness.specs.Completeness.{completeness, sheetReady}
-use Rattle.completeness.specs.DecidingAccepts.{FairRound, Foldable}
+use Rattle.completeness.specs.DecidingAccepts.{AdmissibleRound, Foldable}
 use Rattle.completeness.specs.DistinctPoints.{all-distinct, distinct-apart}
 use Rattle.completeness.specs.Domains.{foldable}
-use Rattle.completeness.specs.EachWord.{Front, front-at, front-false, front-run, front-tail}
-use Rattle.completeness.specs.FairCoins.{Passes, chain-head, fair-round, in-range}
-use Rattle.completeness.specs.LevelSizes.{Chain}
-use Rattle.completeness.specs.ListLaws.{all-flat, regroup}
-use Rattle.completeness.specs.Numbered.{Allowed, Nonzero, decidingDivisors, divisors, foldDivisors, restDivisors, roundsOf, samplesAt, sheetField, sheetRoot}
-use Rattle.completeness.specs.Passed.{passed}
+use Rattle.completeness.specs.AdmissibleCoins.{admissible-round}
+use Rattle.completeness.specs.Numbered.{Allowed, Nonzero, decidingDivisors, divisors, foldDivisors, restDivisors, samplesAt}
 use Rattle.completeness.specs.Ready.{Ready, ready}
 use Rattle.completeness.specs.RunByNumber as run
-use Rattle.completeness.specs.SheetLevels.{Steps}
-use Rattle.completeness.specs.Tests.{at-passes, then-passes, verdict-passes}
-
-all-parts : {A : Type 0} (P : A → Type 0) (xs ys : List A) → All P (xs ++ ys) → All P xs × All P ys
-all-parts P [] ys h = (tt, h)
-all-parts P (x ∷ xs) ys h = let r = all-parts P xs ys (h .1) in ((h .0, r .0), r .1)
 
 all-pair : {A : Type 0} (P : A → Type 0) (xs ys : List A) → All P xs → All (λ (p : Sample A). P (p .point)) (pair xs ys)
 unfolding pair zipWith
@@ -88,34 +86,35 @@ module _ {A : Type 0} (F : Field A) (L : FieldLaws F) (ω : A) where
     pub samples-off : (x : A) → All (λ a. Differ F x a) (ρ .coins .outs ++ map (shiftPoint F ω b) (ρ .coins .shifts)) → All (λ a. Differ F x a) (points (distinct F (answers F ω b f r ρ)))
     unfolding answers
     samples-off x h =
-        let o = all-parts (λ a. Differ F x a) (ρ .coins .outs) (map (shiftPoint F ω b) (ρ .coins .shifts)) h in
+        let outs = all-left (λ a. Differ F x a) (ρ .coins .outs) (map (shiftPoint F ω b) (ρ .coins .shifts)) h in
+        let shifts = all-right (λ a. Differ F x a) (ρ .coins .outs) (map (shiftPoint F ω b) (ρ .coins .shifts)) h in
         all-of-points (λ a. Differ F x a) (distinct F (answers F ω b f r ρ))
         (all-distinct F (λ (p : Sample A). Differ F x (p .point)) (answers F ω b f r ρ)
-        (all-append _ (pair (ρ .coins .outs) (ρ .replies)) _ (all-pair _ (ρ .coins .outs) (ρ .replies) (o .0))
-        (all-of-map {B = Sample A} (λ p. Differ F x (p .point)) _ (ρ .coins .shifts) (all-in-map (λ a. Differ F x a) (shiftPoint F ω b) (ρ .coins .shifts) (o .1)))))
+        (all-append _ (pair (ρ .coins .outs) (ρ .replies)) _ (all-pair _ (ρ .coins .outs) (ρ .replies) outs)
+        (all-of-map {B = Sample A} (λ p. Differ F x (p .point)) _ (ρ .coins .shifts) (all-in-map (λ a. Differ F x a) (shiftPoint F ω b) (ρ .coins .shifts) shifts))))
 
     -- the quotient at each point of the round's domain
-    quotient-found : FairRound F L ω b (ρ .coins) → All (Found F) (map (evaluate F (vanishing F (points (distinct F (answers F ω b f r ρ))))) (domain F ω (ρ .coins .level)))
+    quotient-found : AdmissibleRound F L ω b (ρ .coins) → All (Found F) (map (evaluate F (vanishing F (points (distinct F (answers F ω b f r ρ))))) (domain F ω (ρ .coins .level)))
     unfolding domain
-    quotient-found fair =
+    quotient-found admissible =
         let l = ρ .coins .level in
         all-of-map (Found F) _ (map (point F ω l) (range 0 (l .size)))
         (all-of-map _ (point F ω l) (range 0 (l .size)) (all-range _ 0 (l .size)
-        (λ m low high. vanishing-found _ (point F ω l m) (samples-off (point F ω l m) (fair .off m (subst (λ (n : ℕ). m < n) (Nat.zero-add (l .size)) high))))))
+        (λ m low high. vanishing-found _ (point F ω l m) (samples-off (point F ω l m) (admissible .off m (subst (λ (n : ℕ). m < n) (Nat.zero-add (l .size)) high))))))
 
     -- the round, and what is found of the rest
-    round-found : FairRound F L ω b (ρ .coins) → Foldable F ω b → (rest : Rest A) →
+    round-found : AdmissibleRound F L ω b (ρ .coins) → Foldable F ω b → (rest : Rest A) →
         All (Found F) (restDivisors F ω (ρ .coins .level) (nextFunction F ω (distinct F (answers F ω b f r ρ)) ρ .value) (ρ .coins .fold) rest) →
         All (Found F) (restDivisors F ω b f r (round ρ rest))
     unfolding restDivisors
-    round-found fair ok rest h =
+    round-found admissible ok rest h =
         let g = distinct F (answers F ω b f r ρ) in
         let folds = flatMap (foldDivisors F ω b f) (ρ .coins .shifts) in
         let values = map (evaluate F (vanishing F (points g))) (domain F ω (ρ .coins .level)) in
         let others = restDivisors F ω (ρ .coins .level) (nextFunction F ω g ρ .value) (ρ .coins .fold) rest in
-        all-append (Found F) folds (divisors F g ++ (values ++ others)) (folds-found b ok f (ρ .coins .shifts) (fair .indices))
-        (all-append (Found F) (divisors F g) (values ++ others) (divisors-found g (samples-apart (fair .elements)))
-        (all-append (Found F) values others (quotient-found fair) h))
+        all-append (Found F) folds (divisors F g ++ (values ++ others)) (folds-found b ok f (ρ .coins .shifts) (admissible .indices))
+        (all-append (Found F) (divisors F g) (values ++ others) (divisors-found g (samples-apart (admissible .elements)))
+        (all-append (Found F) values others (quotient-found admissible) h))
 
 -- ---- the words of a stream
 
@@ -150,10 +149,10 @@ module _ (h : Sheet) (q : Ready h) where
       let outs = front-at (Passes h) s (replicate s (out l)) _ w₁ (length-replicate s (out l)) (table .1) in
       let replies = front-at (Passes h) s (replicate s message) _ w₂ (length-replicate s message) (outs .1) in
       let rest = front-at (Passes h) (laterCount b) later (restLayout s l ls) w₃ (omega (arith, length-replicate (b .repetitions) (index (shiftCount b)))) (replies .1) in
-      let fair = fair-round h (q .laws) signs (q .e) (q .root) s b l (take s w₁) (take (laterCount b) w₃) (ch .1) (chain-head (suc (q .e)) l ls (ch .2)) (st .0) (outs .0) (rest .0) in
+      let admissible = admissible-round h (q .laws) signs (q .e) (q .root) s b l (take s w₁) (take (laterCount b) w₃) (ch .1) (chain-head (suc (q .e)) l ls (ch .2)) (st .0) (outs .0) (rest .0) in
       let ρ : Round ℕ = record { table = take (l .size) w; coins = roundCoins l (take s w₁) (take (laterCount b) w₃); replies = take s w₂ } in
       let next = nextFunction F ω (distinct F (answers F ω b f r ρ)) ρ .value in
-      round-found F (q .laws) ω b f r ρ fair (level-folds b (l ∷ ls) ch) (readRest s l ls (drop (laterCount b) w₃))
+      round-found F (q .laws) ω b f r ρ admissible (level-folds b (l ∷ ls) ch) (readRest s l ls (drop (laterCount b) w₃))
       (rest-found s l ls (drop (laterCount b) w₃) (ch .2) (st .1) (rest .1) next (ρ .coins .fold))
 
 -- a stream that passes refusals 3, 5 and 7, with all words due

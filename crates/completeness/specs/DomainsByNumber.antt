@@ -12,14 +12,14 @@ use Rattle.definition.specs.Verdict.{accepted}
 use Rattle.algebra.specs.PrimeField.{signs-differ}
 use Rattle.algebra.specs.RingLaws.{sub-self}
 use Rattle.algebra.specs.RootsOfUnity.{minusOne}
+use Rattle.layouts.specs.Lawful.{lawful}
+use Rattle.layouts.specs.Levels.{levelOf, outCoinCount, roundsOf, sheetField, sheetRoot}
+use Rattle.layouts.specs.LevelsByNumber.{Paired}
+use Rattle.layouts.specs.SheetLevels.{step}
 use Rattle.completeness.specs.Allowed.{sheet-enough, sheet-long}
 use Rattle.completeness.specs.Domains
 use Rattle.completeness.specs.Domains.{Roots}
-use Rattle.completeness.specs.Numbered.{levelOf, outsOf, roundsOf, sheetField, sheetRoot}
 use Rattle.completeness.specs.Ready.{Ready, ready, ready-sized}
-use Rattle.completeness.specs.SheetLevels.{step}
-use Rattle.completeness.specs.Lawful.{lawful}
-use Rattle.completeness.specs.LevelsByNumber.{Paired}
 
 module _ (ed : Edition) (w : List ℕ) (words : sheetLengthTest ed w ≡ accepted) (passed : sheetTest ed w ≡ accepted) where
   long : sheetLength ed ≤ length w
@@ -50,5 +50,5 @@ module _ (ed : Edition) (w : List ℕ) (words : sheetLengthTest ed w ≡ accepte
 
   pub shifts-off-domain : (i m j : ℕ) → i < roundsOf (sheetOf ed w) → point F (sheetRoot (sheetOf ed w)) (levelOf (sheetOf ed w) (suc i)) m ≡ shiftPoint F (sheetRoot (sheetOf ed w)) (levelOf (sheetOf ed w) i) j → ⊥
   shifts-off-domain i m j l e =
-      Domains.never-meet F (q .laws) (sheetRoot (sheetOf ed w)) signs (q .e) (q .root) (outsOf (sheetOf ed w)) (levelOf (sheetOf ed w) i) (levelOf (sheetOf ed w) (suc i)) m j (step (sheetOf ed w) (lawful ed w long passed) i l)
+      Domains.never-meet F (q .laws) (sheetRoot (sheetOf ed w)) signs (q .e) (q .root) (outCoinCount (sheetOf ed w)) (levelOf (sheetOf ed w) i) (levelOf (sheetOf ed w) (suc i)) m j (step (sheetOf ed w) (lawful ed w long passed) i l)
       (ap (λ (x : ℕ). F ._⊖_ x (shiftPoint F (sheetRoot (sheetOf ed w)) (levelOf (sheetOf ed w) i) j)) e ∙ sub-self F (q .laws) (shiftPoint F (sheetRoot (sheetOf ed w)) (levelOf (sheetOf ed w) i) j))

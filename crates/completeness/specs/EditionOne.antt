@@ -1,45 +1,30 @@
--- The levels of a sheet by its words, in either edition; and in edition 1, whose folding numbers are all one number k: d_i is d0/k^i, and the reads are k for each different index of a level.
+-- Edition 1, whose folding numbers are all one number k: d_i is d0/k^i, and the reads are k for each different index of a level.
 use Prim.Native.Nat.{ℕ, zero, suc, _+_, _-_, _*_, _/_, _^_, _≤_, _<_}
 use native.Mathlib.Nat.{mul-add, mul-comm, mul-zero}
 use native.Mathlib.Omega.{arith}
 use mathlib.Core.Bool.{Bool, true, false, cond}
 use mathlib.Core.List.{List, map}
 use mathlib.Core.Path.{_≡_, refl, sym, ap, _∙_}
-use lib.ListN.{length, getD, take}
-use lib.Seq.{getD-take, take-take}
+use lib.ListN.{length, getD}
 use lib.Dec.{eqb}
 use Rattle.definition.specs.Block.{fileOf}
-use Rattle.definition.specs.Lists.{different, productOf, range}
+use Rattle.definition.specs.Lists.{different, range}
 use Rattle.definition.specs.Prover.{honestStream}
 use Rattle.definition.specs.Reading.{sheetTest}
-use Rattle.definition.specs.Sheet.{Edition, Level, Sheet, edition1, foldPlaces, foldWords, sheetLength, sheetOf}
+use Rattle.definition.specs.Sheet.{Level, Sheet, edition1, sheetOf}
 use Rattle.definition.specs.Verdict.{accepted}
 use Rattle.definition.specs.Verify.{verify}
+use Rattle.layouts.specs.Lawful.{rounds-word}
+use Rattle.layouts.specs.Levels.{degreeOf, levelOf, roundsOf, total}
+use Rattle.layouts.specs.PlainRules.{wordTurn}
+use Rattle.layouts.specs.PlainSheet.{fold-one, product-one}
+use Rattle.layouts.specs.SheetLevels.{level-is}
+use Rattle.layouts.specs.SheetRules.{rounds-most}
 use Rattle.completeness.specs.Allowed.{allowed-enough}
 use Rattle.completeness.specs.Completeness.{completeness}
-use Rattle.completeness.specs.Faults.{partWords, readsBefore, shifts, turnOf, wordTurn}
-use Rattle.completeness.specs.Lawful.{rounds-word, times-word}
-use Rattle.completeness.specs.Numbered.{Allowed, correctedOf, degreeOf, indicesOf, levelOf, levelReads, quotientPoly, readsDue, roundPoly, roundsOf, samplesAt, total}
-use Rattle.completeness.specs.PlainSheet.{fold-one, product-one}
+use Rattle.completeness.specs.Faults.{partWords, readsBefore, shifts, turnOf}
+use Rattle.completeness.specs.Numbered.{Allowed, correctedOf, indicesOf, levelReads, quotientPoly, readsDue, roundPoly, samplesAt}
 use Rattle.completeness.specs.RunByNumber.{corrected-length, fewer, quotient-length, round-length}
-use Rattle.completeness.specs.SheetRules.{rounds-most}
-
--- level i by the words of the sheet
-pub level-is : (ed : Edition) (w : List ℕ) → sheetLength ed ≤ length w → sheetTest ed w ≡ accepted → (i : ℕ) → i ≤ getD w 4 0 → levelOf (sheetOf ed w) i ≡ record {
-  number = i;
-  size = getD w 1 0 / 2 ^ i;
-  degree = getD w 2 0 / productOf (take i (foldWords ed w));
-  fold = getD (foldWords ed w) i 0;
-  repetitions = getD w (6 + i) 0;
-}
-unfolding sheetOf
-level-is ed w long passed i l = λ t. record {
-  number = i;
-  size = getD w 1 0 / 2 ^ i;
-  degree = getD w 2 0 / productOf (take-take i (suc (getD w 4 0)) (foldWords ed w) (omega arith) t);
-  fold = getD-take (suc (getD w 4 0)) (foldWords ed w) i 0 (omega arith) t;
-  repetitions = times-word ed w long passed i l t;
-}
 
 module _ (w : List ℕ) (long : 12 ≤ length w) (passed : sheetTest edition1 w ≡ accepted) where
   most : getD w 4 0 ≤ 5

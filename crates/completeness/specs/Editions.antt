@@ -1,6 +1,6 @@
 -- THE PAGE ON THE EDITIONS (02, CR 5): the notions of the other two pages by the words of a sheet, in edition 1 with its one folding number, which is word 3; and the
 -- converter. It holds theorems and nothing else; each proof is one citation. To read it: the definition (crate `definition`) and the vocabularies Numbered.antt and
--- Faults.antt.
+-- Faults.antt, with Levels.antt and PlainRules.antt of the crate `layouts` beneath them.
 use Prim.Native.Nat.{ℕ, suc, _+_, _-_, _*_, _/_, _^_, _≤_, _<_}
 use mathlib.Core.List.{List, _++_, map}
 use mathlib.Core.Logic.{_↔_}
@@ -17,13 +17,16 @@ use Rattle.definition.specs.Reading.{reading, sheetTest}
 use Rattle.definition.specs.Sheet.{Edition, Sheet, edition1, edition2, foldWords, sheetLength, sheetOf}
 use Rattle.definition.specs.Verdict.{accepted, refused}
 use Rattle.definition.specs.Verify.{verify, verifyIn}
+use Rattle.layouts.specs.Lawful
+use Rattle.layouts.specs.Levels.{levelOf, roundsOf, total}
+use Rattle.layouts.specs.PlainRules.{KeepsRule, PlainSheet1}
+use Rattle.layouts.specs.PlainSheet
+use Rattle.layouts.specs.SheetLevels
 use Rattle.completeness.specs.Conversion
 use Rattle.completeness.specs.Converter
 use Rattle.completeness.specs.EditionOne
-use Rattle.completeness.specs.Faults.{KeepsRule, PlainSheet1, partWords, readsBefore, sheetIn, shifts, sixHigher, turnOf}
-use Rattle.completeness.specs.Lawful
-use Rattle.completeness.specs.Numbered.{Allowed, correctedOf, indicesOf, levelOf, quotientPoly, readsDue, roundPoly, roundsOf, samplesAt, total}
-use Rattle.completeness.specs.PlainSheet
+use Rattle.completeness.specs.Faults.{partWords, readsBefore, sheetIn, shifts, sixHigher, turnOf}
+use Rattle.completeness.specs.Numbered.{Allowed, correctedOf, indicesOf, quotientPoly, readsDue, roundPoly, samplesAt}
 
 -- 1. LEVELS BY THE WORDS OF A SHEET without a fault, in either edition. M is word 4; d_i is d0 over the product of k_0 to k_(i-1), and k_i is the edition's word for it.
 module _ (ed : Edition) (w : List ℕ) (long : sheetLength ed ≤ length w) (sheet : sheetTest ed w ≡ accepted) where
@@ -37,7 +40,7 @@ module _ (ed : Edition) (w : List ℕ) (long : sheetLength ed ≤ length w) (she
     fold = getD (foldWords ed w) i 0;
     repetitions = getD w (6 + i) 0;
   }
-  level-is = EditionOne.level-is ed w long sheet
+  level-is = SheetLevels.level-is ed w long sheet
 
 -- 2. EDITION 1 IN ITS OWN TERMS. With k = word 3, d_i is d0/k^i, every level folds by k,
 module _ (w : List ℕ) (long : 12 ≤ length w) (sheet : sheetTest edition1 w ≡ accepted) where

@@ -11,21 +11,21 @@ use borrow.Author.Tests.{eq-eqb, le-ltb, leb-false, lt-leb, ltb-false}
 use Rattle.definition.specs.Domain.{point}
 use Rattle.definition.specs.Field.{primeField}
 use Rattle.definition.specs.Layout.{Kind, limit, message}
-use Rattle.definition.specs.Prove.{Result, coefficientsTest, done, encode, encodeTests, finish, inputRangeTest, outputTest, refusal, sheetLengthTest}
 use Rattle.definition.specs.Polynomial.{evaluate}
+use Rattle.definition.specs.Prove.{Result, coefficientsTest, done, encode, encodeTests, finish, inputRangeTest, outputTest, refusal, sheetLengthTest}
 use Rattle.definition.specs.Prover.{tableOf}
 use Rattle.definition.specs.Reading.{outOfRange, sheetTest}
 use Rattle.definition.specs.Sheet.{Level, edition1, firstLevel, sheetOf}
 use Rattle.definition.specs.Verdict.{Outcome, _then_, accepted}
+use Rattle.list_laws.specs.All.{all-places, at-place}
+use Rattle.layouts.specs.Levels.{levelOf, sheetField, sheetRoot}
+use Rattle.layouts.specs.LevelsByNumber.{level-first, undivided}
+use Rattle.layouts.specs.RulesByWord.{sheet-exactly}
+use Rattle.layouts.specs.Tests.{all-false, at-none, equal-passes, if-false, if-passes, none-true, then-passes}
 use Rattle.completeness.specs.Allowed.{sheet-long}
-use Rattle.completeness.specs.ByPlace.{all-places, at-place}
 use Rattle.completeness.specs.DecidingAccepts.{table-at, table-length}
 use Rattle.completeness.specs.Faults.{Encodable}
-use Rattle.completeness.specs.LevelsByNumber.{level-first, undivided}
-use Rattle.completeness.specs.Numbered.{levelOf, sheetField, sheetRoot}
 use Rattle.completeness.specs.ProveAccepted.{finish-done, finish-failed}
-use Rattle.completeness.specs.RulesByWord.{sheet-exactly}
-use Rattle.completeness.specs.Tests.{all-false, at-none, equal-passes, if-false, if-passes, none-true, then-passes}
 use Rattle.completeness.specs.TestsByNumber.{zip-at, zip-length}
 
 module _ (w f output : List ℕ) where

@@ -12,13 +12,15 @@ use borrow.Author.Tests.{eq-eqb, eqb-true}
 use Rattle.definition.specs.Deciding.{outBefore, outRepeated, repeatedOuts, sameAs}
 use Rattle.definition.specs.Layout.{Kind, layout, wordsDue}
 use Rattle.definition.specs.Sheet.{Edition, Sheet, sheetLength}
+use Rattle.layouts.specs.Lawful.{Lawful}
+use Rattle.layouts.specs.LayoutByRound.{starts-after}
+use Rattle.layouts.specs.LevelSizes.{positive-sizes}
+use Rattle.layouts.specs.Levels.{levelOf, outCoinCount, roundsOf}
+use Rattle.layouts.specs.SheetLevels.{sized}
 use Rattle.completeness.specs.EqualOuts.{at-next, outAt, repeated-at, repeated-length}
 use Rattle.completeness.specs.Faults.{EqualFault, Part, PartDue, combination, dueOf, finals, fold, outs, partLength, partStart, partWord, shifts, words}
-use Rattle.completeness.specs.Lawful.{Lawful}
-use Rattle.completeness.specs.LevelSizes.{positive-sizes}
-use Rattle.completeness.specs.Numbered.{levelOf, lengthOf, outsOf, roundsOf, startOf, table}
-use Rattle.completeness.specs.PartsByNumber.{due-is, every-word, part-below, part-kind, partKind, starts-after}
-use Rattle.completeness.specs.SheetLevels.{sized}
+use Rattle.completeness.specs.Numbered.{lengthOf, startOf, table}
+use Rattle.completeness.specs.PartsByNumber.{due-is, every-word, part-below, part-kind, partKind}
 
 module _ (ed : Edition) (h : Sheet) (w : List ℕ) (law : Lawful h) (full : dueOf ed h ≤ length w) where
   abbrev n₀ : ℕ
@@ -78,7 +80,7 @@ module _ (ed : Edition) (h : Sheet) (w : List ℕ) (law : Lawful h) (full : dueO
       let e : suc (j - 1) ≡ j = omega (arith, s, p, starts-after ed h (suc i)) in
       subst (λ (m : ℕ). before m ≡ none) e (before-next (words (table (suc i))) l (n - 1) (j - 1) (omega (arith, p)) (omega (arith, s, p, starts-after ed h (suc i))))
 
-  second-out : (i j : ℕ) → i < roundsOf h → 1 < outsOf h → n₀ + j ≡ partStart ed h (outs i) + 1 → before j ≡ some (partWord ed h w (outs i) 0)
+  second-out : (i j : ℕ) → i < roundsOf h → 1 < outCoinCount h → n₀ + j ≡ partStart ed h (outs i) + 1 → before j ≡ some (partWord ed h w (outs i) 0)
   unfolding partStart partLength partKind outBefore
   second-out i j l o s =
       let e : suc (j - 1) ≡ j = omega (arith, s, starts-after ed h (suc i)) in
@@ -86,7 +88,7 @@ module _ (ed : Edition) (h : Sheet) (w : List ℕ) (law : Lawful h) (full : dueO
       subst (λ (m : ℕ). before m ≡ some (getD w (n₀ + (j - 1)) 0)) e (before-next (outs i) l 0 (j - 1) (omega arith) q) ∙ ap (λ (m : ℕ). some (getD w m 0)) q
 
   -- so the test at the second out coin compares the two, and no other is true
-  test-second : (i j : ℕ) → i < roundsOf h → 1 < outsOf h → n₀ + j ≡ partStart ed h (outs i) + 1 → getD tests j false ≡ sameAs (some (partWord ed h w (outs i) 0)) (getD w (n₀ + j) 0)
+  test-second : (i j : ℕ) → i < roundsOf h → 1 < outCoinCount h → n₀ + j ≡ partStart ed h (outs i) + 1 → getD tests j false ≡ sameAs (some (partWord ed h w (outs i) 0)) (getD w (n₀ + j) 0)
   unfolding partKind partLength outRepeated
   test-second i j l o s = test-at (outs i) l 1 j o s ∙ ap (λ (b : Option ℕ). sameAs b (getD w (n₀ + j) 0)) (second-out i j l o s)
 

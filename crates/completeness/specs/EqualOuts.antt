@@ -9,7 +9,7 @@ use lib.ListN.{length, getD, replicate}
 use Rattle.definition.specs.Deciding.{outBefore, outRepeated, repeatedOuts, sameAs}
 use Rattle.definition.specs.Layout.{Kind, coin, coinKinds, index, message, out}
 use Rattle.definition.specs.Sheet.{Level}
-use Rattle.algebra.specs.ListFacts.{All}
+use Rattle.list_laws.specs.All.{All}
 
 -- no word is an out coin equal to the one before it in its round
 abbrev pub NoRepeat : Option ℕ → List Kind → List ℕ → Type 0

@@ -1,8 +1,8 @@
 -- THE VOCABULARY OF THE PAGE ON VERIFY: what stands in a file, by number, and what a fault of each number is. It holds no lemma and no proof.
--- A file, of an edition ed, is the list of its bytes; w is the word stream that it holds, and h the sheet in front of it, whose M, s, levels, rounds and messages are
--- Numbered's.
-use Prim.Native.Nat.{ℕ, zero, suc, _+_, _-_, _*_, _/_, _%_, _^_, _≤_, _<_}
-use mathlib.Core.Bool.{true, false, cond, _||_}
+-- A file, of an edition ed, is the list of its bytes; w is the word stream that it holds, and h the sheet in front of it, whose M, s, levels and rounds are those of
+-- Levels, whose messages are Numbered's, and whose rules by word are those of PlainRules (Levels and PlainRules: crate `layouts`).
+use Prim.Native.Nat.{ℕ, zero, suc, _+_, _*_, _/_, _%_, _≤_, _<_}
+use mathlib.Core.Bool.{cond, _||_}
 use mathlib.Core.List.{List, [], _∷_, map}
 use mathlib.Core.Path.{_≡_}
 use lib.Dec.{eqb, ltb}
@@ -10,14 +10,15 @@ use lib.ListN.{length, getD, take, drop}
 use Rattle.definition.specs.Block.{blockCount, checkWord, streamOf, wordOf}
 use Rattle.definition.specs.Deciding.{Function, answers, nextFunction, tableFunction}
 use Rattle.definition.specs.Domain.{foldAt, point, shiftPoint}
-use Rattle.definition.specs.Field.{primeOf}
 use Rattle.definition.specs.Layout.{wordsDue}
-use Rattle.definition.specs.Lists.{productOf, range}
+use Rattle.definition.specs.Lists.{range}
 use Rattle.definition.specs.Polynomial.{Sample, distinct, evaluate}
-use Rattle.definition.specs.Sheet.{Edition, Sheet, edition1, edition2, finalCount, foldWords, sheetLength, sheetOf, sheetRules, shiftCount}
+use Rattle.definition.specs.Sheet.{Edition, Sheet, edition1, finalCount, sheetLength, sheetOf, shiftCount}
 use Rattle.definition.specs.Transcript.{Round}
 use Rattle.definition.specs.Verdict.{Outcome, accepted, refused}
-use Rattle.completeness.specs.Numbered.{Due, Message, final, lengthOf, levelOf, levelReads, outsOf, replies, roundStart, roundsOf, sheetField, sheetRoot, startOf, table, total}
+use Rattle.layouts.specs.Levels.{levelOf, outCoinCount, roundStart, roundsOf, sheetField, sheetRoot, total}
+use Rattle.layouts.specs.PlainRules.{KeepsRule, wordTurn}
+use Rattle.completeness.specs.Numbered.{Due, Message, final, lengthOf, levelReads, replies, startOf, table}
 
 -- BLOCKS. The number of blocks; word x of block b, four bytes; and whether the block's word 127 is its check.
 abbrev pub blocksIn : List ℕ → ℕ
@@ -32,50 +33,6 @@ RightCheck file b = blockWord file b 127 ≡ checkWord b (map (blockWord file b)
 -- the sheet in front of the stream
 abbrev pub sheetIn : Edition → List ℕ → Sheet
 sheetIn ed file = sheetOf ed (streamOf file)
-
--- THE SHEET. The turn at which word i is tested: edition 1 goes from word to word, edition 2 through words 0 to 5, 12 to 17 and 6 to 11.
-unfoldable pub wordTurn : Edition → ℕ → ℕ
-wordTurn edition1 i = i
-wordTurn edition2 i = cond (ltb i 6) i (cond (ltb i 12) (i + 6) (i - 6))
-
--- The rule of word i, which stands at its turn among the definition's rules, holds.
-abbrev pub KeepsRule : Edition → List ℕ → ℕ → Type 0
-KeepsRule ed w i = getD (sheetRules ed w) (wordTurn ed i) false ≡ true
-
--- what edition 2 asks of words 12 to 17 besides: zeros past k_M, and 2 at last
-abbrev pub LaterWords : Edition → List ℕ → Type 0
-LaterWords edition1 w = Unit {0}
-LaterWords edition2 w = ((i : ℕ) → getD w 4 0 < i → i < 6 → getD w (11 + i) 0 ≡ 0) × (getD w 17 0 ≡ 2)
-
--- The rules in plain numbers. Of all words but the folding numbers: the field; n0 and d0, powers of two; M; s; and t_0 to t_M, with zeros after them.
-pub record PlainWords (w : List ℕ) : Type 0 where
-  pub field : getD w 0 0 < 3
-  pub size·power : (a : ℕ) × (getD w 1 0 ≡ 2 ^ a)
-  pub size·range : (4 ≤ getD w 1 0) × (getD w 1 0 ≤ 4096)
-  pub size·divides : (primeOf (getD w 0 0) - 1) % getD w 1 0 ≡ 0
-  pub degree·power : (b : ℕ) × (getD w 2 0 ≡ 2 ^ b)
-  pub degree·range : (2 ≤ getD w 2 0) × (getD w 2 0 ≤ getD w 1 0 / 2)
-  pub rounds·range : getD w 4 0 ≤ 5
-  pub outs·range : (1 ≤ getD w 5 0) × (getD w 5 0 ≤ 2)
-  pub times·range : (i : ℕ) → i ≤ getD w 4 0 → (1 ≤ getD w (6 + i) 0) × (getD w (6 + i) 0 ≤ 48)
-  pub times·zero : (i : ℕ) → getD w 4 0 < i → i < 6 → getD w (6 + i) 0 ≡ 0
-
--- and with them k_0 to k_M, powers of two whose product is at most d0, and t_i + s < d_(i+1);
-pub record PlainSheet (ed : Edition) (w : List ℕ) : Type 0 where
-  pub plain : PlainWords w
-  pub fold·power : (i : ℕ) → i ≤ getD w 4 0 → (c : ℕ) × (getD (foldWords ed w) i 0 ≡ 2 ^ c)
-  pub fold·range : (i : ℕ) → i ≤ getD w 4 0 → (2 ≤ getD (foldWords ed w) i 0) × (getD (foldWords ed w) i 0 ≤ 16) × (getD (foldWords ed w) i 0 ≤ getD w 2 0)
-  pub fold·product : productOf (take (suc (getD w 4 0)) (foldWords ed w)) ≤ getD w 2 0
-  pub times·few : (i : ℕ) → i < getD w 4 0 → getD w (6 + i) 0 + getD w 5 0 < getD w 2 0 / productOf (take (suc i) (foldWords ed w))
-  pub later·words : LaterWords ed w
-
--- in edition 1 these are of its one folding number, word 3.
-pub record PlainSheet1 (w : List ℕ) : Type 0 where
-  pub plain : PlainWords w
-  pub fold·power : (c : ℕ) × (getD w 3 0 ≡ 2 ^ c)
-  pub fold·range : (2 ≤ getD w 3 0) × (getD w 3 0 ≤ 16) × (getD w 3 0 ≤ getD w 2 0)
-  pub fold·product : getD w 3 0 ^ suc (getD w 4 0) ≤ getD w 2 0
-  pub times·few : (i : ℕ) → i < getD w 4 0 → getD w (6 + i) 0 + getD w 5 0 < getD w 2 0 / getD w 3 0 ^ suc i
 
 -- THE PARTS OF THE STREAM: the messages; the out coins, the combination coin and the shift indices of round i + 1; fold coin i; and the final indices.
 pub data Part : Type 0 where
@@ -99,15 +56,15 @@ PartDue h finals = Unit {0}
 unfoldable pub partStart : Edition → Sheet → Part → ℕ
 partStart ed h (words m) = startOf ed h m
 partStart ed h (outs i) = roundStart ed h (suc i) + levelOf h (suc i) .size
-partStart ed h (combination i) = roundStart ed h (suc i) + (levelOf h (suc i) .size + (outsOf h + outsOf h))
+partStart ed h (combination i) = roundStart ed h (suc i) + (levelOf h (suc i) .size + (outCoinCount h + outCoinCount h))
 partStart ed h (fold zero) = roundStart ed h 0 + levelOf h 0 .size
-partStart ed h (fold (suc i)) = roundStart ed h (suc i) + (levelOf h (suc i) .size + (outsOf h + (outsOf h + 1)))
-partStart ed h (shifts i) = roundStart ed h (suc i) + (levelOf h (suc i) .size + (outsOf h + (outsOf h + 2)))
+partStart ed h (fold (suc i)) = roundStart ed h (suc i) + (levelOf h (suc i) .size + (outCoinCount h + (outCoinCount h + 1)))
+partStart ed h (shifts i) = roundStart ed h (suc i) + (levelOf h (suc i) .size + (outCoinCount h + (outCoinCount h + 2)))
 partStart ed h finals = roundStart ed h (suc (roundsOf h)) + finalCount (levelOf h (roundsOf h))
 
 unfoldable pub partLength : Sheet → Part → ℕ
 partLength h (words m) = lengthOf h m
-partLength h (outs i) = outsOf h
+partLength h (outs i) = outCoinCount h
 partLength h (combination i) = 1
 partLength h (fold i) = 1
 partLength h (shifts i) = levelOf h i .repetitions
@@ -185,10 +142,10 @@ pub record Kept (ed : Edition) (file : List ℕ) : Type 0 where
   -- 6: every fill word is 0
   pub fill : (n : ℕ) → dueOf ed (sheetIn ed file) ≤ n → n < 127 * blocksIn file → getD (streamOf file) n 0 ≡ 0
   -- 7: every out coin of every round i + 1 is different from every point of domain i + 1
-  pub outside : (i : ℕ) → i < roundsOf (sheetIn ed file) → (j : ℕ) → j < outsOf (sheetIn ed file) → (m : ℕ) → m < levelOf (sheetIn ed file) (suc i) .size →
+  pub outside : (i : ℕ) → i < roundsOf (sheetIn ed file) → (j : ℕ) → j < outCoinCount (sheetIn ed file) → (m : ℕ) → m < levelOf (sheetIn ed file) (suc i) .size →
       partWord ed (sheetIn ed file) (streamOf file) (outs i) j ≡ point (sheetField (sheetIn ed file)) (sheetRoot (sheetIn ed file)) (levelOf (sheetIn ed file) (suc i)) m → ⊥
   -- 14: in no round two out coins are equal
-  pub apart : (i : ℕ) → i < roundsOf (sheetIn ed file) → (a b : ℕ) → a < outsOf (sheetIn ed file) → b < outsOf (sheetIn ed file) →
+  pub apart : (i : ℕ) → i < roundsOf (sheetIn ed file) → (a b : ℕ) → a < outCoinCount (sheetIn ed file) → b < outCoinCount (sheetIn ed file) →
       partWord ed (sheetIn ed file) (streamOf file) (outs i) a ≡ partWord ed (sheetIn ed file) (streamOf file) (outs i) b → a ≡ b
   -- 8: in every round any two pairs agree
   pub agree : (i : ℕ) → i < roundsOf (sheetIn ed file) → (a b : ℕ) → a < length (pairsIn ed (sheetIn ed file) (streamOf file) i) → b < length (pairsIn ed (sheetIn ed file) (streamOf file) i) → Agree ed (sheetIn ed file) (streamOf file) i a b
@@ -218,13 +175,13 @@ FillFault ed file q = (dueOf ed (sheetIn ed file) ≤ q) × (q < 127 * blocksIn 
 -- a word number q, of out coin j of round i + 1, which is point m of domain i + 1
 abbrev pub DomainFault : Edition → Sheet → List ℕ → ℕ → Type 0
 DomainFault ed h w q =
-    (i : ℕ) × (i < roundsOf h) × ((j : ℕ) × (j < outsOf h) × (q ≡ partStart ed h (outs i) + j)
+    (i : ℕ) × (i < roundsOf h) × ((j : ℕ) × (j < outCoinCount h) × (q ≡ partStart ed h (outs i) + j)
     × ((m : ℕ) × (m < levelOf h (suc i) .size) × (getD w q 0 ≡ point (sheetField h) (sheetRoot h) (levelOf h (suc i)) m)))
 
 -- a word number q, of out coin j of round i + 1, which is equal to out coin a before it
 abbrev pub EqualFault : Edition → Sheet → List ℕ → ℕ → Type 0
 EqualFault ed h w q =
-    (i : ℕ) × (i < roundsOf h) × ((j : ℕ) × (j < outsOf h) × (q ≡ partStart ed h (outs i) + j) × ((a : ℕ) × (a < j) × (getD w q 0 ≡ partWord ed h w (outs i) a)))
+    (i : ℕ) × (i < roundsOf h) × ((j : ℕ) × (j < outCoinCount h) × (q ≡ partStart ed h (outs i) + j) × ((a : ℕ) × (a < j) × (getD w q 0 ≡ partWord ed h w (outs i) a)))
 
 -- a round i + 1, in which pairs a and b do not agree
 abbrev pub ClashFault : Edition → Sheet → List ℕ → ℕ → Type 0

@@ -9,9 +9,12 @@ use lib.Seq.{drop-cons, length-take-le}
 use borrow.Author.Tests.{eqb-true, not-false}
 use Rattle.definition.specs.Block.{blockCount, blocksOf, bytesOf, checkWord, fileBlocks, fileOf, lowBytes, streamOf, wordOf, wrongChecks}
 use Rattle.definition.specs.Lists.{chunks}
-use Rattle.algebra.specs.ListFacts.{All}
-use Rattle.completeness.specs.BlockTrip.{chunks-of, sealed}
-use Rattle.completeness.specs.FileTrip.{chunk-sizes, chunks-joined, chunks-length, fillCount, filled, seal-bytes}
+use Rattle.list_laws.specs.All.{All, all-map, all-of-map}
+use Rattle.list_laws.specs.Chunks.{chunks-joined, chunks-length, chunks-of}
+use Rattle.list_laws.specs.Lists.{flatMap-map}
+use Rattle.layouts.specs.BlockTrip.{checkedWords}
+use Rattle.layouts.specs.FileTrip.{fillCount, filled, checked-bytes}
+use Rattle.layouts.specs.FileWords.{blocks-full, fileWords, words-length}
 
 -- a word's lowest byte, and the rest
 low : (a x : ℕ) → a < 256 → ((a + 256 * x) % 256 ≡ a) × ((a + 256 * x) / 256 ≡ x)
@@ -49,40 +52,28 @@ block-ends x e =
     ap (λ (t : List ℕ). take 127 x ++ t) (sym (drop-cons x 127 0 (omega arith) ∙ ap (λ (t : List ℕ). getD x 127 0 ∷ t) (drop-of-length-le x {i = 128} (omega arith)))) ∙ take-append-drop 127 x
 
 -- blocks whose checks are right are those that sealing makes
-sealed-back : (b : ℕ) (xs : List (List ℕ)) → All (λ x. length x ≡ 128) xs → All (λ (e : Bool). e ≡ false) (wrongChecks b xs) → sealed b (map (take 127) xs) ≡ xs
-unfolding sealed wrongChecks
-sealed-back b [] h r = refl
-sealed-back b (x ∷ xs) h r =
+checked-back : (b : ℕ) (xs : List (List ℕ)) → All (λ x. length x ≡ 128) xs → All (λ (e : Bool). e ≡ false) (wrongChecks b xs) → checkedWords b (map (take 127) xs) ≡ xs
+unfolding checkedWords wrongChecks
+checked-back b [] h r = refl
+checked-back b (x ∷ xs) h r =
     let c : getD x 127 0 ≡ checkWord b (take 127 x) = eqb-true _ _ (not-false _ (r .0)) in
-    λ i. (ap (λ (y : ℕ). take 127 x ++ (y ∷ [])) (sym c) ∙ block-ends x (h .0)) i ∷ sealed-back (suc b) xs (h .1) (r .1) i
-
-flat-map : {A B C : Type 0} (g : B → List C) (f : A → B) (xs : List A) → flatMap g (map f xs) ≡ flatMap (λ x. g (f x)) xs
-unfolding flatMap
-flat-map g f [] = refl
-flat-map g f (x ∷ xs) = ap (λ (t : List _). g (f x) ++ t) (flat-map g f xs)
-
-all-lengths : (xs : List (List ℕ)) → All (λ x. length x ≡ 128) xs → All (λ x. length x ≡ 127) (map (take 127) xs)
-all-lengths [] h = tt
-all-lengths (x ∷ xs) h = (length-take-le 127 x (omega (arith, h .0)), all-lengths xs (h .1))
+    λ i. (ap (λ (y : ℕ). take 127 x ++ (y ∷ [])) (sym c) ∙ block-ends x (h .0)) i ∷ checked-back (suc b) xs (h .1) (r .1) i
 
 module _ (bytes : List ℕ) (n : ℕ) (size : length bytes ≡ 512 * n) (small : All (λ x. x < 256) bytes) (right : All (λ (e : Bool). e ≡ false) (wrongChecks 0 (fileBlocks bytes))) where
   words : List ℕ
-  words = map wordOf (chunks (length bytes / 4) 4 bytes)
+  words = fileWords bytes
 
-  words-length : length words ≡ n * 128
+  words-count : length words ≡ n * 128
   unfolding words
-  words-length = length-map (chunks (length bytes / 4) 4 bytes) wordOf ∙ chunks-length (length bytes / 4) 4 bytes ∙ omega (arith, size)
+  words-count = words-length bytes ∙ omega (arith, size)
 
   bytes-back : flatMap bytesOf words ≡ bytes
-  unfolding words
+  unfolding words fileWords
   bytes-back = bytes-of-words (length bytes / 4) bytes (omega (arith, size)) small
 
   blocks-are : fileBlocks bytes ≡ chunks n 128 words
-  unfolding fileBlocks words
+  unfolding fileBlocks words fileWords
   blocks-are = let e : length bytes / 512 ≡ n = omega (arith, size) in ap (λ (m : ℕ). chunks m 128 words) e
-
-  block-sizes : All (λ x. length x ≡ 128) (fileBlocks bytes)
-  block-sizes = rw blocks-are (chunk-sizes n 128 words words-length)
 
   -- where the stream is some words and their fill, the file is theirs
   pub file-back : (u : List ℕ) → streamOf bytes ≡ filled u → blockCount (length u) ≡ n → fileOf u ≡ bytes
@@ -90,9 +81,9 @@ module _ (bytes : List ℕ) (n : ℕ) (size : length bytes ≡ 512 * n) (small :
   file-back u e count =
       let blocks = fileBlocks bytes in
       let parts = map (take 127) blocks in
-      let joined : flatMap (λ x. x) parts ≡ filled u = flat-map (λ (x : List ℕ). x) (take 127) blocks ∙ e in
+      let joined : flatMap (λ x. x) parts ≡ filled u = flatMap-map (λ (x : List ℕ). x) (take 127) blocks ∙ e in
       let number : length parts ≡ blockCount (length u) = length-map blocks (take 127) ∙ ap length blocks-are ∙ chunks-length n 128 words ∙ sym count in
-      let chunked : blocksOf u ≡ parts = (λ i. chunks (sym number i) 127 (sym joined i)) ∙ chunks-of 127 parts (all-lengths blocks block-sizes) in
-      seal-bytes 0 (blocksOf u) ∙ ap (λ (x : List (List ℕ)). flatMap bytesOf (flatMap (λ y. y) (sealed 0 x))) chunked
-      ∙ ap (λ (x : List (List ℕ)). flatMap bytesOf (flatMap (λ y. y) x)) (sealed-back 0 blocks block-sizes right ∙ blocks-are)
-      ∙ ap (flatMap bytesOf) (chunks-joined n 128 words words-length) ∙ bytes-back
+      let chunked : blocksOf u ≡ parts = (λ i. chunks (sym number i) 127 (sym joined i)) ∙ chunks-of 127 parts (all-of-map _ (take 127) blocks (all-map blocks (blocks-full bytes) (λ x e. length-take-le 127 x (omega (arith, e))))) in
+      checked-bytes 0 (blocksOf u) ∙ ap (λ (x : List (List ℕ)). flatMap bytesOf (flatMap (λ y. y) (checkedWords 0 x))) chunked
+      ∙ ap (λ (x : List (List ℕ)). flatMap bytesOf (flatMap (λ y. y) x)) (checked-back 0 blocks (blocks-full bytes) right ∙ blocks-are)
+      ∙ ap (flatMap bytesOf) (chunks-joined n 128 words words-count) ∙ bytes-back

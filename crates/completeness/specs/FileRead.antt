@@ -15,13 +15,13 @@ use Rattle.definition.specs.Lists.{firstTrue}
 use Rattle.definition.specs.Reading.{blocksTest, bodyTests, checkTest, fillTest, lengthTest, outOfRange, rangeTest, reading, sheetTest, streamTests}
 use Rattle.definition.specs.Sheet.{Edition, Sheet, edition1, edition2, sheetLength, sheetOf}
 use Rattle.definition.specs.Verdict.{_then_, accepted}
-use Rattle.algebra.specs.ListFacts.{All, all-append}
-use Rattle.completeness.specs.EachWord.{Each, each-length, each-none}
-use Rattle.completeness.specs.FileTrip.{Word, file-checks, file-length, file-stream, fillCount, filled}
+use Rattle.list_laws.specs.All.{All, all-append}
+use Rattle.layouts.specs.EachWord.{Each, each-length, each-none}
+use Rattle.layouts.specs.FileTrip.{Word, file-checks, file-length, file-stream, fillCount, filled}
 use Rattle.completeness.specs.Ready.{layout-fits, ready}
-use Rattle.completeness.specs.SheetLevels.{rules-front, sheet-front}
-use Rattle.completeness.specs.SheetRules.{sheet-words}
-use Rattle.completeness.specs.Tests.{at-none, if-false, none-true}
+use Rattle.layouts.specs.SheetLevels.{rules-front, sheet-front}
+use Rattle.layouts.specs.SheetRules.{sheet-words}
+use Rattle.layouts.specs.Tests.{at-none, if-false, none-true}
 
 no-fill : (from n : ℕ) → firstTrue from (map (λ (x : ℕ). not (eqb x 0)) (replicate n 0)) ≡ none
 unfolding firstTrue

@@ -4,9 +4,9 @@ use Prim.Native.Nat.{ℕ, _/_, _<_}
 use native.Mathlib.Nat.{mod-lt}
 use native.Mathlib.Omega.{arith}
 use mathlib.Core.List.{List, [], _∷_, _++_, map, append-assoc}
-use mathlib.Core.Path.{_≡_, refl, ap, _∙_}
+use mathlib.Core.Path.{_≡_, refl, sym, ap, _∙_}
 use lib.ListN.{length, getD, take, drop, replicate, length-map, length-drop, take-append-drop}
-use lib.Seq.{take-at, drop-at}
+use lib.Seq.{take-at, drop-at, drop-cons}
 use borrow.Author.Tests.{lt-leb}
 use Rattle.definition.specs.Deciding.{outInDomain}
 use Rattle.definition.specs.Domain.{domain}
@@ -18,15 +18,14 @@ use Rattle.definition.specs.Prover.{honest, honestRest, honestRound, nextPoly, 
 use Rattle.definition.specs.Reading.{outOfRange}
 use Rattle.definition.specs.Sheet.{Level, Sheet, finalCount, firstLevel, laterLevels, rootOfUnity, shiftCount}
 use Rattle.definition.specs.Transcript.{restWords, roundWords, transcriptWords}
+use Rattle.list_laws.specs.All.{All}
 use Rattle.algebra.specs.Laws.{FieldLaws}
 use Rattle.algebra.specs.Lengths
-use Rattle.algebra.specs.ListFacts.{All}
+use Rattle.layouts.specs.EachWord.{Each, Passes, each-join, each-later, each-length, each-replicate, each-same}
+use Rattle.layouts.specs.LayoutFacts.{CoinRuns}
 use Rattle.completeness.specs.DecidingAccepts
-use Rattle.completeness.specs.DecidingAccepts.{Fair, table-length}
-use Rattle.completeness.specs.EachWord.{Each, each-join, each-later, each-length, each-replicate, each-same}
+use Rattle.completeness.specs.DecidingAccepts.{Admissible, table-length}
 use Rattle.completeness.specs.EqualOuts.{among-append, among-indices, among-messages, among-outs, coinsAmong}
-use Rattle.completeness.specs.FairCoins.{Passes}
-use Rattle.completeness.specs.LayoutFacts.{Dealt}
 use Rattle.completeness.specs.RoundTrip.{Shaped, round-trip}
 
 -- level 0's degree bound is d0
@@ -101,26 +100,26 @@ module _ (h : Sheet) (positive : 0 < h .prime) where
 
   module _ (L : FieldLaws (primeField (h .prime))) where
     -- each word after fold coin 0 is of its kind and in range
-    rest-each : (s : ℕ) (b : Level) (ls : List Level) (f : List ℕ) (r : ℕ) (w : List ℕ) → length f ≡ b .degree → Dealt (Passes h) s b ls w →
-        Fair F L ω b (readRounds s b ls w) (readFinals s b ls w) →
+    rest-each : (s : ℕ) (b : Level) (ls : List Level) (f : List ℕ) (r : ℕ) (w : List ℕ) → length f ≡ b .degree → CoinRuns (Passes h) s b ls w →
+        Admissible F L ω b (readRounds s b ls w) (readFinals s b ls w) →
         Each (Passes h) (restLayout s b ls) (restWords (honestRest F ω b f r (readRounds s b ls w) (readFinals s b ls w)))
     unfolding restLayout restWords honestRest readRounds readFinals roundCoins
-    rest-each s b [] f r w len d fair = each-join (Passes h) (replicate (finalCount b) message) _ (foldPoly F (b .fold) r f) w (final-each b f r len) d
-    rest-each s b (l ∷ ls) f r w len d fair =
+    rest-each s b [] f r w len d admissible = each-join (Passes h) (replicate (finalCount b) message) _ (foldPoly F (b .fold) r f) w (final-each b f r len) d
+    rest-each s b (l ∷ ls) f r w len d admissible =
         let g = foldPoly F (b .fold) r f in
         let v = take (laterCount b) (drop s w) in
         let c = roundCoins l (take s w) v in
         each-join (Passes h) (roundLayout s b l) _ _ _ (round-each s b l g (take s w) v (d .0) (d .1))
-        (rest-each s l ls (nextPoly F ω b g c) (getD v 1 0) (drop (laterCount b) (drop s w)) (DecidingAccepts.next-fits F L ω b f r c len (fair .0)) (d .2) (fair .1))
+        (rest-each s l ls (nextPoly F ω b g c) (getD v 1 0) (drop (laterCount b) (drop s w)) (DecidingAccepts.next-fits F L ω b f r c len (admissible .0)) (d .2) (admissible .1))
 
     -- the honest messages have the lengths due
-    rest-shaped : (s : ℕ) (b : Level) (ls : List Level) (f : List ℕ) (r : ℕ) (w : List ℕ) → length f ≡ b .degree → Dealt (Passes h) s b ls w →
-        Fair F L ω b (readRounds s b ls w) (readFinals s b ls w) →
+    rest-shaped : (s : ℕ) (b : Level) (ls : List Level) (f : List ℕ) (r : ℕ) (w : List ℕ) → length f ≡ b .degree → CoinRuns (Passes h) s b ls w →
+        Admissible F L ω b (readRounds s b ls w) (readFinals s b ls w) →
         Shaped s b ls (honestRest F ω b f r (readRounds s b ls w) (readFinals s b ls w))
     unfolding honestRest readRounds readFinals roundCoins finalCount honestRound
-    rest-shaped s b [] f r w len d fair =
+    rest-shaped s b [] f r w len d admissible =
         (Lengths.length-fold F (b .fold) r f ∙ ap (λ (n : ℕ). n / b .fold) len, each-replicate (Passes h) (b .repetitions) (index (shiftCount b)) w d .0)
-    rest-shaped s b (l ∷ ls) f r w len d fair =
+    rest-shaped s b (l ∷ ls) f r w len d admissible =
         let g = foldPoly F (b .fold) r f in
         let v = take (laterCount b) (drop s w) in
         let c = roundCoins l (take s w) v in
@@ -132,7 +131,7 @@ module _ (h : Sheet) (positive : 0 < h .prime) where
             replies = length-map (take s w) (evaluate F g) ∙ o;
             shifts = length-drop 2 v ∙ omega (arith, each-later (Passes h) (b .repetitions) (shiftCount b) v (d .1) .0);
           },
-          rest-shaped s l ls (nextPoly F ω b g c) (getD v 1 0) (drop (laterCount b) (drop s w)) (DecidingAccepts.next-fits F L ω b f r c len (fair .0)) (d .2) (fair .1),
+          rest-shaped s l ls (nextPoly F ω b g c) (getD v 1 0) (drop (laterCount b) (drop s w)) (DecidingAccepts.next-fits F L ω b f r c len (admissible .0)) (d .2) (admissible .1),
         )
 
     -- the coins among the words of a round
@@ -153,21 +152,21 @@ module _ (h : Sheet) (positive : 0 < h .prime) where
         ∙ later-whole (Passes h) (b .repetitions) (shiftCount b) v hv)
 
     -- and among those after fold coin 0
-    rest-coins : (s : ℕ) (b : Level) (ls : List Level) (f : List ℕ) (r : ℕ) (w : List ℕ) → length f ≡ b .degree → Dealt (Passes h) s b ls w →
-        Fair F L ω b (readRounds s b ls w) (readFinals s b ls w) →
+    rest-coins : (s : ℕ) (b : Level) (ls : List Level) (f : List ℕ) (r : ℕ) (w : List ℕ) → length f ≡ b .degree → CoinRuns (Passes h) s b ls w →
+        Admissible F L ω b (readRounds s b ls w) (readFinals s b ls w) →
         coinsAmong (restLayout s b ls) (restWords (honestRest F ω b f r (readRounds s b ls w) (readFinals s b ls w))) ≡ w
     unfolding restLayout restWords honestRest readRounds readFinals roundCoins
-    rest-coins s b [] f r w len d fair =
+    rest-coins s b [] f r w len d admissible =
         among-messages (finalCount b) (replicate (b .repetitions) (index (shiftCount b))) (foldPoly F (b .fold) r f) w
         (each-replicate (Passes h) (finalCount b) message (foldPoly F (b .fold) r f) (final-each b f r len) .0)
         ∙ among-indices (b .repetitions) (shiftCount b) w (each-replicate (Passes h) (b .repetitions) (index (shiftCount b)) w d .0)
-    rest-coins s b (l ∷ ls) f r w len d fair =
+    rest-coins s b (l ∷ ls) f r w len d admissible =
         let g = foldPoly F (b .fold) r f in
         let v = take (laterCount b) (drop s w) in
         let c = roundCoins l (take s w) v in
         among-append (roundLayout s b l) _ _ _ (each-length (Passes h) (roundLayout s b l) (roundWords (honestRound F ω g c)) (round-each s b l g (take s w) v (d .0) (d .1)))
         ∙ (λ i. round-coins s b l g (take s w) v (d .0) (d .1) i
-        ++ rest-coins s l ls (nextPoly F ω b g c) (getD v 1 0) (drop (laterCount b) (drop s w)) (DecidingAccepts.next-fits F L ω b f r c len (fair .0)) (d .2) (fair .1) i)
+        ++ rest-coins s l ls (nextPoly F ω b g c) (getD v 1 0) (drop (laterCount b) (drop s w)) (DecidingAccepts.next-fits F L ω b f r c len (admissible .0)) (d .2) (admissible .1) i)
         ∙ append-assoc (take s w) v (drop (laterCount b) (drop s w)) ∙ ap (λ (x : List ℕ). take s w ++ x) (take-append-drop (laterCount b) (drop s w)) ∙ take-append-drop s w
 
     first-level-table : (f : List ℕ) → length (tableOf F ω (firstLevel h) f) ≡ h .size
@@ -176,13 +175,13 @@ module _ (h : Sheet) (positive : 0 < h .prime) where
 
     -- the whole transcript, for coins with fold coin 0 in front
     module _ (f coins : List ℕ) (len : length f ≡ h .degree) (first : Passes h coin (getD coins 0 0))
-        (d : Dealt (Passes h) (h .outCoins) (firstLevel h) (laterLevels h) (drop 1 coins))
-        (fair : Fair F L ω (firstLevel h) (readRounds (h .outCoins) (firstLevel h) (laterLevels h) (drop 1 coins)) (readFinals (h .outCoins) (firstLevel h) (laterLevels h) (drop 1 coins))) where
+        (d : CoinRuns (Passes h) (h .outCoins) (firstLevel h) (laterLevels h) (drop 1 coins))
+        (admissible : Admissible F L ω (firstLevel h) (readRounds (h .outCoins) (firstLevel h) (laterLevels h) (drop 1 coins)) (readFinals (h .outCoins) (firstLevel h) (laterLevels h) (drop 1 coins))) where
       pub words-each : Each (Passes h) (layout h) (transcriptWords (honest F ω (firstLevel h) f (readCoins h coins)))
       unfolding layout transcriptWords honest readCoins firstLevel
       words-each =
           each-join (Passes h) (replicate (h .size) message) _ (tableOf F ω (firstLevel h) f) _ (table-each (firstLevel h) f)
-          (first, rest-each (h .outCoins) (firstLevel h) (laterLevels h) f (getD coins 0 0) (drop 1 coins) len d fair)
+          (first, rest-each (h .outCoins) (firstLevel h) (laterLevels h) f (getD coins 0 0) (drop 1 coins) len d admissible)
 
       pub words-read : (z : List ℕ) → readTranscript h (transcriptWords (honest F ω (firstLevel h) f (readCoins h coins)) ++ z) ≡ honest F ω (firstLevel h) f (readCoins h coins)
       unfolding readTranscript transcriptWords honest readCoins
@@ -201,7 +200,7 @@ module _ (h : Sheet) (positive : 0 < h .prime) where
           ∙ (λ i. record {
             table = table;
             fold = r;
-            rest = round-trip (h .outCoins) z b (laterLevels h) rest (rest-shaped (h .outCoins) b (laterLevels h) f r (drop 1 coins) shaped-degree d fair) i;
+            rest = round-trip (h .outCoins) z b (laterLevels h) rest (rest-shaped (h .outCoins) b (laterLevels h) f r (drop 1 coins) shaped-degree d admissible) i;
           })
         where
           size : length (tableOf F ω (firstLevel h) f) ≡ h .size
@@ -216,9 +215,5 @@ module _ (h : Sheet) (positive : 0 < h .prime) where
       words-coins some =
           let b = firstLevel h in
           among-messages (h .size) (coin ∷ restLayout (h .outCoins) b (laterLevels h)) (tableOf F ω b f) _ (first-level-table f)
-          ∙ ap {B = List ℕ} (λ x. getD coins 0 0 ∷ x) (rest-coins (h .outCoins) b (laterLevels h) f (getD coins 0 0) (drop 1 coins) (first-degree h f len) d fair)
-          ∙ head-first coins some
-        where
-          head-first : (w : List ℕ) → 0 < length w → getD w 0 0 ∷ drop 1 w ≡ w
-          head-first [] l = absurd (omega arith)
-          head-first (x ∷ w) l = refl
+          ∙ ap {B = List ℕ} (λ x. getD coins 0 0 ∷ x) (rest-coins (h .outCoins) b (laterLevels h) f (getD coins 0 0) (drop 1 coins) (first-degree h f len) d admissible)
+          ∙ sym (drop-cons coins 0 0 some)

@@ -1,5 +1,6 @@
 -- THEOREMS over the written definition, on three pages: Statements, on completeness, over the vocabulary Numbered; Verdicts, on verify, over Numbered and Faults; and
--- Editions, on the two editions and the converter, over both. A reader needs these five files. The others are their proofs.
+-- Editions, on the two editions and the converter, over both. Beneath these vocabularies stand two of the crate `layouts`: Levels, a sheet's levels by number, and
+-- PlainRules, its rules in plain numbers. A reader needs these seven files. The others are their proofs.
 
 -- the vocabularies, and the pages
 pub mod Numbered
@@ -7,17 +8,7 @@ pub mod Statements
 pub mod Faults
 pub mod Verdicts
 pub mod Editions
--- lists and tests
-pub mod ListLaws
-pub mod ByPlace
-pub mod Parts
-pub mod Tests
--- the sheet and its levels
-pub mod LevelSizes
-pub mod LevelsByNumber
-pub mod SheetRules
-pub mod Lawful
-pub mod SheetLevels
+-- the sheet's field has what a run needs
 pub mod Ready
 -- the places that coins lead to, counted
 pub mod Openings
@@ -28,15 +19,9 @@ pub mod RoundPolynomials
 pub mod Domains
 pub mod Causal
 -- the words: their file, their kinds, and the coins among them
-pub mod BlockTrip
-pub mod FileTrip
 pub mod FileRead
-pub mod Passed
-pub mod EachWord
 pub mod EqualOuts
-pub mod LayoutFacts
-pub mod CoinsAfter
-pub mod FairCoins
+pub mod AdmissibleCoins
 pub mod Allowed
 -- nothing is divided by 0
 pub mod Divisors
@@ -47,20 +32,16 @@ pub mod Reads
 pub mod Completeness
 pub mod ProveAccepted
 pub mod Premises
-pub mod FileSize
 pub mod LoadAllowed
 -- rounds, messages and domains by number
 pub mod CoinsByNumber
 pub mod LayoutByNumber
-pub mod DueSizes
 pub mod DomainsByNumber
 pub mod RunByNumber
 pub mod StreamByNumber
 pub mod FunctionsByNumber
 pub mod NonAnticipation
 -- verify exactly: the sheet's rules by word; the first fault; a file's words, parts and pairs by number; the tests one by one
-pub mod RulesByWord
-pub mod PlainSheet
 pub mod FirstFaults
 pub mod FileByNumber
 pub mod PartsByNumber

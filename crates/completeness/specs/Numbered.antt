@@ -1,58 +1,27 @@
 -- THE VOCABULARY OF THE PAGE: 01's notions by number, over a sheet h, coefficients f, a coin list and a word stream. It holds no lemma and no proof.
--- M is the number of rounds, s the number of out coins of a round; k_i, t_i, n_i and d_i belong to level i.
-use Prim.Native.Nat.{ℕ, zero, suc, _+_, _*_, _/_, _%_, _^_, _≤_}
+-- A sheet's levels, and where its rounds begin, are those of Levels (crate `layouts`): M is the number of rounds, s the number of out coins of a round; k_i, t_i, n_i and
+-- d_i belong to level i.
+use Prim.Native.Nat.{ℕ, zero, suc, _+_, _*_, _%_, _≤_}
 use mathlib.Core.Bool.{cond}
-use mathlib.Core.List.{List, [], _∷_, _++_, flatMap, map, tail}
+use mathlib.Core.List.{List, [], _∷_, _++_, flatMap, map}
 use mathlib.Core.Path.{_≡_}
 use lib.Dec.{eqb, ltb}
 use lib.ListN.{length, getD, take, drop}
 use Rattle.definition.specs.Block.{blockCount, fileOf, streamOf}
 use Rattle.definition.specs.Deciding.{answers, nextFunction, tableFunction}
 use Rattle.definition.specs.Domain.{domain, point, rootNumbers}
-use Rattle.definition.specs.Field.{Field, primeField}
-use Rattle.definition.specs.Layout.{coinKinds, laterCount, layout, readTranscript, wordsDue}
-use Rattle.definition.specs.Lists.{different, productOf, range}
+use Rattle.definition.specs.Field.{Field}
+use Rattle.definition.specs.Layout.{coinKinds, layout, readTranscript, wordsDue}
+use Rattle.definition.specs.Lists.{different, range}
 use Rattle.definition.specs.Polynomial.{Sample, distinct, evaluate, foldPoly, interpolate, points, quotient, subPoly, vanishing}
 use Rattle.definition.specs.Prove.{coefficientsTest, coinDomainTest, coinEqualTest, coinsTest, inputRangeTest, outputTest, sheetLengthTest}
 use Rattle.definition.specs.Prover.{honestAnswers, honestStream, nextPoly}
 use Rattle.definition.specs.Reading.{sheetTest}
-use Rattle.definition.specs.Sheet.{Edition, Level, Sheet, finalCount, firstLevel, rootOfUnity, sheetLength, sheetOf}
-use Rattle.definition.specs.Transcript.{Rest, Round, RoundCoins, round}
+use Rattle.definition.specs.Sheet.{Edition, Level, Sheet, finalCount, firstLevel, sheetLength, sheetOf}
 use Rattle.definition.specs.Transcript as transcript
+use Rattle.definition.specs.Transcript.{Rest, Round, RoundCoins, round}
 use Rattle.definition.specs.Verdict.{accepted}
-
--- the sheet's field, and its ω
-abbrev pub sheetField : Sheet → Field ℕ
-sheetField h = primeField (h .prime)
-
-abbrev pub sheetRoot : Sheet → ℕ
-sheetRoot h = rootOfUnity h
-
--- M, the number of levels after level 0, and s
-abbrev pub roundsOf : Sheet → ℕ
-roundsOf h = length (tail (h .folds))
-
-abbrev pub outsOf : Sheet → ℕ
-outsOf h = h .outCoins
-
--- d_i = d0 over the product of k_0 to k_(i-1)
-abbrev pub degreeOf : Sheet → ℕ → ℕ
-degreeOf h i = h .degree / productOf (take i (h .folds))
-
--- level i: n_i = n0 / 2^i points, degree bound d_i, folding number k_i, and t_i repetitions
-abbrev pub levelOf : Sheet → ℕ → Level
-levelOf h i = record {
-  number = i;
-  size = h .size / 2 ^ i;
-  degree = degreeOf h i;
-  fold = getD (h .folds) i 0;
-  repetitions = getD (h .repetitions) i 0;
-}
-
--- the sum of a list
-unfoldable pub total : List ℕ → ℕ
-total [] = 0
-total (x ∷ xs) = x + total xs
+use Rattle.layouts.specs.Levels.{coinsBefore, levelOf, outCoinCount, roundStart, roundsOf, sheetField, sheetRoot, total}
 
 -- THE PREMISES: the tests that prove makes of its input, in their order.
 -- the edition's words without a broken rule; d0 coefficients; a full coin list; every word in range; every out coin outside its round's domain;
@@ -70,30 +39,20 @@ pub record Allowed (e : Edition) (w f coins : List ℕ) : Type 0 where
 abbrev pub Room : Edition → Sheet → List ℕ → Type 0
 Room e h output = outputTest (blockCount (wordsDue e h)) (512 * blockCount (wordsDue e h)) (length output) ≡ accepted
 
--- THE COINS BY ROUND. Round 0 has fold coin 0 alone; round i + 1 has s out coins, a combination coin, fold coin i + 1 and t_i shift indices.
-unfoldable pub coinCount : Sheet → ℕ → ℕ
-coinCount h zero = 1
-coinCount h (suc i) = outsOf h + laterCount (levelOf h i)
-
--- the number of coins sent before table i; for i = M + 1 before the final coefficients
-unfoldable pub coinsBefore : Sheet → ℕ → ℕ
-coinsBefore h zero = 0
-coinsBefore h (suc i) = coinsBefore h i + coinCount h i
-
--- each coin of round i by its place in the coin list, and the final indices
+-- THE COINS BY ROUND: each coin of round i by its place in the coin list, and the final indices.
 unfoldable pub outCoinsOf : Sheet → List ℕ → ℕ → List ℕ
-outCoinsOf h coins i = take (outsOf h) (drop (coinsBefore h i) coins)
+outCoinsOf h coins i = take (outCoinCount h) (drop (coinsBefore h i) coins)
 
 unfoldable pub combinationCoin : Sheet → List ℕ → ℕ → ℕ
-combinationCoin h coins i = getD coins (coinsBefore h i + outsOf h) 0
+combinationCoin h coins i = getD coins (coinsBefore h i + outCoinCount h) 0
 
 unfoldable pub foldCoin : Sheet → List ℕ → ℕ → ℕ
 foldCoin h coins zero = getD coins 0 0
-foldCoin h coins (suc i) = getD coins (coinsBefore h (suc i) + (outsOf h + 1)) 0
+foldCoin h coins (suc i) = getD coins (coinsBefore h (suc i) + (outCoinCount h + 1)) 0
 
 unfoldable pub shiftIndices : Sheet → List ℕ → ℕ → List ℕ
 shiftIndices h coins zero = []
-shiftIndices h coins (suc i) = take (levelOf h i .repetitions) (drop (coinsBefore h (suc i) + (outsOf h + 2)) coins)
+shiftIndices h coins (suc i) = take (levelOf h i .repetitions) (drop (coinsBefore h (suc i) + (outCoinCount h + 2)) coins)
 
 unfoldable pub finalIndices : Sheet → List ℕ → List ℕ
 finalIndices h coins = drop (coinsBefore h (suc (roundsOf h))) coins
@@ -151,17 +110,7 @@ unfoldable pub quotientPoly : Sheet → List ℕ → List ℕ → ℕ → List �
 quotientPoly h f coins i =
     quotient (sheetField h) (subPoly (sheetField h) (roundPoly h f coins i) (answerPoly h f coins i)) (points (samplesAt h f coins i))
 
--- THE PLACES OF THE STREAM. Round 0 has table 0 and its coin; round i + 1 has table, out coins, replies and the other coins.
-unfoldable pub wordCount : Sheet → ℕ → ℕ
-wordCount h zero = levelOf h 0 .size + 1
-wordCount h (suc i) = levelOf h (suc i) .size + (outsOf h + (outsOf h + laterCount (levelOf h i)))
-
--- the word number at which round i begins, which is that of table i; for i = M + 1 that of the final coefficients
-unfoldable pub roundStart : Edition → Sheet → ℕ → ℕ
-roundStart e h zero = sheetLength e
-roundStart e h (suc i) = roundStart e h i + wordCount h i
-
--- A message: a table, the replies of one round, or the final coefficients.
+-- THE MESSAGES OF THE STREAM. A message: a table, the replies of one round, or the final coefficients.
 pub data Message : Type 0 where
   table : ℕ → Message
   replies : ℕ → Message
@@ -176,17 +125,17 @@ Due h final = Unit {0}
 -- the word number of its first word, the number of its words, and the number of coins sent before it
 unfoldable pub startOf : Edition → Sheet → Message → ℕ
 startOf e h (table i) = roundStart e h i
-startOf e h (replies i) = roundStart e h i + (levelOf h i .size + outsOf h)
+startOf e h (replies i) = roundStart e h i + (levelOf h i .size + outCoinCount h)
 startOf e h final = roundStart e h (suc (roundsOf h))
 
 unfoldable pub lengthOf : Sheet → Message → ℕ
 lengthOf h (table i) = levelOf h i .size
-lengthOf h (replies i) = outsOf h
+lengthOf h (replies i) = outCoinCount h
 lengthOf h final = finalCount (levelOf h (roundsOf h))
 
 unfoldable pub sentBefore : Sheet → Message → ℕ
 sentBefore h (table i) = coinsBefore h i
-sentBefore h (replies i) = coinsBefore h i + outsOf h
+sentBefore h (replies i) = coinsBefore h i + outCoinCount h
 sentBefore h final = coinsBefore h (suc (roundsOf h))
 
 -- its words in a stream

@@ -1,8 +1,8 @@
 -- The reads as openings: the coins of a level read k places for each different index, in each of their tables; those of a table not used so far add to the reads.
-use Prim.Native.Nat.{ℕ, zero, suc, _+_, _*_, _%_, _≤_, _<_}
-use native.Mathlib.Nat.{add-mul-mod-self-right, mod-eq-of-lt, mul-le-mul-right, mul-one, suc-mul, zero-mul}
+use Prim.Native.Nat.{ℕ, zero, suc, _+_, _*_, _%_, _<_}
+use native.Mathlib.Nat.{add-mul-mod-self-right, mod-eq-of-lt, mul-le-mul-right, mul-one, suc-mul}
 use native.Mathlib.Omega.{arith}
-use mathlib.Core.Bool.{Bool, true, false, cond, _&&_, _||_, and-or-distrib-right, and-true, or-assoc, or-true}
+use mathlib.Core.Bool.{Bool, true, false, cond, _&&_, _||_, and-or-distrib-right, and-true}
 use mathlib.Core.List.{List, [], _∷_, _++_, map, flatMap}
 use mathlib.Core.Path.{_≡_, refl, sym, ap, _∙_, subst}
 use lib.Dec.{eqb}
@@ -12,72 +12,9 @@ use Rattle.definition.specs.Deciding.{Place, coinPlaces, ownPlace, placesOf, re
 use Rattle.definition.specs.Domain.{rootNumbers}
 use Rattle.definition.specs.Lists.{different, member, range}
 use Rattle.definition.specs.Sheet.{Level, shiftCount}
-use Rattle.algebra.specs.ListFacts.{All, all-map, all-map₂, all-of-map, all-range, everywhere}
-use Rattle.completeness.specs.ListLaws.{all-flat, flatMap-append}
-
--- ---- lists without their repeats
-
-module _ {A : Type 0} (same : A → A → Bool) where
-  member-append : (x : A) (xs ys : List A) → member same x (xs ++ ys) ≡ (member same x xs || member same x ys)
-  unfolding member
-  member-append x [] ys = refl
-  member-append x (z ∷ xs) ys = ap (λ (b : Bool). same x z || b) (member-append x xs ys) ∙ sym (or-assoc (same x z) (member same x xs) (member same x ys))
-
-  absent : (x : A) (ys : List A) → All (λ y. same x y ≡ false) ys → member same x ys ≡ false
-  unfolding member
-  absent x [] h = refl
-  absent x (y ∷ ys) h = λ i. h .0 i || absent x ys (h .1) i
-
-  -- elements that are all among those after them add none
-  add-none : (xs ys : List A) → All (λ x. member same x ys ≡ true) xs → different same (xs ++ ys) ≡ different same ys
-  unfolding different
-  add-none [] ys h = refl
-  add-none (x ∷ xs) ys h = rw (member-append x xs ys ∙ ap (λ (b : Bool). member same x xs || b) (h .0) ∙ or-true (member same x xs)) (add-none xs ys (h .1))
-
-  -- elements that are none of those after them add their own number
-  add-all : (xs ys : List A) → All (λ x. member same x ys ≡ false) xs → length (different same (xs ++ ys)) ≡ length (different same xs) + length (different same ys)
-  unfolding different
-  add-all [] ys h = omega arith
-  add-all (x ∷ xs) ys h = go (member same x xs) (member-append x xs ys) (add-all xs ys (h .1))
-    where
-      go : (b : Bool) → member same x (xs ++ ys) ≡ (b || member same x ys) → length (different same (xs ++ ys)) ≡ length (different same xs) + length (different same ys) →
-          length (cond (member same x (xs ++ ys)) (different same (xs ++ ys)) (x ∷ different same (xs ++ ys))) ≡ length (cond b (different same xs) (x ∷ different same xs)) + length (different same ys)
-      go true e r = rw e r
-      go false e r = rw (e ∙ h .0) (omega (arith, r))
-
-  -- there are no more different elements than elements
-  pub different-most : (xs : List A) → length (different same xs) ≤ length xs
-  unfolding different
-  different-most [] = omega arith
-  different-most (x ∷ xs) = go (member same x xs) (different-most xs)
-    where
-      go : (b : Bool) → length (different same xs) ≤ length xs → length (cond b (different same xs) (x ∷ different same xs)) ≤ suc (length xs)
-      go true l = omega arith
-      go false l = omega arith
-
-all-members : (xs : List ℕ) → All (λ x. member eqb x xs ≡ true) xs
-unfolding member
-all-members [] = tt
-all-members (x ∷ xs) = (ap (λ (b : Bool). b || member eqb x xs) (eq-eqb x x refl), all-map xs (all-members xs) (λ y e. ap (λ (b : Bool). eqb y x || b) e ∙ or-true (eqb y x)))
-
--- lists f x of c different elements each, where each element of f x is in f z exactly if x and z are the same
-module _ {A B : Type 0} (same : A → A → Bool) (alike : B → B → Bool) (f : A → List B) (P : A → Type 0)
-    (shared : (x z : A) → P x → P z → All (λ y. member alike y (f z) ≡ same x z) (f x)) where
-  shared-all : (x : A) (zs : List A) → P x → All P zs → All (λ y. member alike y (flatMap f zs) ≡ member same x zs) (f x)
-  unfolding member flatMap
-  shared-all x [] p ps = everywhere (f x) (λ y. refl)
-  shared-all x (z ∷ zs) p ps =
-      all-map₂ (f x) (shared x z p (ps .0)) (shared-all x zs p (ps .1)) (λ y e r. member-append alike y (f z) (flatMap f zs) ∙ (λ i. e i || r i))
-
-  flat-different : (c : ℕ) → ((x : A) → length (different alike (f x)) ≡ c) → (xs : List A) → All P xs → length (different alike (flatMap f xs)) ≡ length (different same xs) * c
-  unfolding different flatMap
-  flat-different c own [] h = sym (zero-mul c)
-  flat-different c own (x ∷ xs) h = go (member same x xs) (shared-all x xs (h .0) (h .1)) (flat-different c own xs (h .1))
-    where
-      go : (t : Bool) → All (λ y. member alike y (flatMap f xs) ≡ t) (f x) → length (different alike (flatMap f xs)) ≡ length (different same xs) * c →
-          length (different alike (f x ++ flatMap f xs)) ≡ length (cond t (different same xs) (x ∷ different same xs)) * c
-      go true a r = ap length (add-none alike (f x) (flatMap f xs) a) ∙ r
-      go false a r = add-all alike (f x) (flatMap f xs) a ∙ omega (arith, own x, r, suc-mul (length (different same xs)) c)
+use Rattle.list_laws.specs.All.{All, all-flat, all-map, all-of-map, all-range, everywhere}
+use Rattle.list_laws.specs.Lists.{flatMap-append}
+use Rattle.list_laws.specs.Members.{absent, add-all, all-members, flat-different}
 
 -- ---- the roots of different indices are different
 

@@ -10,9 +10,10 @@ use Rattle.definition.specs.Domain.{foldAt, point, shiftPoint}
 use Rattle.definition.specs.Field.{Field, primeField}
 use Rattle.definition.specs.Polynomial.{Sample, correctedValue, distinct, pair}
 use Rattle.definition.specs.Sheet.{Edition, Sheet}
+use Rattle.list_laws.specs.Lists.{getD-map}
+use Rattle.layouts.specs.Levels.{levelOf, outCoinCount, roundsOf, sheetField, sheetRoot}
 use Rattle.completeness.specs.Faults.{Part, PartDue, combination, dueOf, fold, functionIn, outs, pairIn, pairsIn, partLength, partStart, partWord, partWords, shifts, words}
-use Rattle.completeness.specs.ListLaws.{getD-map}
-use Rattle.completeness.specs.Numbered.{levelOf, lengthOf, outsOf, replies, roundsOf, sheetField, sheetRoot, table}
+use Rattle.completeness.specs.Numbered.{lengthOf, replies, table}
 use Rattle.completeness.specs.PartsByNumber.{part-below}
 
 -- two lists of one length, paired
@@ -65,7 +66,7 @@ module _ (ed : Edition) (h : Sheet) (w : List ℕ) (full : dueOf ed h ≤ length
     abbrev coins : List (Sample ℕ)
     coins = pair (partWords ed h w (outs i)) (partWords ed h w (words (replies (suc i))))
 
-    outs-length : length (partWords ed h w (outs i)) ≡ outsOf h
+    outs-length : length (partWords ed h w (outs i)) ≡ outCoinCount h
     unfolding partLength
     outs-length = part-length (outs i) due
 
@@ -73,7 +74,7 @@ module _ (ed : Edition) (h : Sheet) (w : List ℕ) (full : dueOf ed h ≤ length
     unfolding partLength lengthOf
     same-length = outs-length ∙ sym (part-length (words (replies (suc i))) (omega arith, due))
 
-    coins-length : length coins ≡ outsOf h
+    coins-length : length coins ≡ outCoinCount h
     coins-length = pair-length _ _ same-length ∙ outs-length
 
     shifts-length : length (partWords ed h w (shifts i)) ≡ levelOf h i .repetitions
@@ -84,18 +85,18 @@ module _ (ed : Edition) (h : Sheet) (w : List ℕ) (full : dueOf ed h ≤ length
     sampled y = record { point = shiftPoint (sheetField h) (sheetRoot h) (levelOf h i) y; value = foldAt (sheetField h) (sheetRoot h) (levelOf h i) (functionIn ed h w i .value) (partWord ed h w (fold i) 0) y }
 
     -- a round has s + t pairs: out coin j with reply j,
-    pub pair-count : length (pairsIn ed h w i) ≡ outsOf h + levelOf h i .repetitions
+    pub pair-count : length (pairsIn ed h w i) ≡ outCoinCount h + levelOf h i .repetitions
     unfolding pairsIn answers
     pair-count = omega (arith, length-append coins (map sampled (partWords ed h w (shifts i))), coins-length, length-map (partWords ed h w (shifts i)) sampled, shifts-length)
 
-    pub pair-of-out : (j : ℕ) → j < outsOf h → pairIn ed h w i j ≡ record { point = partWord ed h w (outs i) j; value = partWord ed h w (words (replies (suc i))) j }
+    pub pair-of-out : (j : ℕ) → j < outCoinCount h → pairIn ed h w i j ≡ record { point = partWord ed h w (outs i) j; value = partWord ed h w (words (replies (suc i))) j }
     unfolding pairsIn answers partLength lengthOf
     pair-of-out j l =
         List·getD-append coins (map sampled (partWords ed h w (shifts i))) _ j (omega (arith, coins-length)) ∙ pair-at _ _ _ j same-length (omega (arith, outs-length))
         ∙ (λ x. record { point = part-word (outs i) j l x; value = part-word (words (replies (suc i))) j l x })
 
     -- and the shift point of shift index j with the fold of f_i there
-    pub pair-of-shift : (j : ℕ) → j < levelOf h i .repetitions → pairIn ed h w i (outsOf h + j) ≡ sampled (partWord ed h w (shifts i) j)
+    pub pair-of-shift : (j : ℕ) → j < levelOf h i .repetitions → pairIn ed h w i (outCoinCount h + j) ≡ sampled (partWord ed h w (shifts i) j)
     unfolding pairsIn answers partLength
     pair-of-shift j l =
         ap (λ (m : ℕ). getD (coins ++ map sampled (partWords ed h w (shifts i))) (m + j) (record { point = 0; value = 0 })) (sym coins-length) ∙ getD-append-add coins _ j _

@@ -1,29 +1,24 @@
 -- The parts of the stream by number are the words after the sheet, all of them, each with the kind that the layout has there.
 use Prim.Native.Nat.{ℕ, zero, suc, _+_, _-_, _≤_, _<_}
 use native.Mathlib.Decide.{decLt}
-use native.Mathlib.Nat.{add-suc, add-zero}
+use native.Mathlib.Nat.{add-zero}
 use native.Mathlib.Omega.{arith}
-use mathlib.Core.List.{List, _∷_, _++_}
+use mathlib.Core.List.{List, _∷_}
 use mathlib.Core.Path.{_≡_, refl, sym, ap, _∙_}
-use lib.ListN.{getD, replicate, length-replicate, getD-replicate, List·getD-append}
-use lib.Seq.{getD-append-add, getD-drop}
+use lib.ListN.{getD, replicate, getD-replicate, List·getD-append}
+use lib.Seq.{getD-drop}
 use Rattle.definition.specs.Layout.{Kind, coin, index, laterCount, layout, message, out, restLayout, wordsDue}
 use Rattle.definition.specs.Sheet.{Edition, Sheet, finalCount, sheetLength, shiftCount}
+use Rattle.list_laws.specs.Lists.{getD-after-run, getD-run}
+use Rattle.list_laws.specs.NumberedParts.{joined}
+use Rattle.layouts.specs.LayoutByRound.{after-start, afterKinds, kinds-length, lastKinds, roundKinds, starts-after, starts-grow, words-due}
+use Rattle.layouts.specs.Levels.{levelOf, outCoinCount, roundStart, roundsOf, wordCount}
+use Rattle.layouts.specs.LevelsByNumber.{Paired}
 use Rattle.completeness.specs.Faults.{Part, PartDue, combination, dueOf, finals, fold, outs, partLength, partStart, shifts, words}
-use Rattle.completeness.specs.LayoutByNumber.{after-start, afterKinds, kinds-length, lastKinds, roundKinds, words-due}
-use Rattle.completeness.specs.LevelsByNumber.{Paired}
-use Rattle.completeness.specs.Numbered.{final, lengthOf, levelOf, outsOf, replies, roundStart, roundsOf, startOf, table, wordCount}
-use Rattle.completeness.specs.Parts.{joined}
+use Rattle.completeness.specs.Numbered.{final, lengthOf, replies, startOf, table}
 
 two : (j : ℕ) → 2 + j ≡ suc (suc j)
 two j = omega arith
-
-module _ {A : Type 0} (d : A) where
-  here : (n : ℕ) (k : A) (z : List A) (j : ℕ) → j < n → getD (replicate n k ++ z) j d ≡ k
-  here n k z j l = List·getD-append (replicate n k) z d j (omega (arith, length-replicate n k)) ∙ getD-replicate n j k d l
-
-  past : (n : ℕ) (k : A) (z : List A) (j : ℕ) → getD (replicate n k ++ z) (n + j) d ≡ getD z j d
-  past n k z j = ap (λ (m : ℕ). getD (replicate n k ++ z) (m + j) d) (sym (length-replicate n k)) ∙ getD-append-add (replicate n k) z j d
 
 -- the kind of a part's words
 unfoldable pub partKind : Sheet → Part → Kind
@@ -39,16 +34,6 @@ abbrev pub InPart : Edition → Sheet → ℕ → Type 0
 InPart ed h n = (x : Part) × PartDue h x × ((j : ℕ) × (j < partLength h x) × (n ≡ partStart ed h x + j))
 
 module _ (ed : Edition) (h : Sheet) where
-  pub starts-grow : (i m : ℕ) → roundStart ed h i ≤ roundStart ed h (i + m)
-  unfolding roundStart
-  starts-grow i zero = rw (add-zero i) (omega arith)
-  starts-grow i (suc m) = rw (add-suc i m) (omega (arith, starts-grow i m))
-
-  pub starts-after : (i : ℕ) → sheetLength ed ≤ roundStart ed h i
-  unfolding roundStart
-  starts-after zero = omega arith
-  starts-after (suc i) = omega (arith, starts-after i)
-
   -- the round that a word number is in
   locate : (m n : ℕ) → sheetLength ed ≤ n → n < roundStart ed h m → (i : ℕ) × (i < m) × ((y : ℕ) × (y < wordCount h i) × (n ≡ roundStart ed h i + y))
   unfolding roundStart
@@ -73,7 +58,7 @@ module _ (ed : Edition) (h : Sheet) where
       n = levelOf h (suc i) .size
 
       s : ℕ
-      s = outsOf h
+      s = outCoinCount h
 
       go : Dec (y < n) → Dec (y < n + s) → Dec (y < n + (s + s)) → Dec (y < n + (s + (s + 1))) → Dec (y < n + (s + (s + 2))) → InPart ed h (roundStart ed h (suc i) + y)
       go (yes a) b c d e = (words (table (suc i)), l, (y, a, refl))
@@ -101,22 +86,22 @@ module _ (ed : Edition) (h : Sheet) where
   unfolding roundStart partStart
   round-below i y l u =
       let e : suc i + (roundsOf h - i) ≡ suc (roundsOf h) = omega arith in
-      let g : roundStart ed h (suc i) ≤ roundStart ed h (suc (roundsOf h)) = rw e at (starts-grow (suc i) (roundsOf h - i)) in
-      (omega (arith, starts-after i), omega (arith, g))
+      let g : roundStart ed h (suc i) ≤ roundStart ed h (suc (roundsOf h)) = rw e at (starts-grow ed h (suc i) (roundsOf h - i)) in
+      (omega (arith, starts-after ed h i), omega (arith, g))
 
   pub part-below : (x : Part) → PartDue h x → (j : ℕ) → j < partLength h x → (sheetLength ed ≤ partStart ed h x + j) × (partStart ed h x + j < dueOf ed h)
   unfolding partStart partLength startOf lengthOf wordCount laterCount
   part-below (words (table zero)) v j l = round-below 0 j v (omega arith)
   part-below (words (table (suc i))) v j l = round-below (suc i) j v (omega arith)
   part-below (words (replies zero)) v j l = absurd (omega (arith, v .0))
-  part-below (words (replies (suc i))) v j l = omega (arith, round-below (suc i) (levelOf h (suc i) .size + outsOf h + j) (v .1) (omega arith))
-  part-below (words final) v j l = omega (arith, starts-after (suc (roundsOf h)))
+  part-below (words (replies (suc i))) v j l = omega (arith, round-below (suc i) (levelOf h (suc i) .size + outCoinCount h + j) (v .1) (omega arith))
+  part-below (words final) v j l = omega (arith, starts-after ed h (suc (roundsOf h)))
   part-below (outs i) v j l = omega (arith, round-below (suc i) (levelOf h (suc i) .size + j) v (omega arith))
-  part-below (combination i) v j l = omega (arith, round-below (suc i) (levelOf h (suc i) .size + (outsOf h + outsOf h) + j) v (omega arith))
+  part-below (combination i) v j l = omega (arith, round-below (suc i) (levelOf h (suc i) .size + (outCoinCount h + outCoinCount h) + j) v (omega arith))
   part-below (fold zero) v j l = omega (arith, round-below 0 (levelOf h 0 .size + j) v (omega arith))
-  part-below (fold (suc i)) v j l = omega (arith, round-below (suc i) (levelOf h (suc i) .size + (outsOf h + (outsOf h + 1)) + j) v (omega arith))
-  part-below (shifts i) v j l = omega (arith, round-below (suc i) (levelOf h (suc i) .size + (outsOf h + (outsOf h + 2)) + j) v (omega arith))
-  part-below finals v j l = omega (arith, starts-after (suc (roundsOf h)))
+  part-below (fold (suc i)) v j l = omega (arith, round-below (suc i) (levelOf h (suc i) .size + (outCoinCount h + (outCoinCount h + 1)) + j) v (omega arith))
+  part-below (shifts i) v j l = omega (arith, round-below (suc i) (levelOf h (suc i) .size + (outCoinCount h + (outCoinCount h + 2)) + j) v (omega arith))
+  part-below finals v j l = omega (arith, starts-after ed h (suc (roundsOf h)))
 
   module _ (long : Paired h) where
     pub due-is : wordsDue ed h ≡ dueOf ed h
@@ -143,35 +128,35 @@ module _ (ed : Edition) (h : Sheet) where
         ∙ getD-drop y (lastKinds ed h) 0 message ∙ ap (λ (m : ℕ). getD (lastKinds ed h) m message) (add-zero y)
 
     -- the coins of round i + 1 after its replies
-    later : (i y z : ℕ) → i < roundsOf h → y < laterCount (levelOf h i) → sheetLength ed + z ≡ roundStart ed h (suc i) + (levelOf h (suc i) .size + (outsOf h + (outsOf h + y))) →
+    later : (i y z : ℕ) → i < roundsOf h → y < laterCount (levelOf h i) → sheetLength ed + z ≡ roundStart ed h (suc i) + (levelOf h (suc i) .size + (outCoinCount h + (outCoinCount h + y))) →
         getD (layout h) z message ≡ getD (coin ∷ coin ∷ replicate (levelOf h i .repetitions) (index (shiftCount (levelOf h i)))) y message
     unfolding roundKinds afterKinds wordCount
     later i y z v u e =
         let n = levelOf h (suc i) .size in
-        let s = outsOf h in
+        let s = outCoinCount h in
         round-kind (suc i) (n + (s + (s + y))) z v (omega arith) e
-        ∙ past message n message _ (s + (s + y)) ∙ past message s (out (levelOf h (suc i))) _ (s + y) ∙ past message s message _ y
+        ∙ getD-after-run message n message _ (s + (s + y)) ∙ getD-after-run message s (out (levelOf h (suc i))) _ (s + y) ∙ getD-after-run message s message _ y
 
     pub part-kind : (x : Part) → PartDue h x → (j : ℕ) → j < partLength h x → (z : ℕ) → sheetLength ed + z ≡ partStart ed h x + j → getD (layout h) z message ≡ partKind h x
     unfolding partStart partLength partKind startOf lengthOf roundKinds afterKinds lastKinds restLayout wordCount laterCount
-    part-kind (words (table zero)) v j l z e = round-kind 0 j z v (omega arith) e ∙ here message (levelOf h 0 .size) message _ j l
-    part-kind (words (table (suc i))) v j l z e = round-kind (suc i) j z v (omega arith) e ∙ here message (levelOf h (suc i) .size) message _ j l
+    part-kind (words (table zero)) v j l z e = round-kind 0 j z v (omega arith) e ∙ getD-run message (levelOf h 0 .size) message _ j l
+    part-kind (words (table (suc i))) v j l z e = round-kind (suc i) j z v (omega arith) e ∙ getD-run message (levelOf h (suc i) .size) message _ j l
     part-kind (words (replies zero)) v j l z e = absurd (omega (arith, v .0))
     part-kind (words (replies (suc i))) v j l z e =
         let n = levelOf h (suc i) .size in
-        let s = outsOf h in
-        round-kind (suc i) (n + (s + j)) z (v .1) (omega arith) (omega arith) ∙ past message n message _ (s + j) ∙ past message s (out (levelOf h (suc i))) _ j ∙ here message s message _ j l
-    part-kind (words final) v j l z e = last-kind j z e ∙ here message (finalCount (levelOf h (roundsOf h))) message _ j l
+        let s = outCoinCount h in
+        round-kind (suc i) (n + (s + j)) z (v .1) (omega arith) (omega arith) ∙ getD-after-run message n message _ (s + j) ∙ getD-after-run message s (out (levelOf h (suc i))) _ j ∙ getD-run message s message _ j l
+    part-kind (words final) v j l z e = last-kind j z e ∙ getD-run message (finalCount (levelOf h (roundsOf h))) message _ j l
     part-kind (outs i) v j l z e =
         let n = levelOf h (suc i) .size in
-        round-kind (suc i) (n + j) z v (omega arith) (omega arith) ∙ past message n message _ j ∙ here message (outsOf h) (out (levelOf h (suc i))) _ j l
+        round-kind (suc i) (n + j) z v (omega arith) (omega arith) ∙ getD-after-run message n message _ j ∙ getD-run message (outCoinCount h) (out (levelOf h (suc i))) _ j l
     part-kind (combination i) v j l z e = later i 0 z v (omega arith) (omega arith)
     part-kind (fold zero) v j l z e =
-        round-kind 0 (levelOf h 0 .size + 0) z v (omega arith) (omega arith) ∙ past message (levelOf h 0 .size) message _ 0
+        round-kind 0 (levelOf h 0 .size + 0) z v (omega arith) (omega arith) ∙ getD-after-run message (levelOf h 0 .size) message _ 0
     part-kind (fold (suc i)) v j l z e = later i 1 z v (omega arith) (omega arith)
     part-kind (shifts i) v j l z e =
         later i (2 + j) z v (omega arith) (omega arith) ∙ ap (λ (m : ℕ). getD (coin ∷ coin ∷ replicate (levelOf h i .repetitions) (index (shiftCount (levelOf h i)))) m message) (two j)
         ∙ getD-replicate (levelOf h i .repetitions) j (index (shiftCount (levelOf h i))) message l
     part-kind finals v j l z e =
         let b = levelOf h (roundsOf h) in
-        last-kind (finalCount b + j) z (omega arith) ∙ past message (finalCount b) message _ j ∙ getD-replicate (b .repetitions) j (index (shiftCount b)) message l
+        last-kind (finalCount b + j) z (omega arith) ∙ getD-after-run message (finalCount b) message _ j ∙ getD-replicate (b .repetitions) j (index (shiftCount b)) message l

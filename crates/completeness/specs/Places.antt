@@ -3,17 +3,18 @@ use Prim.Native.Nat.{ℕ, zero, suc, _+_, _*_, _<_}
 use native.Mathlib.Nat.{suc-mul, zero-mul}
 use native.Mathlib.Omega.{arith}
 use mathlib.Core.List.{List, [], _∷_, _++_, flatMap, map}
-use mathlib.Core.Path.{_≡_, refl, sym, ap, _∙_}
-use lib.ListN.{length, getD, length-append, length-map, List·getD-append}
+use mathlib.Core.Path.{_≡_, refl, ap, _∙_}
+use lib.ListN.{length, getD, length-map, List·getD-append}
 use lib.Seq.{getD-append-add}
 use Rattle.definition.specs.Deciding.{Place, coinPlaces, ownPlace, placesOf}
 use Rattle.definition.specs.Domain.{rootNumbers}
 use Rattle.definition.specs.Sheet.{Edition, Level, Sheet, shiftCount}
-use Rattle.completeness.specs.DecidingAccepts.{root-number, roots-length}
+use Rattle.list_laws.specs.All.{everywhere}
+use Rattle.list_laws.specs.Lists.{flatMap-length, getD-map}
+use Rattle.layouts.specs.Levels.{levelOf}
+use Rattle.layouts.specs.RootNumbers.{root-number, roots-length}
 use Rattle.completeness.specs.Dependence.{own-places}
 use Rattle.completeness.specs.Faults.{functionIn}
-use Rattle.completeness.specs.ListLaws.{getD-map}
-use Rattle.completeness.specs.Numbered.{levelOf}
 
 module _ (l : Level) (d : Place) where
   abbrev place : ℕ → Place
@@ -34,10 +35,8 @@ module _ (l : Level) (d : Place) where
       ap (λ (t : List Place). getD t m d) (own-map (rootNumbers l j)) ∙ getD-map place (rootNumbers l j) 0 d m (omega (arith, roots-length l j)) ∙ ap place (root-number l j m u)
 
   places-length : (js : List ℕ) → length (placesOf l (ownPlace l) js) ≡ length js * l .fold
-  unfolding placesOf flatMap
-  places-length [] = sym (zero-mul (l .fold))
-  places-length (j ∷ js) =
-      length-append (coinPlaces l (ownPlace l) j) (placesOf l (ownPlace l) js) ∙ omega (arith, coin-length j, places-length js, suc-mul (length js) (l .fold))
+  unfolding placesOf
+  places-length js = flatMap-length (coinPlaces l (ownPlace l)) (l .fold) js (everywhere js coin-length)
 
   places-at : (js : List ℕ) (a m : ℕ) → a < length js → m < l .fold → getD (placesOf l (ownPlace l) js) (a * l .fold + m) d ≡ place (getD js a 0 + m * shiftCount l)
   unfolding placesOf flatMap

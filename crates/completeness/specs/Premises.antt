@@ -20,18 +20,18 @@ use Rattle.definition.specs.Reading.{outOfRange, sheetTest}
 use Rattle.definition.specs.Sheet.{Edition, Level, Sheet, edition1, rootOfUnity, sheetLength, sheetOf, shiftCount}
 use Rattle.definition.specs.Verdict.{accepted}
 use Rattle.definition.specs.WorkedTranscript.{coefficients, coins, definitions, sheetWords}
-use Rattle.algebra.specs.ListFacts.{All}
+use Rattle.list_laws.specs.All.{All}
 use Rattle.algebra.specs.PrimeField.{signs-differ}
+use Rattle.layouts.specs.EachWord.{Each, Passes, each-false, each-join, each-map, each-none}
+use Rattle.layouts.specs.LayoutFacts.{layout-all}
+use Rattle.layouts.specs.LevelSizes.{Sized, positive-sizes}
+use Rattle.layouts.specs.Levels.{levelOf, roundsOf}
+use Rattle.layouts.specs.Tests.{at-none, at-passes, equal-passes, if-false, none-true}
 use Rattle.completeness.specs.Allowed.{sheet-enough, sheet-long}
 use Rattle.completeness.specs.Domains.{odd-not-one, power-nonzero}
-use Rattle.completeness.specs.EachWord.{Each, each-false, each-join, each-map, each-none}
 use Rattle.completeness.specs.EqualOuts.{NoRepeat}
-use Rattle.completeness.specs.FairCoins.{Passes}
-use Rattle.completeness.specs.LayoutFacts.{layout-all}
-use Rattle.completeness.specs.LevelSizes.{Sized, positive-sizes}
-use Rattle.completeness.specs.Numbered.{Allowed, levelOf, roundsOf}
+use Rattle.completeness.specs.Numbered.{Allowed}
 use Rattle.completeness.specs.Ready.{Ready, ready}
-use Rattle.completeness.specs.Tests.{at-none, at-passes, equal-passes, if-false, none-true}
 
 -- The coins that serve every sheet: 0 for each, and 1 for an out coin that would repeat an out coin 0.
 unfoldable pub plainCoin : Option ℕ → Kind → ℕ

@@ -16,7 +16,7 @@ use Rattle.definition.specs.Verdict.{Outcome, _then_, accepted, refused}
 use Rattle.definition.specs.Verify.{verifyIn}
 use Rattle.completeness.specs.Completeness.{completeness, file-size}
 use Rattle.completeness.specs.Numbered.{Allowed, Room, readsDue}
-use Rattle.completeness.specs.Tests.{then-passes}
+use Rattle.layouts.specs.Tests.{then-passes}
 
 pub finish-done : (o : Outcome) (count n : ℕ) (written output : List ℕ) → finish o count written output .answer ≡ done n → (o ≡ accepted) × (count ≡ n)
 unfolding finish

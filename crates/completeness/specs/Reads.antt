@@ -12,16 +12,18 @@ use borrow.Author.Tests.{le-ltb, lt-ltb, ltb-false}
 use Rattle.definition.specs.Deciding.{Place, ownPlace, placesOf, readsOf}
 use Rattle.definition.specs.Lists.{different, range}
 use Rattle.definition.specs.Sheet.{Edition, Level, Sheet, sheetOf, shiftCount}
+use Rattle.list_laws.specs.All.{All, all-append, all-map}
+use Rattle.list_laws.specs.Members.{different-most}
 use Rattle.algebra.specs.Laws.{FieldLaws}
-use Rattle.algebra.specs.ListFacts.{All, all-append, all-map}
+use Rattle.layouts.specs.Lawful.{lawful}
+use Rattle.layouts.specs.LayoutByRound.{coins-due}
+use Rattle.layouts.specs.LevelSizes.{Sized, positive-sizes}
+use Rattle.layouts.specs.Levels.{coinsBefore, levelOf, outCoinCount, roundsOf, sheetField, sheetRoot, total}
+use Rattle.layouts.specs.LevelsByNumber.{Paired}
 use Rattle.completeness.specs.Allowed.{allowed-count, allowed-enough}
-use Rattle.completeness.specs.DecidingAccepts.{Fair, allPlaces}
-use Rattle.completeness.specs.Lawful.{lawful}
-use Rattle.completeness.specs.LayoutByNumber.{coins-due}
-use Rattle.completeness.specs.LevelSizes.{Sized, positive-sizes}
-use Rattle.completeness.specs.LevelsByNumber.{Paired}
-use Rattle.completeness.specs.Numbered.{Allowed, coinsBefore, coinsOf, finalIndices, indicesOf, levelOf, levelReads, outsOf, readsDue, roundsOf, sheetField, sheetRoot, shiftIndices, total}
-use Rattle.completeness.specs.Openings.{different-most, own-table, reads-next}
+use Rattle.completeness.specs.DecidingAccepts.{Admissible, allPlaces}
+use Rattle.completeness.specs.Numbered.{Allowed, coinsOf, finalIndices, indicesOf, levelReads, readsDue, shiftIndices}
+use Rattle.completeness.specs.Openings.{own-table, reads-next}
 
 pub shift-points : (a : ℕ) (b : Level) → Sized a b → 0 < shiftCount b
 unfolding shiftCount
@@ -57,31 +59,31 @@ module _ (h : Sheet) (coins : List ℕ) where
 
   module _ (a : ℕ) (L : FieldLaws (sheetField h)) (sized : (i : ℕ) → i ≤ roundsOf h → Sized a (levelOf h i)) where
     reads-from : (m i : ℕ) (before : List Place) → i + m ≡ roundsOf h → All (λ p. p .table < i) before →
-        Fair (sheetField h) L (sheetRoot h) (levelOf h i) (map (coinsOf h coins) (range (suc i) m)) (finalIndices h coins) →
+        Admissible (sheetField h) L (sheetRoot h) (levelOf h i) (map (coinsOf h coins) (range (suc i) m)) (finalIndices h coins) →
         readsOf (before ++ placesFrom i m) ≡ readsOf before + readsFrom i (suc m)
     unfolding range total
-    reads-from zero i before e lower fair =
-        level-reads h i before (finalIndices h coins) lower (shift-points a (levelOf h i) (sized i (omega arith))) fair
+    reads-from zero i before e lower admissible =
+        level-reads h i before (finalIndices h coins) lower (shift-points a (levelOf h i) (sized i (omega arith))) admissible
         ∙ ap (λ (n : ℕ). readsOf before + n) (ap (levelReads h i) (finals-here ∙ ap (indicesOf h coins) last) ∙ sym (add-zero (levelReads h i (indicesOf h coins i))))
       where
         last : roundsOf h ≡ i
         last = omega arith
-    reads-from (suc m) i before e lower fair =
+    reads-from (suc m) i before e lower admissible =
         let js = shiftIndices h coins (suc i) in
         let own = placesOf (levelOf h i) (ownPlace (levelOf h i)) js in
         ap readsOf (sym (append-assoc before own (placesFrom (suc i) m)))
-        ∙ reads-from m (suc i) (before ++ own) (omega arith) (level-tables h i before js lower) (fair .1)
+        ∙ reads-from m (suc i) (before ++ own) (omega arith) (level-tables h i before js lower) (admissible .1)
         ∙ omega (
           arith,
-          level-reads h i before js lower (shift-points a (levelOf h i) (sized i (omega arith))) (fair .0 .indices),
+          level-reads h i before js lower (shift-points a (levelOf h i) (sized i (omega arith))) (admissible .0 .indices),
           ap (levelReads h i) (shifts-here i (omega arith)),
         )
 
     -- all indices of a fair coin list
-    pub all-reads : Fair (sheetField h) L (sheetRoot h) (levelOf h 0) (map (coinsOf h coins) (range 1 (roundsOf h))) (finalIndices h coins) →
+    pub all-reads : Admissible (sheetField h) L (sheetRoot h) (levelOf h 0) (map (coinsOf h coins) (range 1 (roundsOf h))) (finalIndices h coins) →
         readsOf (allPlaces (levelOf h 0) (ownPlace (levelOf h 0)) (map (coinsOf h coins) (range 1 (roundsOf h))) (finalIndices h coins)) ≡ readsDue h coins
     unfolding readsDue readsOf different
-    all-reads fair = reads-from (roundsOf h) 0 [] (omega arith) tt fair ∙ zero-add (readsFrom 0 (suc (roundsOf h)))
+    all-reads admissible = reads-from (roundsOf h) 0 [] (omega arith) tt admissible ∙ zero-add (readsFrom 0 (suc (roundsOf h)))
 
   -- a full coin list has no more than t_i indices of level i
   module _ (full : length coins ≡ coinsBefore h (suc (roundsOf h)) + levelOf h (roundsOf h) .repetitions) where
@@ -90,7 +92,7 @@ module _ (h : Sheet) (coins : List ℕ) where
     few-indices i l = go (ltb i (roundsOf h)) refl
       where
         go : (b : Bool) → ltb i (roundsOf h) ≡ b → length (cond b (shiftIndices h coins (suc i)) (finalIndices h coins)) ≤ levelOf h i .repetitions
-        go true e = omega (arith, length-take (levelOf h i .repetitions) (drop (coinsBefore h (suc i) + (outsOf h + 2)) coins))
+        go true e = omega (arith, length-take (levelOf h i .repetitions) (drop (coinsBefore h (suc i) + (outCoinCount h + 2)) coins))
         go false e =
             let last : i ≡ roundsOf h = omega (arith, ltb-false i (roundsOf h) e) in
             omega (arith, full, length-drop (coinsBefore h (suc (roundsOf h))) coins, ap (λ (n : ℕ). levelOf h n .repetitions) last)

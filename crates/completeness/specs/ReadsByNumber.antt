@@ -19,15 +19,14 @@ use Rattle.definition.specs.Sheet.{Edition, Sheet, firstLevel, sheetLength, she
 use Rattle.definition.specs.Transcript
 use Rattle.definition.specs.Verdict.{Outcome, Verdict, _then_, accepted, refuseAt, refused, thenVerdict}
 use Rattle.definition.specs.Verify.{verifyIn}
-use Rattle.algebra.specs.ListFacts.{All}
+use Rattle.list_laws.specs.All.{All, all-places, all-take}
+use Rattle.list_laws.specs.First.{FirstTrue, first-true}
+use Rattle.layouts.specs.Levels.{levelOf, roundsOf, sheetField, sheetRoot, total}
+use Rattle.layouts.specs.LevelsByNumber.{Paired}
 use Rattle.completeness.specs.Answers.{Refuses, at-refuses, if-refuses, refuses-sheet, then-refuses}
-use Rattle.completeness.specs.ByPlace.{all-places}
 use Rattle.completeness.specs.DecidedByNumber.{clashes, decide-rounds, decided, finalTests, rest-final, rest-round, restAfter}
 use Rattle.completeness.specs.Faults.{Part, PartDue, finals, fold, functionIn, pairsIn, partLength, partLimit, partWord, partWords, readsBefore, readsWith, sheetIn, shifts}
-use Rattle.completeness.specs.FirstFaults.{FirstTrue, first-true}
-use Rattle.completeness.specs.LevelsByNumber.{Paired}
-use Rattle.completeness.specs.ListLaws.{all-take}
-use Rattle.completeness.specs.Numbered.{levelOf, levelReads, roundsOf, sheetField, sheetRoot, total}
+use Rattle.completeness.specs.Numbered.{levelReads}
 use Rattle.completeness.specs.PairsByNumber.{part-length, part-word}
 use Rattle.completeness.specs.Places.{same-places}
 use Rattle.completeness.specs.Reads.{level-reads, level-tables, shift-points}

@@ -12,16 +12,16 @@ use Rattle.definition.specs.Layout.{layout, limit}
 use Rattle.definition.specs.Reading.{sheetTest}
 use Rattle.definition.specs.Sheet.{Edition, Level, Sheet, firstLevel, laterLevels, rootOfUnity, sheetLength, sheetOf, shiftCount}
 use Rattle.definition.specs.Verdict.{accepted}
+use Rattle.list_laws.specs.All.{All}
 use Rattle.algebra.specs.Laws.{FieldLaws}
-use Rattle.algebra.specs.ListFacts.{All}
 use Rattle.algebra.specs.PowerBySquaring.{powerMod-is}
 use Rattle.algebra.specs.PrimeField.{Suited, fitting-root, prime-field, suited}
 use Rattle.algebra.specs.RootsOfUnity.{minusOne}
-use Rattle.completeness.specs.LayoutFacts.{layout-all}
-use Rattle.completeness.specs.LevelSizes.{Chain, Sized}
-use Rattle.completeness.specs.Numbered.{levelOf, roundsOf}
-use Rattle.completeness.specs.SheetLevels.{Steps, sheet-chain, sheet-steps, sized}
-use Rattle.completeness.specs.Lawful.{lawful}
+use Rattle.layouts.specs.Lawful.{lawful}
+use Rattle.layouts.specs.LayoutFacts.{layout-all}
+use Rattle.layouts.specs.LevelSizes.{Chain, Sized}
+use Rattle.layouts.specs.Levels.{levelOf, roundsOf}
+use Rattle.layouts.specs.SheetLevels.{Steps, sheet-chain, sheet-steps, sized}
 
 pub record Ready (h : Sheet) : Type 0 where
   pub laws : FieldLaws (primeField (h .prime))

@@ -14,37 +14,37 @@ use Rattle.definition.specs.Polynomial.{addPoly, correctedPoly, distinct, evalu
 use Rattle.definition.specs.Prover.{nextPoly}
 use Rattle.definition.specs.Sheet.{Edition, Level, Sheet, finalCount, firstLevel, sheetLength, sheetOf}
 use Rattle.definition.specs.Transcript.{Coins}
+use Rattle.list_laws.specs.All.{all-map, all-places, at-place}
+use Rattle.list_laws.specs.Lists.{range-length}
 use Rattle.algebra.specs.Coefficients
 use Rattle.algebra.specs.Coefficients.{Elements}
-use Rattle.algebra.specs.Different.{Apart}
+use Rattle.algebra.specs.Different.{Apart, same-place}
 use Rattle.algebra.specs.Laws.{FieldLaws}
 use Rattle.algebra.specs.Lengths
-use Rattle.algebra.specs.ListFacts.{all-map}
 use Rattle.algebra.specs.PrimeField.{signs-differ}
+use Rattle.layouts.specs.Lawful.{Lawful, lawful}
+use Rattle.layouts.specs.Levels.{levelOf, roundsOf, sheetField, sheetRoot}
+use Rattle.layouts.specs.LevelsByNumber.{level-first, undivided, undivided-degree}
 use Rattle.completeness.specs.Allowed.{allowed-degree, allowed-elements, allowed-enough}
-use Rattle.completeness.specs.ByPlace.{all-places, at-place, same-place}
 use Rattle.completeness.specs.CoinsByNumber.{coins-read}
-use Rattle.completeness.specs.Completeness.{fair-coins, sheetReady}
+use Rattle.completeness.specs.Completeness.{admissible-coins, sheetReady}
 use Rattle.completeness.specs.DecidingAccepts
-use Rattle.completeness.specs.DecidingAccepts.{Fair, FairRound, Foldable}
+use Rattle.completeness.specs.DecidingAccepts.{Admissible, AdmissibleRound, Foldable}
 use Rattle.completeness.specs.DistinctPoints.{all-distinct, kept-places}
 use Rattle.completeness.specs.Domains.{domain-apart, foldable}
-use Rattle.completeness.specs.FairCoins.{element-below, reduced}
-use Rattle.completeness.specs.LevelsByNumber.{level-first, undivided, undivided-degree}
-use Rattle.completeness.specs.ListLaws.{range-length}
-use Rattle.completeness.specs.Numbered.{Allowed, answerPoly, coinsOf, combinationCoin, correctedOf, finalIndices, foldCoin, levelOf, pairAt, pairsOf, quotientPoly, roundPoly, roundsOf, samplesAt, sheetField, sheetRoot, vanishingPoly}
+use Rattle.completeness.specs.AdmissibleCoins.{element-below, reduced}
+use Rattle.completeness.specs.Numbered.{Allowed, answerPoly, coinsOf, combinationCoin, correctedOf, finalIndices, foldCoin, pairAt, pairsOf, quotientPoly, roundPoly, samplesAt, vanishingPoly}
 use Rattle.completeness.specs.Ready.{ready-sized}
 use Rattle.completeness.specs.RoundPolynomials
-use Rattle.completeness.specs.Lawful.{Lawful, lawful}
 
 -- n rounds past level i
-fair-at : (h : Sheet) (coins : List ℕ) (L : FieldLaws (sheetField h)) (js : List ℕ) (m i n : ℕ) → n < m → Fair (sheetField h) L (sheetRoot h) (levelOf h i) (map (coinsOf h coins) (range (suc i) m)) js →
-    FairRound (sheetField h) L (sheetRoot h) (levelOf h (i + n)) (coinsOf h coins (suc (i + n)))
+admissible-at : (h : Sheet) (coins : List ℕ) (L : FieldLaws (sheetField h)) (js : List ℕ) (m i n : ℕ) → n < m → Admissible (sheetField h) L (sheetRoot h) (levelOf h i) (map (coinsOf h coins) (range (suc i) m)) js →
+    AdmissibleRound (sheetField h) L (sheetRoot h) (levelOf h (i + n)) (coinsOf h coins (suc (i + n)))
 unfolding range
-fair-at h coins L js zero i n l f = absurd (omega arith)
-fair-at h coins L js (suc m) i zero l f = subst (λ (j : ℕ). FairRound (sheetField h) L (sheetRoot h) (levelOf h j) (coinsOf h coins (suc j))) (sym (add-zero i)) (f .0)
-fair-at h coins L js (suc m) i (suc n) l f =
-    subst (λ (j : ℕ). FairRound (sheetField h) L (sheetRoot h) (levelOf h j) (coinsOf h coins (suc j))) (suc-add i n ∙ sym (add-suc i n)) (fair-at h coins L js m (suc i) n (omega arith) (f .1))
+admissible-at h coins L js zero i n l f = absurd (omega arith)
+admissible-at h coins L js (suc m) i zero l f = subst (λ (j : ℕ). AdmissibleRound (sheetField h) L (sheetRoot h) (levelOf h j) (coinsOf h coins (suc j))) (sym (add-zero i)) (f .0)
+admissible-at h coins L js (suc m) i (suc n) l f =
+    subst (λ (j : ℕ). AdmissibleRound (sheetField h) L (sheetRoot h) (levelOf h j) (coinsOf h coins (suc j))) (suc-add i n ∙ sym (add-suc i n)) (admissible-at h coins L js m (suc i) n (omega arith) (f .1))
 
 first-length : (ed : Edition) (w f : List ℕ) {coins : List ℕ} → Allowed ed w f coins → length f ≡ levelOf (sheetOf ed w) 0 .degree
 first-length ed w f ok = allowed-degree ok ∙ sym (undivided-degree (sheetOf ed w))
@@ -70,17 +70,17 @@ module _ {ed : Edition} {w f coins : List ℕ} (ok : Allowed ed w f coins) where
   lawful-sheet : Lawful (sheetOf ed w)
   lawful-sheet = lawful ed w (allowed-enough ok) (ok .sheet)
 
-  fair-all : Fair F L ω (levelOf (sheetOf ed w) 0) (map (coinsOf (sheetOf ed w) coins) (range 1 (roundsOf (sheetOf ed w)))) (finalIndices (sheetOf ed w) coins)
-  fair-all =
-      subst (λ (c : Coins ℕ). Fair F L ω (levelOf (sheetOf ed w) 0) (c .rounds) (c .finals)) (coins-read (sheetOf ed w) coins (lawful-sheet .paired))
-      (subst (λ (b : Level). Fair F L ω b (readCoins (sheetOf ed w) coins .rounds) (readCoins (sheetOf ed w) coins .finals)) (level-first (sheetOf ed w)) fair-read)
+  admissible-all : Admissible F L ω (levelOf (sheetOf ed w) 0) (map (coinsOf (sheetOf ed w) coins) (range 1 (roundsOf (sheetOf ed w)))) (finalIndices (sheetOf ed w) coins)
+  admissible-all =
+      subst (λ (c : Coins ℕ). Admissible F L ω (levelOf (sheetOf ed w) 0) (c .rounds) (c .finals)) (coins-read (sheetOf ed w) coins (lawful-sheet .paired))
+      (subst (λ (b : Level). Admissible F L ω b (readCoins (sheetOf ed w) coins .rounds) (readCoins (sheetOf ed w) coins .finals)) (level-first (sheetOf ed w)) admissible-read)
     where
-      fair-read : Fair F L ω (firstLevel (sheetOf ed w)) (readCoins (sheetOf ed w) coins .rounds) (readCoins (sheetOf ed w) coins .finals)
-      fair-read = fair-coins ok
+      admissible-read : Admissible F L ω (firstLevel (sheetOf ed w)) (readCoins (sheetOf ed w) coins .rounds) (readCoins (sheetOf ed w) coins .finals)
+      admissible-read = admissible-coins ok
 
   -- the coins of round i + 1 are fair
-  pub fair-round : (i : ℕ) → i < roundsOf (sheetOf ed w) → FairRound F L ω (levelOf (sheetOf ed w) i) (coinsOf (sheetOf ed w) coins (suc i))
-  fair-round i l = subst (λ (j : ℕ). FairRound F L ω (levelOf (sheetOf ed w) j) (coinsOf (sheetOf ed w) coins (suc j))) (zero-add i) (fair-at (sheetOf ed w) coins L _ (roundsOf (sheetOf ed w)) 0 i l fair-all)
+  pub admissible-round : (i : ℕ) → i < roundsOf (sheetOf ed w) → AdmissibleRound F L ω (levelOf (sheetOf ed w) i) (coinsOf (sheetOf ed w) coins (suc i))
+  admissible-round i l = subst (λ (j : ℕ). AdmissibleRound F L ω (levelOf (sheetOf ed w) j) (coinsOf (sheetOf ed w) coins (suc j))) (zero-add i) (admissible-at (sheetOf ed w) coins L _ (roundsOf (sheetOf ed w)) 0 i l admissible-all)
 
   pub level-folds : (i : ℕ) → i ≤ roundsOf (sheetOf ed w) → Foldable F ω (levelOf (sheetOf ed w) i)
   level-folds i l = foldable F L ω (signs-differ (sheetOf ed w .prime) (sheetReady ok .large)) (sheetReady ok .e) (sheetReady ok .root) (levelOf (sheetOf ed w) i) (ready-sized ed w long (ok .sheet) i l)
@@ -90,7 +90,7 @@ module _ {ed : Edition} {w f coins : List ℕ} (ok : Allowed ed w f coins) where
   unfolding correctedOf
   corrected-length zero l = first-length ed w f ok
   corrected-length (suc i) l =
-      DecidingAccepts.next-fits F L ω (levelOf (sheetOf ed w) i) (correctedOf (sheetOf ed w) f coins i) (foldCoin (sheetOf ed w) coins i) (coinsOf (sheetOf ed w) coins (suc i)) (corrected-length i (omega arith)) (fair-round i (omega arith))
+      DecidingAccepts.next-fits F L ω (levelOf (sheetOf ed w) i) (correctedOf (sheetOf ed w) f coins i) (foldCoin (sheetOf ed w) coins i) (coinsOf (sheetOf ed w) coins (suc i)) (corrected-length i (omega arith)) (admissible-round i (omega arith))
 
   pub first-degree : length (roundPoly (sheetOf ed w) f coins 0) ≡ sheetOf ed w .degree
   unfolding roundPoly
@@ -103,7 +103,7 @@ module _ {ed : Edition} {w f coins : List ℕ} (ok : Allowed ed w f coins) where
   pub round-length : (i : ℕ) → i ≤ roundsOf (sheetOf ed w) → length (roundPoly (sheetOf ed w) f coins i) ≡ levelOf (sheetOf ed w) i .degree
   unfolding roundPoly finalCount
   round-length zero l = first-length ed w f ok
-  round-length (suc i) l = folded-length i (omega arith) ∙ sym (fair-round i (omega arith) .degree)
+  round-length (suc i) l = folded-length i (omega arith) ∙ sym (admissible-round i (omega arith) .degree)
 
   -- the coefficients of every g_i and f_i are elements
   element-at : (g : List ℕ) → Elements F L g → (j : ℕ) → j < length g → getD g j 0 < sheetOf ed w .prime
@@ -128,7 +128,7 @@ module _ {ed : Edition} {w f coins : List ℕ} (ok : Allowed ed w f coins) where
 
     pub fewer : length (samplesAt (sheetOf ed w) f coins (suc i)) < levelOf (sheetOf ed w) (suc i) .degree
     unfolding samplesAt pairsOf
-    fewer = DecidingAccepts.fewer-samples F L ω (levelOf (sheetOf ed w) i) g (coinsOf (sheetOf ed w) coins (suc i)) (fair-round i l)
+    fewer = DecidingAccepts.fewer-samples F L ω (levelOf (sheetOf ed w) i) g (coinsOf (sheetOf ed w) coins (suc i)) (admissible-round i l)
 
     pub answer-length : length (answerPoly (sheetOf ed w) f coins (suc i)) ≡ length (samplesAt (sheetOf ed w) f coins (suc i))
     unfolding answerPoly
@@ -136,16 +136,16 @@ module _ {ed : Edition} {w f coins : List ℕ} (ok : Allowed ed w f coins) where
 
     pub quotient-length : length (quotientPoly (sheetOf ed w) f coins (suc i)) ≡ levelOf (sheetOf ed w) (suc i) .degree - length (samplesAt (sheetOf ed w) f coins (suc i))
     unfolding quotientPoly answerPoly samplesAt pairsOf
-    quotient-length = RoundPolynomials.quotient-length F L ω (levelOf (sheetOf ed w) i) g (coinsOf (sheetOf ed w) coins (suc i)) (fair-round i l) (round-length (suc i) (omega arith))
+    quotient-length = RoundPolynomials.quotient-length F L ω (levelOf (sheetOf ed w) i) g (coinsOf (sheetOf ed w) coins (suc i)) (admissible-round i l) (round-length (suc i) (omega arith))
 
     pub samples-apart : Apart F (points (samplesAt (sheetOf ed w) f coins (suc i)))
     unfolding samplesAt pairsOf
-    samples-apart = RoundPolynomials.samples-apart F L ω (levelOf (sheetOf ed w) i) g (coinsOf (sheetOf ed w) coins (suc i)) (fair-round i l)
+    samples-apart = RoundPolynomials.samples-apart F L ω (levelOf (sheetOf ed w) i) g (coinsOf (sheetOf ed w) coins (suc i)) (admissible-round i l)
 
     pub values-divide : (x : ℕ) → evaluate F g x
         ≡ F ._⊕_ (evaluate F (answerPoly (sheetOf ed w) f coins (suc i)) x) (F ._⊗_ (evaluate F (vanishingPoly (sheetOf ed w) f coins (suc i)) x) (evaluate F (quotientPoly (sheetOf ed w) f coins (suc i)) x))
     unfolding quotientPoly vanishingPoly answerPoly samplesAt pairsOf
-    values-divide = RoundPolynomials.values-divide F L ω (levelOf (sheetOf ed w) i) g (coinsOf (sheetOf ed w) coins (suc i)) (fair-round i l)
+    values-divide = RoundPolynomials.values-divide F L ω (levelOf (sheetOf ed w) i) g (coinsOf (sheetOf ed w) coins (suc i)) (admissible-round i l)
 
     g-elements : Elements F L g
     unfolding roundPoly
@@ -164,7 +164,7 @@ module _ {ed : Edition} {w f coins : List ℕ} (ok : Allowed ed w f coins) where
     pub coefficients-divide : g ≡ addPoly F (answerPoly (sheetOf ed w) f coins (suc i)) (mulPoly F (vanishingPoly (sheetOf ed w) f coins (suc i)) (quotientPoly (sheetOf ed w) f coins (suc i)))
     unfolding quotientPoly vanishingPoly answerPoly samplesAt pairsOf
     coefficients-divide =
-        RoundPolynomials.coefficients-divide F L ω (levelOf (sheetOf ed w) i) g (coinsOf (sheetOf ed w) coins (suc i)) (fair-round i l) (round-length (suc i) (omega arith)) (domain F ω (levelOf (sheetOf ed w) 0))
+        RoundPolynomials.coefficients-divide F L ω (levelOf (sheetOf ed w) i) g (coinsOf (sheetOf ed w) coins (suc i)) (admissible-round i l) (round-length (suc i) (omega arith)) (domain F ω (levelOf (sheetOf ed w) 0))
         (domain-apart F L ω (signs-differ (sheetOf ed w .prime) (sheetReady ok .large)) (sheetReady ok .e) (sheetReady ok .root) (levelOf (sheetOf ed w) 0) (ready-sized ed w long (ok .sheet) 0 (omega arith)))
         enough g-elements
 
@@ -173,13 +173,13 @@ module _ {ed : Edition} {w f coins : List ℕ} (ok : Allowed ed w f coins) where
     unfolding answerPoly samplesAt pairsOf
     passes-through =
         at-place (λ p. evaluate F (answerPoly (sheetOf ed w) f coins (suc i)) (p .point) ≡ p .value) (pairsOf (sheetOf ed w) f coins (suc i)) _
-        (RoundPolynomials.passes-through F L ω (levelOf (sheetOf ed w) i) g (coinsOf (sheetOf ed w) coins (suc i)) (fair-round i l))
+        (RoundPolynomials.passes-through F L ω (levelOf (sheetOf ed w) i) g (coinsOf (sheetOf ed w) coins (suc i)) (admissible-round i l))
 
     pub only-answer : (q : List ℕ) → length q ≡ length (samplesAt (sheetOf ed w) f coins (suc i)) → ((j : ℕ) → j < length q → getD q j 0 < sheetOf ed w .prime) →
         ((j : ℕ) → j < length (pairsOf (sheetOf ed w) f coins (suc i)) → evaluate F q (pairAt (sheetOf ed w) f coins (suc i) j .point) ≡ pairAt (sheetOf ed w) f coins (suc i) j .value) → q ≡ answerPoly (sheetOf ed w) f coins (suc i)
     unfolding answerPoly samplesAt pairsOf
     only-answer q n e h =
-        RoundPolynomials.only-answer F L ω (levelOf (sheetOf ed w) i) g (coinsOf (sheetOf ed w) coins (suc i)) (fair-round i l) q n
+        RoundPolynomials.only-answer F L ω (levelOf (sheetOf ed w) i) g (coinsOf (sheetOf ed w) coins (suc i)) (admissible-round i l) q n
         (all-map q (all-places (λ x. x < sheetOf ed w .prime) q 0 e) (λ x u. reduced (sheetOf ed w .prime) L x u))
         (all-distinct F (λ p. evaluate F q (p .point) ≡ p .value) (pairsOf (sheetOf ed w) f coins (suc i)) (all-places (λ p. evaluate F q (p .point) ≡ p .value) (pairsOf (sheetOf ed w) f coins (suc i)) _ h))
 

@@ -17,18 +17,20 @@ use Rattle.definition.specs.Reading.{blocksTest, bodyTests, checkTest, lengthTe
 use Rattle.definition.specs.Sheet.{Edition, Sheet, firstLevel, rootOfUnity, sheetLength, sheetOf, sheetRules, testOrder}
 use Rattle.definition.specs.Verdict.{Outcome, Verdict, _then_, accepted, refuseAt, refused, thenVerdict}
 use Rattle.definition.specs.Verify.{verifyIn}
-use Rattle.completeness.specs.ByPlace.{at-place}
+use Rattle.list_laws.specs.All.{at-place}
+use Rattle.layouts.specs.LayoutByRound.{starts-after, starts-grow}
+use Rattle.layouts.specs.Levels.{levelOf, outCoinCount, roundStart, roundsOf, wordCount}
+use Rattle.layouts.specs.LevelsByNumber.{Paired}
+use Rattle.layouts.specs.RulesByWord.{rules-counted, rules-length}
+use Rattle.layouts.specs.SheetLevels.{rules-back, sheet-front}
+use Rattle.layouts.specs.Tests.{all-false, if-passes, none-of, then-passes}
 use Rattle.completeness.specs.DecidedByNumber.{decide-rounds}
 use Rattle.completeness.specs.Dependence.{Beside, decided-same}
 use Rattle.completeness.specs.EqualOuts.{SameOuts, repeated-same}
 use Rattle.completeness.specs.Faults.{BlocksFault, DomainFault, EqualFault, LengthFault, OutsPass, Part, PartDue, RuleFault, SameOutside, SameWhereUsed, combination, dueOf, finals, fold, outs, partLength, partStart, partWord, partWords, sheetIn, shifts, words}
-use Rattle.completeness.specs.LevelsByNumber.{Paired}
-use Rattle.completeness.specs.Numbered.{final, lengthOf, levelOf, outsOf, replies, roundStart, roundsOf, startOf, table, wordCount}
+use Rattle.completeness.specs.Numbered.{final, lengthOf, replies, startOf, table}
 use Rattle.completeness.specs.PairsByNumber.{part-length, part-word}
-use Rattle.completeness.specs.PartsByNumber.{every-word, part-kind, partKind, starts-after, starts-grow}
-use Rattle.completeness.specs.RulesByWord.{order-count, rules-length}
-use Rattle.completeness.specs.SheetLevels.{rules-back, sheet-front}
-use Rattle.completeness.specs.Tests.{all-false, if-passes, none-of, then-passes}
+use Rattle.completeness.specs.PartsByNumber.{every-word, part-kind, partKind}
 use Rattle.completeness.specs.TestsByNumber.{zip-at, zip-length}
 use Rattle.completeness.specs.VerifyExactly
 
@@ -56,7 +58,7 @@ module _ (ed : Edition) (file : List ℕ) (passed : reading ed file ≡ accepted
   ruled q p =
       let c = VerifyExactly.rule-complete ed file q p in
       let bs = map not (sheetRules ed (streamOf file)) in
-      true≢false (sym (c .3) ∙ at-place (λ (b : Bool). b ≡ false) bs false (none-of 3 (testOrder ed) bs (omega (arith, rules-length ed (streamOf file), order-count ed)) (sheet-passed .0)) (c .0) (c .2))
+      true≢false (sym (c .3) ∙ at-place (λ (b : Bool). b ≡ false) bs false (none-of 3 (testOrder ed) bs (omega (arith, rules-length ed (streamOf file), rules-counted ed)) (sheet-passed .0)) (c .0) (c .2))
 
   all-blocks : (q : ℕ) → BlocksFault ed file q → ⊥
   unfolding blocksTest
@@ -122,13 +124,13 @@ module _ (ed : Edition) (h : Sheet) where
   unfolding partStart partLength startOf lengthOf wordCount laterCount
   off-tables (words (table i)) d t j l k m u g e = t
   off-tables (words (replies zero)) d t j l k m u g e = omega (arith, d .0)
-  off-tables (words (replies (suc i))) d t j l k m u g e = past-table (suc i) (levelOf h (suc i) .size + outsOf h + j) (omega arith) (omega arith) k m g (omega arith)
+  off-tables (words (replies (suc i))) d t j l k m u g e = past-table (suc i) (levelOf h (suc i) .size + outCoinCount h + j) (omega arith) (omega arith) k m g (omega arith)
   off-tables (words final) d t j l k m u g e = omega (arith, table-ends k, ordered-starts (suc k) (suc (roundsOf h)) (omega arith))
   off-tables (outs i) d t j l k m u g e = past-table (suc i) (levelOf h (suc i) .size + j) (omega arith) (omega arith) k m g (omega arith)
-  off-tables (combination i) d t j l k m u g e = past-table (suc i) (levelOf h (suc i) .size + (outsOf h + outsOf h) + j) (omega arith) (omega arith) k m g (omega arith)
+  off-tables (combination i) d t j l k m u g e = past-table (suc i) (levelOf h (suc i) .size + (outCoinCount h + outCoinCount h) + j) (omega arith) (omega arith) k m g (omega arith)
   off-tables (fold zero) d t j l k m u g e = past-table 0 (levelOf h 0 .size + j) (omega arith) (omega arith) k m g (omega arith)
-  off-tables (fold (suc i)) d t j l k m u g e = past-table (suc i) (levelOf h (suc i) .size + (outsOf h + (outsOf h + 1)) + j) (omega arith) (omega arith) k m g (omega arith)
-  off-tables (shifts i) d t j l k m u g e = past-table (suc i) (levelOf h (suc i) .size + (outsOf h + (outsOf h + 2)) + j) (omega arith) (omega arith) k m g (omega arith)
+  off-tables (fold (suc i)) d t j l k m u g e = past-table (suc i) (levelOf h (suc i) .size + (outCoinCount h + (outCoinCount h + 1)) + j) (omega arith) (omega arith) k m g (omega arith)
+  off-tables (shifts i) d t j l k m u g e = past-table (suc i) (levelOf h (suc i) .size + (outCoinCount h + (outCoinCount h + 2)) + j) (omega arith) (omega arith) k m g (omega arith)
   off-tables finals d t j l k m u g e = omega (arith, table-ends k, ordered-starts (suc k) (suc (roundsOf h)) (omega arith))
 
 module _ (ed : Edition) (v w : List ℕ) (ov : Ordered ed v) (ow : Ordered ed w) (same : SameOutside ed (sheetOf ed v) v w) where

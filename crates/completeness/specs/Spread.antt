@@ -16,13 +16,13 @@ use Rattle.definition.specs.Lists.{productOf}
 use Rattle.definition.specs.Reading.{sheetTest}
 use Rattle.definition.specs.Sheet.{Edition, edition1, edition2, foldWords, sheetOf}
 use Rattle.definition.specs.Verdict.{accepted}
-use Rattle.completeness.specs.ByPlace.{at-place}
-use Rattle.completeness.specs.Faults.{LaterWords, PlainSheet, PlainWords}
-use Rattle.completeness.specs.ListLaws.{getD-map}
-use Rattle.completeness.specs.PlainSheet.{first-word, fold-one, later-word, plain-sheet, sheet-plain}
-use Rattle.completeness.specs.SheetLevels.{sheet-moved}
-use Rattle.completeness.specs.SheetRules.{fold-count, rounds-most}
-use Rattle.completeness.specs.Tests.{all-false}
+use Rattle.list_laws.specs.All.{at-place}
+use Rattle.list_laws.specs.Lists.{getD-map}
+use Rattle.layouts.specs.PlainRules.{LaterWords, PlainSheet, PlainWords}
+use Rattle.layouts.specs.PlainSheet.{first-word, fold-one, later-word, plain-sheet, sheet-plain}
+use Rattle.layouts.specs.SheetLevels.{sheet-moved}
+use Rattle.layouts.specs.SheetRules.{fold-count, rounds-most}
+use Rattle.layouts.specs.Tests.{all-false}
 
 -- the plain facts go by words 0 to 11 and the folding numbers
 plain-moved : (ed ed′ : Edition) (v u : List ℕ) → ((j : ℕ) → j < 12 → getD v j 0 ≡ getD u j 0) →

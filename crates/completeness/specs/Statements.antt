@@ -1,5 +1,6 @@
 -- THE PAGE OF STATEMENTS (demand 3 over the definition). It holds theorems and nothing else; each proof is one citation, and no proof need be read.
--- To read it: the definition (crate `definition`) and the vocabulary Numbered.antt, which says what round i, level i and message m are and what Allowed asks.
+-- To read it: the definition (crate `definition`) and the vocabulary, which says what level i, round i and message m are and what Allowed asks: Numbered.antt, and beneath
+-- it Levels.antt of the crate `layouts`.
 -- All theorems are of both editions, of the three fields and of every sheet, polynomial and coin list that pass the definition's tests; what they are in edition 1, with
 -- its one folding number, is on the page Editions.antt. Behind them stand general theorems, for any field with the laws and any fitting root:
 -- DecidingAccepts.deciding-accepts (any list of levels), RoundPolynomials, Domains, and Causal (any party that sends and asks).
@@ -18,7 +19,7 @@ use Rattle.definition.specs.Domain.{foldAt, point, rootNumbers, shiftPoint}
 use Rattle.definition.specs.Field.{Field, element, found, inverseOf, noInverse, power, primeField, primeOf, product, reciprocal, unknownField}
 use Rattle.definition.specs.Layout.{coinKinds, layout, message, out, readTranscript, wordsDue}
 use Rattle.definition.specs.Lists.{member, range}
-use Rattle.definition.specs.Load.{candidates, drawOrder, loadLines, permits, smallestAllowed, verdictOn}
+use Rattle.definition.specs.Load.{candidates, drawInput, loadLines, permits, smallestAllowed, verdictOn}
 use Rattle.definition.specs.Polynomial.{addPoly, evaluate, foldPoly, geometric, mulPoly, points}
 use Rattle.definition.specs.Prove.{coefficientsTest, done, inputRangeTest, proveIn, refusal, sheetLengthTest}
 use Rattle.definition.specs.Prover.{honest, honestStream}
@@ -27,20 +28,21 @@ use Rattle.definition.specs.Sheet.{Edition, Sheet, edition1, finalCount, sheetL
 use Rattle.definition.specs.Verdict.{accepted}
 use Rattle.definition.specs.Verify.{verifyIn}
 use Rattle.definition.specs.WorkedTranscript.{coefficients, coins, sheetWords}
+use Rattle.list_laws.specs.All.{at-place}
 use Rattle.algebra.specs.Divisors as algebra
 use Rattle.algebra.specs.PublicInverse
-use Rattle.completeness.specs.ByPlace.{at-place}
+use Rattle.layouts.specs.FileSize
+use Rattle.layouts.specs.FileTrip
+use Rattle.layouts.specs.Levels.{degreeOf, levelOf, outCoinCount, roundsOf, sheetField, sheetRoot, total}
+use Rattle.layouts.specs.RootNumbers
 use Rattle.completeness.specs.Completeness
-use Rattle.completeness.specs.DecidingAccepts
 use Rattle.completeness.specs.Divisors
 use Rattle.completeness.specs.DomainsByNumber
-use Rattle.completeness.specs.FileSize
-use Rattle.completeness.specs.FileTrip
 use Rattle.completeness.specs.FunctionsByNumber
 use Rattle.completeness.specs.LayoutByNumber
 use Rattle.completeness.specs.LoadAllowed
 use Rattle.completeness.specs.NonAnticipation
-use Rattle.completeness.specs.Numbered.{Allowed, Copy, Due, Message, Nonzero, Room, answerPoly, coinsOf, combinationCoin, correctedOf, decidingDivisors, degreeOf, divisors, final, finalIndices, foldCoin, functionOf, lengthOf, levelOf, outCoinsOf, outsOf, pairAt, pairsOf, quotientPoly, read, readsDue, replies, roundOf, roundPoly, roundsOf, samplesAt, sentBefore, sheetField, sheetRoot, startOf, streamOn, table, total, vanishingPoly, wordsIn}
+use Rattle.completeness.specs.Numbered.{Allowed, Copy, Due, Message, Nonzero, Room, answerPoly, coinsOf, combinationCoin, correctedOf, decidingDivisors, divisors, final, finalIndices, foldCoin, functionOf, lengthOf, outCoinsOf, pairAt, pairsOf, quotientPoly, read, readsDue, replies, roundOf, roundPoly, samplesAt, sentBefore, startOf, streamOn, table, vanishingPoly, wordsIn}
 use Rattle.completeness.specs.Premises
 use Rattle.completeness.specs.ProveAccepted
 use Rattle.completeness.specs.Reads
@@ -103,7 +105,7 @@ module _ (ed : Edition) (w : List ℕ) where
     tables-are-values copy i j l b = rw (StreamByNumber.copy-is ok copy) (StreamByNumber.table-entry ok _ i j l b)
 
     -- reply j of round i is its value at out coin j,
-    pub replies-are-values : (copy : Copy) (i j : ℕ) → 1 ≤ i → i ≤ roundsOf h → j < outsOf h →
+    pub replies-are-values : (copy : Copy) (i j : ℕ) → 1 ≤ i → i ≤ roundsOf h → j < outCoinCount h →
         getD (streamOn copy ed w f coins) (startOf ed h (replies i) + j) 0 ≡ evaluate (sheetField h) (roundPoly h f coins i) (getD (outCoinsOf h coins i) j 0)
     replies-are-values copy i j l u b = rw (StreamByNumber.copy-is ok copy) (StreamByNumber.reply-entry ok _ i j l u b)
 
@@ -228,10 +230,10 @@ module _ (ed : Edition) (w : List ℕ) where
 
     -- Shift point j has k_i roots; root m is point j + m·n_i/k_i, which is a point of the domain;
     pub root-count : (i j : ℕ) → length (rootNumbers (levelOf h i) j) ≡ levelOf h i .fold
-    root-count i j = DecidingAccepts.roots-length (levelOf h i) j
+    root-count i j = RootNumbers.roots-length (levelOf h i) j
 
     pub root-number : (i j m : ℕ) → m < levelOf h i .fold → getD (rootNumbers (levelOf h i) j) m 0 ≡ j + m * shiftCount (levelOf h i)
-    root-number i j m = DecidingAccepts.root-number (levelOf h i) j m
+    root-number i j m = RootNumbers.root-number (levelOf h i) j m
 
     pub root-in-domain : (i j m : ℕ) → i ≤ roundsOf h → j < shiftCount (levelOf h i) → m < levelOf h i .fold → j + m * shiftCount (levelOf h i) < levelOf h i .size
     root-in-domain i j m l b = DomainsByNumber.roots-of-shift ed w words sheet i j l b .below m
@@ -269,10 +271,10 @@ pub accepted-short : (ed : Edition) (bytes : List ℕ) → verifyIn ed bytes .ou
 accepted-short = FileSize.accepted-short
 
 -- 11. THE STATED LOAD (02, CR 2 and 6). Whatever the generator holds, a run draws a sheet of edition 1, coefficients and coins that are allowed, and verify accepts its honest file.
-pub draws-allowed : (v : ℕ) → Allowed edition1 (drawOrder v .value .sheet) (drawOrder v .value .coefficients) (drawOrder v .value .coins)
+pub draws-allowed : (v : ℕ) → Allowed edition1 (drawInput v .value .sheet) (drawInput v .value .coefficients) (drawInput v .value .coins)
 draws-allowed = LoadAllowed.draws-allowed
 
-pub draws-accepted : (v : ℕ) → verdictOn (drawOrder v .value) ≡ record { outcome = accepted; reads = readsDue (sheetOf edition1 (drawOrder v .value .sheet)) (drawOrder v .value .coins) }
+pub draws-accepted : (v : ℕ) → verdictOn (drawInput v .value) ≡ record { outcome = accepted; reads = readsDue (sheetOf edition1 (drawInput v .value .sheet)) (drawInput v .value .coins) }
 draws-accepted = LoadAllowed.draws-accepted
 
 -- A second out coin that has no draw left becomes the smallest element allowed after the first, y: 1 where y is 0, else 0.

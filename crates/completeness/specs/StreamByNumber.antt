@@ -14,18 +14,19 @@ use Rattle.definition.specs.Polynomial.{evaluate}
 use Rattle.definition.specs.Prover.{honest, honestRest, honestRound, honestStream, tableOf}
 use Rattle.definition.specs.Sheet.{Edition, Sheet, finalCount, sheetLength, sheetOf}
 use Rattle.definition.specs.Transcript.{restWords, roundWords, transcriptWords}
+use Rattle.list_laws.specs.Lists.{getD-map, opened}
+use Rattle.list_laws.specs.NumberedParts.{firsts, firsts-length, joined, split-joined}
+use Rattle.layouts.specs.FileTrip.{file-stream, fillCount, filled}
+use Rattle.layouts.specs.Lawful.{lawful}
+use Rattle.layouts.specs.LayoutByRound.{coins-due}
+use Rattle.layouts.specs.Levels.{coinCount, coinsBefore, levelOf, outCoinCount, roundStart, roundsOf, sheetField, sheetRoot, wordCount}
+use Rattle.layouts.specs.LevelsByNumber.{Paired, level-first}
 use Rattle.completeness.specs.Allowed.{allowed-count, allowed-enough, allowed-long}
 use Rattle.completeness.specs.CoinsByNumber.{coins-read}
 use Rattle.completeness.specs.Completeness.{honest-words, read-back}
 use Rattle.completeness.specs.DecidingAccepts.{table-at, table-length}
-use Rattle.completeness.specs.FileTrip.{file-stream, fillCount, filled}
-use Rattle.completeness.specs.LayoutByNumber.{coins-due}
-use Rattle.completeness.specs.LevelsByNumber.{Paired, level-first}
-use Rattle.completeness.specs.ListLaws.{getD-map, opened}
-use Rattle.completeness.specs.Numbered.{Allowed, Copy, Due, Message, coinCount, coinsBefore, coinsOf, combinationCoin, correctedOf, final, finalIndices, foldCoin, lengthOf, levelOf, outCoinsOf, outsOf, read, replies, roundPoly, roundStart, roundsOf, sheetField, sheetRoot, shiftIndices, startOf, streamOn, table, wordCount, wordsIn, written}
-use Rattle.completeness.specs.Parts.{firsts, firsts-length, joined, split-joined}
+use Rattle.completeness.specs.Numbered.{Allowed, Copy, Due, Message, coinsOf, combinationCoin, correctedOf, final, finalIndices, foldCoin, lengthOf, outCoinsOf, read, replies, roundPoly, shiftIndices, startOf, streamOn, table, wordsIn, written}
 use Rattle.completeness.specs.RunByNumber.{folded-length}
-use Rattle.completeness.specs.Lawful.{lawful}
 
 coins-grow : (h : Sheet) (i m : ℕ) → coinsBefore h i ≤ coinsBefore h (i + m)
 unfolding coinsBefore
@@ -76,7 +77,7 @@ module _ {ed : Edition} {w f coins : List ℕ} (ok : Allowed ed w f coins) where
   M = roundsOf (sheetOf ed w)
 
   abbrev s : ℕ
-  s = outsOf (sheetOf ed w)
+  s = outCoinCount (sheetOf ed w)
 
   paired : Paired (sheetOf ed w)
   paired = lawful ed w (allowed-enough ok) (ok .sheet) .paired

@@ -1,19 +1,19 @@
 -- What the definition's tests on lists find, by place: a word that fails its test, a point in a list, two pairs that clash.
-use Prim.Native.Nat.{ℕ, zero, suc, _+_, _≤_, _<_}
+use Prim.Native.Nat.{ℕ, zero, suc, _≤_, _<_}
 use native.Mathlib.Decide.{decLt}
 use native.Mathlib.Omega.{arith}
-use mathlib.Core.Bool.{Bool, true, false, not, _&&_, _||_, true≢false}
-use mathlib.Core.List.{List, [], _∷_, map, zipWith}
-use mathlib.Core.Path.{_≡_, refl, sym, ap, _∙_}
+use mathlib.Core.Bool.{Bool, true, false, not, _&&_, true≢false}
+use mathlib.Core.List.{List, [], _∷_, zipWith}
+use mathlib.Core.Path.{_≡_, refl, sym, ap}
 use lib.Dec.{eqb}
 use lib.ListN.{length, getD}
 use borrow.Author.Tests.{eq-eqb, eqb-false, eqb-true, ne-eqb, not-true}
 use Rattle.definition.specs.Domain.{domain, inDomain, point}
 use Rattle.definition.specs.Field.{Field, primeField}
-use Rattle.definition.specs.Lists.{member, range}
 use Rattle.definition.specs.Polynomial.{Sample, clash, contradicts}
 use Rattle.definition.specs.Sheet.{Level}
-use Rattle.completeness.specs.Tests.{and-true}
+use Rattle.list_laws.specs.Booleans.{and-true, or-cases, or-left, or-right}
+use Rattle.list_laws.specs.Members.{member-range, range-member}
 
 -- a comparison that fails
 pub differ : (a b : ℕ) → not (eqb a b) ≡ true → a ≡ b → ⊥
@@ -37,47 +37,18 @@ module _ {A : Type 0} (t : A → ℕ → Bool) (d : A) where
   zip-at (k ∷ ks) (x ∷ v) zero h l = refl
   zip-at (k ∷ ks) (x ∷ v) (suc j) h l = zip-at ks v j (omega arith) (omega arith)
 
--- one of two tests
-either : {P : Type 0} (a b : Bool) → (a || b) ≡ true → (a ≡ true → P) → (b ≡ true → P) → P
-either true b e f g = f refl
-either false b e f g = g e
-
-left : (a b : Bool) → a ≡ true → (a || b) ≡ true
-left a b e = ap (λ (x : Bool). x || b) e
-
-right : (a b : Bool) → b ≡ true → (a || b) ≡ true
-right true b e = refl
-right false b e = e
-
 module _ (p ω : ℕ) where
   abbrev F : Field ℕ
   F = primeField p
 
   -- the domain's points by number
-  listed : (f : ℕ → ℕ) (from n x : ℕ) → member (F .equal) x (map f (range from n)) ≡ true → (m : ℕ) × (from ≤ m) × (m < from + n) × (x ≡ f m)
-  unfolding member range primeField
-  listed f from zero x e = absurd (true≢false (sym e))
-  listed f from (suc n) x e =
-      either (eqb x (f from)) (member (F .equal) x (map f (range (suc from) n))) e
-      (λ h. (from, omega arith, omega arith, eqb-true x (f from) h))
-      (λ h. let r = listed f (suc from) n x h in (r .0, omega (arith, r .1), omega (arith, r .2), r .3))
-
-  in-list : (f : ℕ → ℕ) (from n m x : ℕ) → from ≤ m → m < from + n → x ≡ f m → member (F .equal) x (map f (range from n)) ≡ true
-  unfolding member range primeField
-  in-list f from zero m x l u e = absurd (omega arith)
-  in-list f from (suc n) m x l u e = go (decLt from m) (λ h. in-list f (suc from) n m x h (omega arith) e)
-    where
-      go : Dec (from < m) → (suc from ≤ m → member (F .equal) x (map f (range (suc from) n)) ≡ true) → (eqb x (f from) || member (F .equal) x (map f (range (suc from) n))) ≡ true
-      go (yes h) r = right (eqb x (f from)) _ (r (omega arith))
-      go (no h) r = let q : m ≡ from = omega arith in left (eqb x (f from)) _ (eq-eqb x (f from) (e ∙ ap f q))
-
   pub domain-point : (l : Level) (x : ℕ) → inDomain F ω l x ≡ true → (m : ℕ) × (m < l .size) × (x ≡ point F ω l m)
-  unfolding inDomain domain
-  domain-point l x e = let r = listed (point F ω l) 0 (l .size) x e in (r .0, omega (arith, r .2), r .3)
+  unfolding inDomain domain primeField
+  domain-point l x e = let r = member-range (F .equal) (point F ω l) x 0 (l .size) e in (r .0, omega (arith, r .2), eqb-true x (point F ω l (r .0)) (r .3))
 
   pub point-inside : (l : Level) (m x : ℕ) → m < l .size → x ≡ point F ω l m → inDomain F ω l x ≡ true
-  unfolding inDomain domain
-  point-inside l m x h e = in-list (point F ω l) 0 (l .size) m x (omega arith) (omega arith) e
+  unfolding inDomain domain primeField
+  point-inside l m x h e = range-member (F .equal) (point F ω l) x 0 (l .size) m (omega arith) (omega arith) (eq-eqb x (point F ω l m) e)
 
   -- pairs with equal points and different values
   abbrev Clashing : Sample ℕ → Sample ℕ → Type 0
@@ -94,29 +65,29 @@ module _ (p ω : ℕ) where
     unfolding contradicts primeField
     contradiction s [] e = absurd (true≢false (sym e))
     contradiction s (t ∷ xs) e =
-        either (eqb (s .point) (t .point) && not (eqb (s .value) (t .value))) (contradicts F s xs) e
+        or-cases (eqb (s .point) (t .point) && not (eqb (s .value) (t .value))) (contradicts F s xs) e
         (λ h. (0, omega arith, clashing s t h)) (λ h. let r = contradiction s xs h in (suc (r .0), omega (arith, r .1), r .2))
 
     contradicted : (s : Sample ℕ) (xs : List (Sample ℕ)) (b : ℕ) → b < length xs → Clashing s (getD xs b d) → contradicts F s xs ≡ true
     unfolding contradicts primeField
     contradicted s [] b l h = absurd (omega arith)
-    contradicted s (t ∷ xs) zero l h = left _ (contradicts F s xs) (clash-test s t h)
-    contradicted s (t ∷ xs) (suc b) l h = right (eqb (s .point) (t .point) && not (eqb (s .value) (t .value))) _ (contradicted s xs b (omega arith) h)
+    contradicted s (t ∷ xs) zero l h = or-left _ (contradicts F s xs) (clash-test s t h)
+    contradicted s (t ∷ xs) (suc b) l h = or-right (eqb (s .point) (t .point) && not (eqb (s .value) (t .value))) _ (contradicted s xs b (omega arith) h)
 
     pub clash-found : (xs : List (Sample ℕ)) → clash F xs ≡ true → (a : ℕ) × (b : ℕ) × (a < length xs) × (b < length xs) × Clashing (getD xs a d) (getD xs b d)
     unfolding clash
     clash-found [] e = absurd (true≢false (sym e))
     clash-found (s ∷ xs) e =
-        either (contradicts F s xs) (clash F xs) e (λ h. let r = contradiction s xs h in (0, suc (r .0), omega arith, omega (arith, r .1), r .2))
+        or-cases (contradicts F s xs) (clash F xs) e (λ h. let r = contradiction s xs h in (0, suc (r .0), omega arith, omega (arith, r .1), r .2))
         (λ h. let r = clash-found xs h in (suc (r .0), suc (r .1), omega (arith, r .2), omega (arith, r .3), r .4))
 
     clash-later : (xs : List (Sample ℕ)) (a b : ℕ) → a < b → b < length xs → Clashing (getD xs a d) (getD xs b d) → clash F xs ≡ true
     unfolding clash
     clash-later [] a b l u h = absurd (omega arith)
     clash-later (s ∷ xs) zero zero l u h = absurd (omega arith)
-    clash-later (s ∷ xs) zero (suc b) l u h = left _ (clash F xs) (contradicted s xs b (omega arith) h)
+    clash-later (s ∷ xs) zero (suc b) l u h = or-left _ (clash F xs) (contradicted s xs b (omega arith) h)
     clash-later (s ∷ xs) (suc a) zero l u h = absurd (omega arith)
-    clash-later (s ∷ xs) (suc a) (suc b) l u h = right (contradicts F s xs) _ (clash-later xs a b (omega arith) (omega arith) h)
+    clash-later (s ∷ xs) (suc a) (suc b) l u h = or-right (contradicts F s xs) _ (clash-later xs a b (omega arith) (omega arith) h)
 
     -- any two places at which equal points have not equal values
     pub clash-there : (xs : List (Sample ℕ)) (a b : ℕ) → a < length xs → b < length xs →

@@ -6,7 +6,7 @@ use mathlib.Core.List.{List}
 use mathlib.Core.Logic.{_↔_}
 use mathlib.Core.Path.{_≡_, refl, sym, ap, subst, _∙_}
 use lib.Dec.{eqb, ltb}
-use lib.ListN.{length, drop}
+use lib.ListN.{length}
 use borrow.Author.Tests.{eqb-true, ltb-false}
 use Rattle.definition.specs.Block.{streamOf}
 use Rattle.definition.specs.Deciding.{Decision, Function, Place, answers, counted, decide, decideFinal, decideRest, deciding, equalTest, outTest, outTests}

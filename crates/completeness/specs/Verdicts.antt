@@ -1,5 +1,6 @@
 -- THE PAGE ON THE ANSWERS: what verify accepts, what it refuses and where, which answers of verify, prove and encode exist, and what encode does. It holds theorems and nothing else; each proof is one citation.
--- To read it: the definition (crate `definition`) and the vocabularies Numbered.antt and Faults.antt, which say by number what stands in a file and what a fault is.
+-- To read it: the definition (crate `definition`) and the vocabularies Numbered.antt and Faults.antt, which say by number what stands in a file and what a fault is, with
+-- Levels.antt and PlainRules.antt of the crate `layouts` beneath them: a sheet's levels by number, and its rules in plain numbers.
 -- All theorems are of both editions and of every list of bytes or words, of any length and content; encode's are of edition 1, whose sheets it takes.
 use Prim.Native.Nat.{ℕ, suc, _+_, _*_, _≤_, _<_}
 use mathlib.Core.List.{List, [], _∷_, _++_, map}
@@ -17,18 +18,21 @@ use Rattle.definition.specs.Reading.{reading}
 use Rattle.definition.specs.Sheet.{Edition, Sheet, edition1, sheetLength, sheetOf, shiftCount, testOrder}
 use Rattle.definition.specs.Verdict.{accepted, refused, thenVerdict}
 use Rattle.definition.specs.Verify.{decideFile, verifyIn}
+use Rattle.layouts.specs.FileWords
+use Rattle.layouts.specs.Levels.{levelOf, outCoinCount, roundsOf, sheetField, sheetRoot}
+use Rattle.layouts.specs.PlainRules.{KeepsRule, PlainSheet, wordTurn}
+use Rattle.layouts.specs.PlainSheet
+use Rattle.layouts.specs.RulesByWord
 use Rattle.completeness.specs.AcceptedExactly
 use Rattle.completeness.specs.Answers
 use Rattle.completeness.specs.EncodeExactly
-use Rattle.completeness.specs.Faults.{Encodable, EncodeRefusal, Fault, ProveRefusal, VerifyRefusal, FirstFault, KeepsRule, Kept, Part, PartDue, PlainSheet, SameOutside, SameWhereUsed, blockWord, blocksIn, combination, dueOf, fold, functionIn, numberTurn, outs, pairIn, pairsIn, partLength, partStart, partWord, readsWith, sheetIn, shifts, wordTurn, words}
+use Rattle.completeness.specs.Faults.{Encodable, EncodeRefusal, Fault, ProveRefusal, VerifyRefusal, FirstFault, Kept, Part, PartDue, SameOutside, SameWhereUsed, blockWord, blocksIn, combination, dueOf, fold, functionIn, numberTurn, outs, pairIn, pairsIn, partLength, partStart, partWord, readsWith, sheetIn, shifts, words}
 use Rattle.completeness.specs.FileByNumber
-use Rattle.completeness.specs.Numbered.{levelOf, outsOf, replies, roundsOf, sheetField, sheetRoot, table}
+use Rattle.completeness.specs.Numbered.{replies, table}
 use Rattle.completeness.specs.PairsByNumber
 use Rattle.completeness.specs.PartsByNumber
 use Rattle.completeness.specs.Places
-use Rattle.completeness.specs.PlainSheet
 use Rattle.completeness.specs.ReadsByNumber
-use Rattle.completeness.specs.RulesByWord
 use Rattle.completeness.specs.SameVerdict
 use Rattle.completeness.specs.TwoSteps
 use Rattle.completeness.specs.VerifyExactly
@@ -57,7 +61,7 @@ rules-exactly = PlainSheet.rules-exactly
 
 -- The stream has 127 words of each block, in the blocks' order;
 pub stream-count : (file : List ℕ) → length (streamOf file) ≡ 127 * blocksIn file
-stream-count = FileByNumber.stream-length
+stream-count = FileWords.stream-length
 
 pub stream-word : (file : List ℕ) (b x : ℕ) → b < blocksIn file → x < 127 → getD (streamOf file) (127 * b + x) 0 ≡ blockWord file b x
 stream-word = FileByNumber.stream-word
@@ -81,14 +85,14 @@ module _ (ed : Edition) (h : Sheet) (w : List ℕ) (full : dueOf ed h ≤ length
   next-function = PairsByNumber.next-function ed h w full
 
   -- and round i + 1 has s + t_i pairs: out coin j with reply j,
-  pub pair-count : (i : ℕ) → i < roundsOf h → length (pairsIn ed h w i) ≡ outsOf h + levelOf h i .repetitions
+  pub pair-count : (i : ℕ) → i < roundsOf h → length (pairsIn ed h w i) ≡ outCoinCount h + levelOf h i .repetitions
   pair-count = PairsByNumber.pair-count ed h w full
 
-  pub pair-of-out : (i : ℕ) → i < roundsOf h → (j : ℕ) → j < outsOf h → pairIn ed h w i j ≡ record { point = partWord ed h w (outs i) j; value = partWord ed h w (words (replies (suc i))) j }
+  pub pair-of-out : (i : ℕ) → i < roundsOf h → (j : ℕ) → j < outCoinCount h → pairIn ed h w i j ≡ record { point = partWord ed h w (outs i) j; value = partWord ed h w (words (replies (suc i))) j }
   pair-of-out = PairsByNumber.pair-of-out ed h w full
 
   -- then the shift point of shift index j with the fold of f_i there by fold coin i.
-  pub pair-of-shift : (i : ℕ) → i < roundsOf h → (j : ℕ) → j < levelOf h i .repetitions → pairIn ed h w i (outsOf h + j) ≡ record {
+  pub pair-of-shift : (i : ℕ) → i < roundsOf h → (j : ℕ) → j < levelOf h i .repetitions → pairIn ed h w i (outCoinCount h + j) ≡ record {
     point = shiftPoint (sheetField h) (sheetRoot h) (levelOf h i) (partWord ed h w (shifts i) j);
     value = foldAt (sheetField h) (sheetRoot h) (levelOf h i) (functionIn ed h w i .value) (partWord ed h w (fold i) 0) (partWord ed h w (shifts i) j);
   }

@@ -21,19 +21,24 @@ use Rattle.definition.specs.Reading.{blocksTest, bodyTests, checkTest, fillTest
 use Rattle.definition.specs.Sheet.{Edition, Sheet, firstLevel, rootOfUnity, sheetLength, sheetOf, sheetRules, testOrder}
 use Rattle.definition.specs.Verdict.{Outcome, Verdict, _then_, accepted, refuseAt, refused, thenVerdict}
 use Rattle.definition.specs.Verify.{verifyIn}
+use Rattle.list_laws.specs.Booleans.{is-false}
+use Rattle.list_laws.specs.First.{first-of}
+use Rattle.list_laws.specs.Lists.{getD-map, getD-map-range, range-length}
+use Rattle.layouts.specs.FileWords.{stream-length}
+use Rattle.layouts.specs.Lawful.{Lawful, lawful}
+use Rattle.layouts.specs.Levels.{levelOf, roundsOf, sheetField, sheetRoot}
+use Rattle.layouts.specs.LevelsByNumber.{Paired}
+use Rattle.layouts.specs.PlainRules.{wordTurn}
+use Rattle.layouts.specs.RulesByWord.{rules-counted, rule-at, rule-of-word, rules-length, sheet-exactly, turn-of-word, turns-differ, word-of-turn}
+use Rattle.layouts.specs.SheetRules.{short-sheet}
 use Rattle.completeness.specs.DecidedByNumber.{clashes, decided, finalTests}
-use Rattle.completeness.specs.Faults.{BlocksFault, CheckFault, ClashFault, DomainFault, EqualFault, Fault, FillFault, FinalFault, LengthFault, NoFault, Part, PartDue, RangeFault, RuleFault, blocksIn, combination, dueOf, faultsOf, finals, fold, functionIn, numberTurn, outs, pairsIn, partLength, partLimit, partStart, partWord, partWords, sheetIn, shifts, turnOf, wordTurn, words}
 use Rattle.completeness.specs.EqualByNumber
-use Rattle.completeness.specs.FileByNumber.{check-at, checks-length, stream-length}
-use Rattle.completeness.specs.FirstFaults.{Exact, exact-at, exact-if, exact-places, first-of}
-use Rattle.completeness.specs.FileSize.{short-sheet}
-use Rattle.completeness.specs.Lawful.{Lawful, lawful}
-use Rattle.completeness.specs.LevelsByNumber.{Paired}
-use Rattle.completeness.specs.ListLaws.{getD-map, getD-map-range, range-length}
-use Rattle.completeness.specs.Numbered.{final, levelOf, roundsOf, sheetField, sheetRoot}
+use Rattle.completeness.specs.Faults.{BlocksFault, CheckFault, ClashFault, DomainFault, EqualFault, Fault, FillFault, FinalFault, LengthFault, NoFault, Part, PartDue, RangeFault, RuleFault, blocksIn, combination, dueOf, faultsOf, finals, fold, functionIn, numberTurn, outs, pairsIn, partLength, partLimit, partStart, partWord, partWords, sheetIn, shifts, turnOf, words}
+use Rattle.completeness.specs.FileByNumber.{check-at, checks-length}
+use Rattle.completeness.specs.FirstFaults.{Exact, exact-at, exact-if, exact-places}
+use Rattle.completeness.specs.Numbered.{final}
 use Rattle.completeness.specs.PairsByNumber.{part-length, part-word}
 use Rattle.completeness.specs.PartsByNumber.{due-is, every-word, part-below, part-kind, partKind}
-use Rattle.completeness.specs.RulesByWord.{order-count, rule-at, rule-of-word, rules-length, sheet-exactly, turn-of-word, turns-differ, word-of-turn}
 use Rattle.completeness.specs.TestsByNumber.{clash-found, clash-there, differ, differs, domain-point, point-inside, zip-at, zip-length}
 
 then-outcome : (o : Outcome) (v : Verdict) → thenVerdict o v .outcome ≡ (o then v .outcome)
@@ -84,10 +89,6 @@ numbers-in-order = refl
 pub is-true : (b : Bool) → ((b ≡ true → ⊥) → ⊥) → b ≡ true
 is-true true h = refl
 is-true false h = absurd (h (λ e. true≢false (sym e)))
-
-is-false : (b : Bool) → (b ≡ true → ⊥) → b ≡ false
-is-false true h = absurd (h refl)
-is-false false h = refl
 
 module _ (ed : Edition) (file : List ℕ) where
   abbrev w : List ℕ
@@ -388,7 +389,7 @@ module _ (ed : Edition) (file : List ℕ) where
       (exact-if P T numberTurn own-turn 1 0 wrongLength _ length-sound length-complete (λ n₁.
       exact-at P T numberTurn own-turn 2 0 (wrongChecks 0 (fileBlocks file)) _ (λ q. refl) check-sound check-complete (λ n₂.
       exact-places P T numberTurn own-turn 3 (λ j. getD (testOrder ed) j 0) (map not (sheetRules ed w)) (firstOf (testOrder ed) (map not (sheetRules ed w))) _
-      (first-of (testOrder ed) (map not (sheetRules ed w)) (omega (arith, rules-length ed w, order-count ed))) rules-rise rule-sound rule-complete (λ n₃.
+      (first-of (testOrder ed) (map not (sheetRules ed w)) (omega (arith, rules-length ed w, rules-counted ed))) rules-rise rule-sound rule-complete (λ n₃.
       exact-if P T numberTurn own-turn 4 (blockCount (wordsDue ed h)) (not (eqb (blocksIn file) (blockCount (wordsDue ed h)))) _ (blocks-sound n₁ n₃) (blocks-complete n₁ n₃) (λ n₄.
       exact-at P T numberTurn own-turn 5 (sheetLength ed) (zipWith (outOfRange h) (layout h) (drop (sheetLength ed) w)) _ (λ q. refl) (range-sound n₁ n₃ n₄) (range-complete n₁ n₃ n₄) (λ n₅.
       exact-at P T numberTurn own-turn 6 (wordsDue ed h) (map (λ (x : ℕ). not (eqb x 0)) (drop (wordsDue ed h) w)) _ (λ q. refl) (fill-sound n₁ n₃ n₄) (fill-complete n₁ n₃ n₄) (λ n₆.

@@ -1,3 +1,3 @@
--- The converter: sheets laid anew in a list of words, and what its tests say of the definition's result.
-pub mod Sheets
+-- The converter: the words to write, and what its tests say of the definition's result.
+pub mod Begun
 pub mod Stages

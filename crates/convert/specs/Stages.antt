@@ -11,13 +11,13 @@ use Rattle.definition.specs.Block.{blockCount, fileOf, streamOf}
 use Rattle.definition.specs.Convert.{backward, convert, foldsTest, forward}
 use Rattle.definition.specs.Layout.{wordsDue}
 use Rattle.definition.specs.Prove
-use Rattle.definition.specs.Prove.{Result, done, finish, outputTest, refusal}
+use Rattle.definition.specs.Prove.{Result, done, finish, outputTest}
 use Rattle.definition.specs.Reading.{reading, sheetTest}
 use Rattle.definition.specs.Sheet.{Edition, edition1, edition2, sheetLength, sheetOf}
 use Rattle.definition.specs.Verdict as definition
 use Rattle.definition.specs.Verdict.{_then_, refuseAt, refuseIf}
 use Rattle.completeness.specs.Conversion.{backward-length, forward-length}
-use Rattle.completeness.specs.Tests.{if-passes, then-passes}
+use Rattle.layouts.specs.Tests.{if-passes, then-passes}
 use Rattle.outcome.specs.declared.Answer.{Answer}
 use Rattle.outcome.specs.declared.Answer.the-variants.{Done, Refusal}
 use Rattle.outcome.specs.declared.Found.{Found}
@@ -100,9 +100,9 @@ unfolding testsOf outputTest refuseIf
 long-enough-for count size h = record { outcome = ap (refuseIf 11 (blockCount count)) (sym (le-ltb size (512 * blockCount count) h)); done = λ n e. cc }
 
 -- a test that answers Accepted passes
-pub told : {o : Outcome} {f : definition.Outcome} → outcomeOf o ≡ f → o ≡ Accepted → f ≡ definition.accepted
+pub accepted-is : {o : Outcome} {f : definition.Outcome} → outcomeOf o ≡ f → o ≡ Accepted → f ≡ definition.accepted
 unfolding outcomeOf
-told h e = sym h ∙ ap outcomeOf e
+accepted-is h e = sym h ∙ ap outcomeOf e
 
 -- a test refuses, and with it the tests that begin with it
 pub refuses : {o : Outcome} {f : definition.Outcome} {number place : ℕ} → outcomeOf o ≡ f → o ≡ Refused number place → definition.refused number place ≡ f

@@ -6,17 +6,15 @@ use outcome::Found;
 use outcome::Outcome;
 ghost use mathlib.Core.Path.{_≡_};
 ghost use mathlib.Core.List.{_++_};
-ghost use Prim.Native.Nat.{_+_, _*_, _/_, _≤_, _<_, min};
-ghost use lib.ListN.{length, getD, take, drop};
+ghost use Prim.Native.Nat.{_+_, _*_, _/_, _≤_, min};
+ghost use lib.ListN.{length, take, drop};
 ghost use Rattle.definition.specs.Block.{blockCount, fileOf, streamOf};
-ghost use Rattle.definition.specs.Convert.{backward as backwardOf, foldsTest, forward as forwardOf, spread, toEdition1, toEdition2};
+ghost use Rattle.definition.specs.Convert.{backward as backwardOf, foldsTest, forward as forwardOf, toEdition1, toEdition2};
 ghost use Rattle.definition.specs.Prove.{done};
 ghost use Rattle.definition.specs.Reading.{reading};
 ghost use Rattle.definition.specs.Sheet.{edition1, edition2, sheetOf};
-ghost use Rattle.definition.specs.Verdict.{_then_, refuseAt};
-ghost use Rattle.outcome.specs.Meaning.{answerOf, placeOf};
-ghost use Rattle.stream.specs.Overwriting.{overwrite};
-ghost use Rattle.convert.specs.Sheets.{laterFolds};
+ghost use Rattle.definition.specs.Verdict.{_then_};
+ghost use Rattle.outcome.specs.Meaning.{answerOf};
 ghost use Rattle.convert.specs.Stages.{Sized, Tested, outputFor};
 
 // Places for the words of the largest file that can be accepted, 67 blocks, and one block more, after six for a longer sheet.
@@ -31,77 +29,6 @@ fn small_room() -> [u32; 1022]
     ensures { λ r. ⌜ length r ≡ 1022 ⌝ }
 {
     [0u32; 1022]
-}
-
-// Copies `count` words to other places, one after the other: down, or up to places past them.
-fn copy_within(words: &mut [u32], from: usize, to: usize, count: usize)
-    requires { ⌜ (from + count ≤ length (now words)) × (to + count ≤ length (now words)) ⌝ }
-    requires { ⌜ (from < to → from + count ≤ to) ⌝ }
-    ensures { λ _. ⌜ now (words .exit) ≡ overwrite (now (words .entry)) to (take count (drop from (now (words .entry)))) ⌝ }
-{
-    let mut i = 0;
-    while i < count {
-        words[to + i] = words[from + i];
-        i += 1;
-    }
-}
-
-// Word 12 + j of edition 2, for j below 5, from words 4 and 3 of edition 1: k up to k_M, then zero.
-fn later_fold(rounds: u32, k: u32, j: usize) -> u32
-    requires { ⌜ j < 5 ⌝ }
-    ensures { λ r. ⌜ r ≡ getD (laterFolds rounds k) j 0 ⌝ }
-{
-    if j < rounds as usize { k } else { 0 }
-}
-
-// Writes words 12 to 16 of edition 2, where words 0 to 11 are those of edition 1.
-fn put_later_folds(words: &mut [u32])
-    requires { ⌜ 18 ≤ length (now words) ⌝ }
-    ensures { λ _. ⌜ now (words .exit) ≡ overwrite (now (words .entry)) 12 (laterFolds (getD (now (words .entry)) 4 0) (getD (now (words .entry)) 3 0)) ⌝ }
-{
-    let rounds = words[4];
-    let k = words[3];
-    let mut j = 0;
-    while j < 5 {
-        words[12 + j] = later_fold(rounds, k, j);
-        j += 1;
-    }
-}
-
-// Lays a sheet of edition 2 over places 0 to 17, of which 6 to 17 hold one of edition 1.
-fn spread_sheet(words: &mut [u32])
-    requires { ⌜ 18 ≤ length (now words) ⌝ }
-    ensures { λ _. ⌜ now (words .exit) ≡ spread (drop 6 (now (words .entry))) ++ drop 18 (now (words .entry)) ⌝ }
-{
-    copy_within(words, 6, 0, 12);
-    put_later_folds(words);
-    words[17] = 2;
-}
-
-// Lays the first 12 words of a sheet of edition 2 over places 6 to 17.
-fn cut_sheet(words: &mut [u32])
-    requires { ⌜ 18 ≤ length (now words) ⌝ }
-    ensures { λ _. ⌜ drop 6 (now (words .exit)) ≡ take 12 (now (words .entry)) ++ drop 18 (now (words .entry)) ⌝ }
-{
-    copy_within(words, 6, 12, 6);
-    copy_within(words, 0, 6, 6);
-}
-
-// The first level of a sheet of edition 2 whose folding number is not k_0.
-fn other_fold(w: &[u32]) -> Found
-    requires { ⌜ (18 ≤ length (now w)) × (getD (now w) 4 0 ≤ 5) ⌝ }
-    ensures { λ r. ⌜ refuseAt 13 (placeOf r) ≡ foldsTest (sheetOf edition2 (now (w .entry))) ⌝ }
-{
-    let first = edition::fold(Edition::Two, w, 0);
-    let rounds = w[4] as usize;
-    let mut i = 1;
-    while i <= rounds {
-        if edition::fold(Edition::Two, w, i) != first {
-            return Found::At(i);
-        }
-        i += 1;
-    }
-    Found::Nothing
 }
 
 // Refusal 11, of the number of words to write and the number of bytes of the output; or that number of words.
@@ -126,7 +53,7 @@ fn forward_tests(file: &[u8], words: &mut [u32], size: usize) -> Answer
     if let Outcome::Refused(number, place) = read {
         return Answer::Refusal(number, place);
     }
-    output_test(sheet::words_due(Edition::One, &words[..12]) + 6, size)
+    output_test(sizes::words_due(Edition::One, &words[..12]) + 6, size)
 }
 
 // All tests of the way to edition 1.
@@ -139,11 +66,11 @@ fn backward_tests(file: &[u8], words: &mut [u32], size: usize) -> Answer
         return Answer::Refusal(number, place);
     }
     let head = &words[..18];
-    let other = other_fold(head);
+    let other = sheet_change::other_fold(head);
     if let Found::At(level) = other {
         return Answer::Refusal(13, level);
     }
-    output_test(sheet::words_due(Edition::Two, head) - 6, size)
+    output_test(sizes::words_due(Edition::Two, head) - 6, size)
 }
 
 // Writes the file of the first `count` words at the front of the output. The answer is its number of blocks.
@@ -152,7 +79,7 @@ fn write(words: &[u32], count: usize, output: &mut [u8]) -> Answer
     ensures { λ r. ⌜ answerOf r ≡ done (blockCount count) ⌝ }
     ensures { λ _. ⌜ now (output .exit) ≡ fileOf (take count (now (words .entry))) ++ drop (length (fileOf (take count (now (words .entry))))) (now (output .entry)) ⌝ }
 {
-    stream::seal(words, count, output);
+    stream::write_file(words, count, output);
     Answer::Done((count + 126) / 127)
 }
 
@@ -166,7 +93,7 @@ fn forward(file: &[u8], words: &mut [u32], output: &mut [u8]) -> Answer
     let Answer::Done(count) = tests else {
         return tests;
     };
-    spread_sheet(words);
+    sheet_change::spread_sheet(words);
     write(words, count, output)
 }
 
@@ -180,7 +107,7 @@ fn backward(file: &[u8], words: &mut [u32], output: &mut [u8]) -> Answer
     let Answer::Done(count) = tests else {
         return tests;
     };
-    cut_sheet(words);
+    sheet_change::cut_sheet(words);
     write(&words[6..], count, output)
 }
 

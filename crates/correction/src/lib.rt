@@ -22,8 +22,8 @@ pub fn fold(field: u32, k: usize, r: u32, f: &[u32], out: &mut [u32])
 }
 
 // The quotient by X - a of the polynomial in the first `count` coefficients, in place, by Horner's scheme from the top down: `above` is the
-// value at a of the coefficients passed. The quotient has one coefficient less, and a nought takes the last place.
-pub fn divide(field: u32, a: u32, f: &mut [u32], count: usize)
+// value at a of the coefficients passed. The quotient has one coefficient less, and a zero takes the last place.
+fn divide(field: u32, a: u32, f: &mut [u32], count: usize)
     requires { ⌜ count ≤ length (now f) ⌝ }
     ensures { λ _. ⌜ take (count - 1) (now (f .exit)) ≡ divide (fieldOf field) (take count (now (f .entry))) a ⌝ }
 {
@@ -90,7 +90,7 @@ fn by_schemes(field: u32, xs: &[u32], from: usize, f: &mut [u32], count: usize)
 }
 
 // The same: by sums of products where there are many points, which is then quicker, else by schemes.
-pub fn quotient(field: u32, xs: &[u32], from: usize, f: &mut [u32], count: usize)
+fn quotient(field: u32, xs: &[u32], from: usize, f: &mut [u32], count: usize)
     requires { ⌜ (from ≤ length (now xs)) × ((length (now xs) - from ≤ count) × (count ≤ length (now f))) ⌝ }
     ensures { λ _. ⌜ take (count - (length (now (xs .entry)) - from)) (now (f .exit)) ≡ quotient (fieldOf field) (take count (now (f .entry))) (drop from (now (xs .entry))) ⌝ }
 {
@@ -128,7 +128,7 @@ fn minus_power(field: u32, c: u32, e: usize) -> u32
 
 // The product of q and g = 1 + cX + .. + (cX)^e, from the lowest coefficient up. (1 - cX)·g is 1 - (cX)^(e+1), so that each coefficient is the sum of
 // c times the one before it and of `fresh`, the coefficient of q·(1 - (cX)^(e+1)) in its place.
-pub fn correct(field: u32, c: u32, e: usize, q: &[u32], out: &mut [u32])
+fn correct(field: u32, c: u32, e: usize, q: &[u32], out: &mut [u32])
     requires { ⌜ (0 < length (now q)) × (length (now out) ≡ length (now q) + e) ⌝ }
     ensures { λ _. ⌜ now (out .exit) ≡ mulPoly (fieldOf field) (now (q .entry)) (geometric (fieldOf field) c e) ⌝ }
 {
@@ -156,7 +156,7 @@ pub fn corrected(
 )
     requires { ⌜ (from ≤ length (now xs)) × (length (now xs) - from < count) ⌝ }
     requires { ⌜ (count ≤ length (now f)) × (length (now out) ≡ count) ⌝ }
-    ensures { λ _. ⌜ Corrected field (drop from (now (xs .entry))) c (take count (now (f .entry))) (now (out .exit)) ⌝ }
+    ensures { λ _. ⌜ Corrected (fieldOf field) (drop from (now (xs .entry))) c (take count (now (f .entry))) (now (out .exit)) ⌝ }
 {
     let e = xs.len() - from;
     let n = count - e;

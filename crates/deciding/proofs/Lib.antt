@@ -1,2 +1,4 @@
-pub mod Made
+pub mod Tested
+pub mod First
+pub mod Outs
 pub mod Ready

@@ -1,345 +1,25 @@
 // Deciding, of the words w of a stream of edition e that passes reading: refusals 7, 14, 8 and 9, and the reads. pw is the table of the points of domain 0.
 use edition::Edition;
-use fractions::Function;
-use outcome::Found;
 use outcome::Outcome;
 use outcome::Verdict;
-use samples::Gathered;
 ghost use mathlib.Core.Path.{_≡_};
-ghost use Prim.Native.Nat.{_+_, _*_, _/_, _≤_, _<_};
-ghost use lib.ListN.{length, getD, take, drop};
+ghost use Prim.Native.Nat.{_≤_};
+ghost use lib.ListN.{length, getD, drop};
 ghost use Rattle.definition.specs.Deciding.{counted, decide as decideBy, deciding as decidingOf, outTest};
-ghost use Rattle.definition.specs.Field.{primeField, fieldOf};
-ghost use Rattle.definition.specs.Polynomial.{pair};
-ghost use Rattle.algebra.specs.Different.{Apart};
-ghost use Rattle.algebra.specs.ListFacts.{All};
-ghost use Rattle.completeness.specs.Numbered.{roundsOf};
-ghost use Rattle.lists.specs.Correcting.{Columned, Correcting};
+ghost use Rattle.definition.specs.Field.{primeField};
 ghost use Rattle.definition.specs.Layout.{layout, readTranscript, wordsDue};
 ghost use Rattle.definition.specs.Reading.{rangeTest, sheetTest};
 ghost use Rattle.definition.specs.Sheet.{firstLevel, rootOfUnity, sheetLength, sheetOf};
 ghost use Rattle.definition.specs.Verdict.{accepted};
 ghost use Rattle.domain.specs.Powers.{Powers};
 ghost use Rattle.edition.specs.Meaning.{editionOf};
-ghost use Rattle.outcome.specs.Meaning.{placeOf, verdictOf};
-ghost use Rattle.fractions.specs.Values.{Clear};
-ghost use Rattle.samples.specs.Samples.{kept, Room};
-ghost use Rattle.deciding.specs.Stand.{afterFold, combinationOf, finalsOf, firstFunction, firstStand, foldCoinOf, kindsAfterFold, nextFold, nextFunction, nextStand, readsWith, repetitionsOf, shiftsOf};
-ghost use Rattle.deciding.specs.Standing.{Decided, Differing, FinalInside, Numbers, RoundInside, Served, Shaped, Sifted, Standing, Written};
-
-// A place: the level's number, domain size and degree bound, and where its table and the words after its fold coin begin. It holds no element: the level's
-// fold coin is handed on beside it, and so are the reads so far.
-pub struct Stand {
-    pub level: usize,
-    pub size: usize,
-    pub degree: usize,
-    pub table: usize,
-    pub at: usize,
-}
-
-// Places for the samples of a round, at most 48 + 2.
-fn room() -> [u32; 50]
-    ensures { λ r. ⌜ length r ≡ 50 ⌝ }
-{
-    [0u32; 50]
-}
-
-// The first place: at level 0, after fold coin 0.
-fn first_stand(e: Edition, w: &[u32]) -> Stand
-    requires { ⌜ (Written (editionOf e) (sheetOf (editionOf e) (now w)) (now w)) × (Shaped (sheetOf (editionOf e) (now w))) ⌝ }
-    ensures { λ r. ⌜ r ≡ firstStand (sheetLength (editionOf e)) (sheetOf (editionOf e) (now (w .entry))) ⌝ }
-{
-    let from = edition::sheet_words(e);
-    let size = w[1] as usize;
-    Stand {
-        level: 0,
-        size: size,
-        degree: w[2] as usize,
-        table: from,
-        at: from + size + 1,
-    }
-}
-
-// How table 0 is read: as it is, with no samples.
-fn first_function(e: Edition, w: &[u32]) -> Function
-    requires { ⌜ (Written (editionOf e) (sheetOf (editionOf e) (now w)) (now w)) × (Shaped (sheetOf (editionOf e) (now w))) ⌝ }
-    ensures { λ r. ⌜ r ≡ firstFunction (sheetOf (editionOf e) (now (w .entry))) ⌝ }
-{
-    Function {
-        scale: 1,
-        step: w[1] as usize / edition::fold(e, w, 0),
-        words: 0,
-    }
-}
-
-// The place after the next round: table, out coins, replies, combination coin, fold coin and shift indices are behind it.
-fn next_stand(e: Edition, w: &[u32], stand: Stand) -> Stand
-    requires { ⌜ RoundInside (editionOf e) (sheetOf (editionOf e) (now w)) (now w) stand ⌝ }
-    ensures { λ r. ⌜ r ≡ nextStand (sheetOf (editionOf e) (now (w .entry))) stand ⌝ }
-{
-    let k = edition::fold(e, w, stand.level);
-    let s = w[5] as usize;
-    let t = w[6 + stand.level] as usize;
-    Stand {
-        level: stand.level + 1,
-        size: stand.size / 2,
-        degree: stand.degree / k,
-        table: stand.at,
-        at: stand.at + stand.size / 2 + s + s + 2 + t,
-    }
-}
-
-// The fold coin of the next round.
-fn next_coin(e: Edition, w: &[u32], stand: Stand) -> u32
-    requires { ⌜ RoundInside (editionOf e) (sheetOf (editionOf e) (now w)) (now w) stand ⌝ }
-    ensures { λ r. ⌜ r ≡ foldCoinOf (sheetOf (editionOf e) (now (w .entry))) (now (w .entry)) stand ⌝ }
-{
-    let s = w[5] as usize;
-    w[stand.at + stand.size / 2 + s + s + 1]
-}
-
-// How the function of the next level is worked out, with so many words of coefficients.
-fn next_function(e: Edition, w: &[u32], stand: Stand, scale: usize, words: usize) -> Function
-    requires { ⌜ (RoundInside (editionOf e) (sheetOf (editionOf e) (now w)) (now w) stand) × (scale ≤ 4096) ⌝ }
-    ensures { λ r. ⌜ r ≡ nextFunction (sheetOf (editionOf e) (now (w .entry))) stand scale words ⌝ }
-{
-    Function {
-        scale: 2 * scale,
-        step: stand.size / 2 / edition::fold(e, w, stand.level + 1),
-        words: words,
-    }
-}
-
-// What the next table is corrected by, from the round's samples, which stand from number `from` on. Answers how many words of coefficients are in use,
-// which goes by the next level's folding number.
-fn correction(
-    e: Edition,
-    w: &[u32],
-    stand: Stand,
-    px: &[u32],
-    py: &[u32],
-    from: usize,
-    ac: &mut [u32],
-    vg: &mut [u32],
-) -> usize
-    requires { ⌜ RoundInside (editionOf e) (sheetOf (editionOf e) (now w)) (now w) stand ⌝ }
-    requires { ⌜ (from ≤ length (now px)) × ((length (now px) ≡ 50) × (length (now py) ≡ 50)) ⌝ }
-    requires { ⌜ (length (now ac) ≡ 66) × (length (now vg) ≡ 132) ⌝ }
-    requires { ⌜ Apart (fieldOf (getD (now w) 0 0)) (drop from (now px)) ⌝ }
-    ensures { λ n. ⌜ Columned (nextFold (sheetOf (editionOf e) (now (w .entry))) stand) n ⌝ }
-    ensures { λ n. ⌜ Correcting (getD (now (w .entry)) 0 0) (pair (drop from (now (px .entry))) (drop from (now (py .entry)))) (combinationOf (sheetOf (editionOf e) (now (w .entry))) (now (w .entry)) stand) n (now (ac .exit)) (now (vg .exit)) ⌝ }
-{
-    let k = edition::fold(e, w, stand.level + 1);
-    let s = w[5] as usize;
-    lists::correction(
-        w[0],
-        k,
-        w[stand.at + stand.size / 2 + s + s],
-        px,
-        py,
-        from,
-        ac,
-        vg,
-    )
-}
-
-// G of the next round, from the words, with the level's fold coin.
-fn round_at(
-    e: Edition,
-    w: &[u32],
-    pw: &[u32],
-    stand: Stand,
-    r: u32,
-    how: Function,
-    ac: &[u32],
-    vg: &[u32],
-    px: &mut [u32],
-    py: &mut [u32],
-) -> Gathered
-    requires { ⌜ Standing (sheetOf (editionOf e) (now w)) (now w) (length (now pw)) (length (now ac)) (length (now vg)) stand how ⌝ }
-    requires { ⌜ RoundInside (editionOf e) (sheetOf (editionOf e) (now w)) (now w) stand ⌝ }
-    requires { ⌜ (length (now px) ≡ 50) × (length (now py) ≡ 50) ⌝ }
-    requires { ⌜ Clear (getD (now w) 0 0) (now pw) (stand .size) (now vg) how ⌝ }
-    ensures { λ v. ⌜ Sifted (sheetOf (editionOf e) (now (w .entry))) (now (w .entry)) (now (pw .entry)) (now (ac .entry)) (now (vg .entry)) stand r how (kept v (now (px .exit)) (now (py .exit))) ⌝ }
-    ensures { λ v. ⌜ Room 50 50 v ⌝ }
-{
-    let s = w[5] as usize;
-    let t = w[6 + stand.level] as usize;
-    let outs = stand.at + stand.size / 2;
-    let replies = outs + s;
-    answers::answer(
-        w[0],
-        pw,
-        lists::part(w, stand.table, stand.size),
-        ac,
-        vg,
-        how,
-        edition::fold(e, w, stand.level),
-        r,
-        lists::part(w, replies + s + 2, t),
-        lists::part(w, outs, s),
-        lists::part(w, replies, s),
-        px,
-        py,
-    )
-}
-
-// The first final index at which the final polynomial differs, from the words.
-fn final_at(
-    e: Edition,
-    w: &[u32],
-    pw: &[u32],
-    stand: Stand,
-    r: u32,
-    how: Function,
-    ac: &[u32],
-    vg: &[u32],
-) -> Found
-    requires { ⌜ Standing (sheetOf (editionOf e) (now w)) (now w) (length (now pw)) (length (now ac)) (length (now vg)) stand how ⌝ }
-    requires { ⌜ FinalInside (editionOf e) (sheetOf (editionOf e) (now w)) (now w) stand ⌝ }
-    requires { ⌜ Clear (getD (now w) 0 0) (now pw) (stand .size) (now vg) how ⌝ }
-    ensures { λ v. ⌜ Differing (sheetOf (editionOf e) (now (w .entry))) (now (w .entry)) (now (pw .entry)) (now (ac .entry)) (now (vg .entry)) stand r how (placeOf v) ⌝ }
-{
-    let k = edition::fold(e, w, stand.level);
-    let t = w[6 + stand.level] as usize;
-    let d = stand.degree / k;
-    answers::difference(
-        w[0],
-        pw,
-        lists::part(w, stand.table, stand.size),
-        ac,
-        vg,
-        how,
-        k,
-        r,
-        lists::part(w, stand.at, d),
-        lists::part(w, stand.at + d, t),
-    )
-}
-
-// The reads with those of so many coins of the level, whose indices stand in the words from a number on: k for each different index.
-fn reads_with(e: Edition, w: &[u32], stand: Stand, reads: usize, at: usize, count: usize) -> usize
-    requires { ⌜ (Numbers (editionOf e) (sheetOf (editionOf e) (now w)) (now w) stand) × (reads ≤ 8192) ⌝ }
-    requires { ⌜ (at + count ≤ length (now w)) × ((count ≤ 48) × (All (λ j. j < 2048) (take count (drop at (now w))))) ⌝ }
-    ensures { λ r. ⌜ r ≡ readsWith (sheetOf (editionOf e) (now (w .entry))) stand reads (take count (drop at (now (w .entry)))) ⌝ }
-{
-    reads + places::count(lists::part(w, at, count)) * edition::fold(e, w, stand.level)
-}
-
-// The reads with those of the next round: all its shift coins are treated.
-fn round_reads(e: Edition, w: &[u32], stand: Stand, reads: usize) -> usize
-    requires { ⌜ (RoundInside (editionOf e) (sheetOf (editionOf e) (now w)) (now w) stand) × (reads ≤ 8192) ⌝ }
-    ensures { λ r. ⌜ r ≡ readsWith (sheetOf (editionOf e) (now (w .entry))) stand reads (shiftsOf (sheetOf (editionOf e) (now (w .entry))) (now (w .entry)) stand) ⌝ }
-{
-    let s = w[5] as usize;
-    reads_with(
-        e,
-        w,
-        stand,
-        reads,
-        stand.at + stand.size / 2 + s + s + 2,
-        w[6 + stand.level] as usize,
-    )
-}
-
-// The reads with those of so many of the final coins.
-fn final_reads(e: Edition, w: &[u32], stand: Stand, reads: usize, count: usize) -> usize
-    requires { ⌜ (FinalInside (editionOf e) (sheetOf (editionOf e) (now w)) (now w) stand) × (reads ≤ 8192) ⌝ }
-    requires { ⌜ count ≤ repetitionsOf (sheetOf (editionOf e) (now w)) stand ⌝ }
-    ensures { λ r. ⌜ r ≡ readsWith (sheetOf (editionOf e) (now (w .entry))) stand reads (take count (finalsOf (sheetOf (editionOf e) (now (w .entry))) (now (w .entry)) stand)) ⌝ }
-{
-    reads_with(
-        e,
-        w,
-        stand,
-        reads,
-        stand.at + stand.degree / edition::fold(e, w, stand.level),
-        count,
-    )
-}
-
-// The final comparison. All final coins are treated, or those up to and with the failing one.
-fn last(
-    e: Edition,
-    w: &[u32],
-    pw: &[u32],
-    stand: Stand,
-    reads: usize,
-    r: u32,
-    how: Function,
-    ac: &[u32],
-    vg: &[u32],
-) -> Verdict
-    requires { ⌜ Standing (sheetOf (editionOf e) (now w)) (now w) (length (now pw)) (length (now ac)) (length (now vg)) stand how ⌝ }
-    requires { ⌜ Served (sheetOf (editionOf e) (now w)) (now w) (now pw) (now ac) (now vg) stand how ⌝ }
-    requires { ⌜ (stand .level ≡ roundsOf (sheetOf (editionOf e) (now w))) × (FinalInside (editionOf e) (sheetOf (editionOf e) (now w)) (now w) stand) ⌝ }
-    requires { ⌜ reads ≤ 768 * (stand .level) ⌝ }
-    ensures { λ v. ⌜ Decided (sheetOf (editionOf e) (now (w .entry))) (now (w .entry)) (now (pw .entry)) (now (ac .entry)) (now (vg .entry)) stand reads r how (verdictOf v) ⌝ }
-{
-    let f = final_at(e, w, pw, stand, r, how, ac, vg);
-    if let Found::At(i) = f {
-        return Verdict {
-            outcome: Outcome::Refused(9, i),
-            reads: final_reads(e, w, stand, reads, i + 1),
-        };
-    }
-    Verdict {
-        outcome: Outcome::Accepted,
-        reads: final_reads(e, w, stand, reads, w[6 + stand.level] as usize),
-    }
-}
-
-// The rounds after a place and the final comparison. The first round whose samples clash refuses.
-fn rest(
-    e: Edition,
-    w: &[u32],
-    pw: &[u32],
-    stand: Stand,
-    reads: usize,
-    r: u32,
-    how: Function,
-    ac: &[u32],
-    vg: &[u32],
-) -> Verdict
-    requires { ⌜ Written (editionOf e) (sheetOf (editionOf e) (now w)) (now w) ⌝ }
-    requires { ⌜ Standing (sheetOf (editionOf e) (now w)) (now w) (length (now pw)) (length (now ac)) (length (now vg)) stand how ⌝ }
-    requires { ⌜ Served (sheetOf (editionOf e) (now w)) (now w) (now pw) (now ac) (now vg) stand how ⌝ }
-    requires { ⌜ reads ≤ 768 * (stand .level) ⌝ }
-    ensures { λ v. ⌜ Decided (sheetOf (editionOf e) (now (w .entry))) (now (w .entry)) (now (pw .entry)) (now (ac .entry)) (now (vg .entry)) stand reads r how (verdictOf v) ⌝ }
-{
-    if stand.level == w[4] as usize {
-        return last(e, w, pw, stand, reads, r, how, ac, vg);
-    }
-    let next = next_stand(e, w, stand);
-    let now = round_reads(e, w, stand, reads);
-    let mut px = room();
-    let mut py = room();
-    let g = round_at(e, w, pw, stand, r, how, ac, vg, &mut px, &mut py);
-    let Gathered::From(j) = g else {
-        return Verdict {
-            outcome: Outcome::Refused(8, next.level),
-            reads: now,
-        };
-    };
-    let mut pa = lists::places();
-    let mut pv = lists::double_places();
-    let words = correction(e, w, stand, &px, &py, j, &mut pa, &mut pv);
-    rest(
-        e,
-        w,
-        pw,
-        next,
-        now,
-        next_coin(e, w, stand),
-        next_function(e, w, stand, how.scale, words),
-        &pa,
-        &pv,
-    )
-}
+ghost use Rattle.outcome.specs.Meaning.{verdictOf};
+ghost use Rattle.level_words.specs.State.{afterFold};
+ghost use Rattle.out_coins.specs.Kinds.{kindsAfterFold};
 
 // Deciding from table 0 on, by the table of points: refusals 8 and 9. Only the words after fold coin 0 need be in range. Past refusal 7 no out coin lies in its
 // round's domain, and so nothing is divided by 0.
-pub fn decide(e: Edition, w: &[u32], pw: &[u32]) -> Verdict
+fn decide_past_out_tests(e: Edition, w: &[u32], pw: &[u32]) -> Verdict
     requires { ⌜ (sheetTest (editionOf e) (now w) ≡ accepted) × (rangeTest (sheetOf (editionOf e) (now w)) (afterFold (sheetLength (editionOf e)) (sheetOf (editionOf e) (now w))) (kindsAfterFold (sheetOf (editionOf e) (now w))) (now w) ≡ accepted) ⌝ }
     requires { ⌜ wordsDue (editionOf e) (sheetOf (editionOf e) (now w)) ≤ length (now w) ⌝ }
     requires { ⌜ (Powers (getD (now w) 0 0) (rootOfUnity (sheetOf (editionOf e) (now w))) (now pw)) × (length (now pw) ≡ getD (now w) 1 0) ⌝ }
@@ -349,21 +29,21 @@ pub fn decide(e: Edition, w: &[u32], pw: &[u32]) -> Verdict
 {
     let ac = lists::places();
     let vg = lists::double_places();
-    rest(
+    decide_rounds::decide_rest(
         e,
         w,
         pw,
-        first_stand(e, w),
+        level_words::first_state(e, w),
         0,
         w[edition::sheet_words(e) + w[1] as usize],
-        first_function(e, w),
+        level_words::first_oracle(e, w),
         &ac,
         &vg,
     )
 }
 
 // The tests of out coins, then refusals 8 and 9, by the table of points.
-fn decide_by(e: Edition, w: &[u32], pw: &[u32]) -> Verdict
+fn test_outs_then_decide(e: Edition, w: &[u32], pw: &[u32]) -> Verdict
     requires { ⌜ (sheetTest (editionOf e) (now w) ≡ accepted) × (rangeTest (sheetOf (editionOf e) (now w)) (sheetLength (editionOf e)) (layout (sheetOf (editionOf e) (now w))) (now w) ≡ accepted) ⌝ }
     requires { ⌜ wordsDue (editionOf e) (sheetOf (editionOf e) (now w)) ≤ length (now w) ⌝ }
     requires { ⌜ (Powers (getD (now w) 0 0) (rootOfUnity (sheetOf (editionOf e) (now w))) (now pw)) × (length (now pw) ≡ getD (now w) 1 0) ⌝ }
@@ -376,7 +56,7 @@ fn decide_by(e: Edition, w: &[u32], pw: &[u32]) -> Verdict
             reads: 0,
         };
     }
-    decide(e, w, pw)
+    decide_past_out_tests(e, w, pw)
 }
 
 // Deciding, of the words of a stream that passes reading. A small sheet is spared the clearing of many places.
@@ -388,9 +68,9 @@ pub fn deciding(e: Edition, w: &[u32]) -> Verdict
     if w[1] <= 256 {
         let mut few = domain::few_points_room();
         let count = domain::of_sheet_within(w, &mut few);
-        return decide_by(e, w, &few[..count]);
+        return test_outs_then_decide(e, w, &few[..count]);
     }
     let mut pw = domain::points_room();
     let size = domain::of_sheet(w, &mut pw);
-    decide_by(e, w, &pw[..size])
+    test_outs_then_decide(e, w, &pw[..size])
 }

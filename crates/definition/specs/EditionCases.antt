@@ -9,7 +9,7 @@ use Rattle.definition.specs.Verdict.{accepted, refused}
 use Rattle.definition.specs.Reading.{sheetTest}
 use Rattle.definition.specs.Verify.{verifyIn}
 use Rattle.definition.specs.Prover.{honestStream}
-use Rattle.definition.specs.Prove.{proveIn, done, Result}
+use Rattle.definition.specs.Prove.{proveIn, done}
 use Rattle.definition.specs.Convert.{toEdition1, toEdition2}
 use Rattle.definition.specs.WorkedTranscript.{sheetWords, coefficients, coins, stream, file, oneToEight, twoOuts, accept, refuse, kept, definitions}
 
@@ -17,7 +17,7 @@ use Rattle.definition.specs.WorkedTranscript.{sheetWords, coefficients, 
 abbrev sheet2 : List ℕ
 sheet2 = 0 ∷ 16 ∷ 8 ∷ 2 ∷ 1 ∷ 1 ∷ 1 ∷ 1 ∷ 0 ∷ 0 ∷ 0 ∷ 0 ∷ 2 ∷ 0 ∷ 0 ∷ 0 ∷ 0 ∷ 2 ∷ []
 
-abbrev stream2 : List ℕ
+abbrev pub stream2 : List ℕ
 stream2 = sheet2 ++ drop 12 stream
 
 -- k_0 = 2 and k_1 = 4: table 0 18 to 33, fold coin 34, table 1 35 to 42, out coin 43, reply 44, coins 45 46, shift indices 47 48, final

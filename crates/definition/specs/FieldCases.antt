@@ -1,5 +1,4 @@
 -- The public field operations, ω, levels and domains (01, Fields and the sheet; Domains), by computation.
-use Prim.Native.Nat.{ℕ}
 use mathlib.Core.Path.{_≡_, refl}
 use mathlib.Core.List.{[], _∷_}
 use Rattle.definition.specs.Field.{element, noField, powered, inNoField, found, noInverse, unknownField, binaryDigits, primeOf, generatorOf, sum, difference, product, powerOf, powerTurnsOf, inverseOf}

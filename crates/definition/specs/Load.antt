@@ -1,6 +1,6 @@
 -- The load: a thousand runs that a seed fixes (02, CR 2 and 6), with sheets of edition 1.
 use Prim.Native.Nat.{ℕ, zero, suc, _+_, _*_, _/_, _%_, _^_}
-use mathlib.Core.Bool.{Bool, true, false, not, cond, _||_}
+use mathlib.Core.Bool.{Bool, false, not, cond, _||_}
 use mathlib.Core.List.{List, [], _∷_, _++_, map, flatMap}
 use mathlib.Core.Option.{Option, none, some}
 use lib.Bits.{bitXor}
@@ -103,14 +103,14 @@ drawKinds h before (k ∷ ks) v =
     record { value = x .value ∷ xs .value; next = xs .next }
 
 -- A run: a sheet, coefficients and coins.
-pub record Order : Type 0 where
+pub record ProverInput : Type 0 where
   pub sheet : List ℕ
   pub coefficients : List ℕ
   pub coins : List ℕ
 
 -- a run's draws: the sheet, d0 coefficients, then the coins in file order
-unfoldable pub drawOrder : ℕ → Drawn Order
-drawOrder v =
+unfoldable pub drawInput : ℕ → Drawn ProverInput
+drawInput v =
     let w = drawSheet v in
     let h = sheetOf edition1 (w .value) in
     let f = drawKinds h none (replicate (h .degree) message) (w .next) in
@@ -118,12 +118,12 @@ drawOrder v =
     record { value = record { sheet = w .value; coefficients = f .value; coins = c .value }; next = c .next }
 
 -- the first runs on one generator
-unfoldable pub orders : ℕ → ℕ → List Order
-orders zero v = []
-orders (suc count) v = drawOrder v .value ∷ orders count (drawOrder v .next)
+unfoldable pub drawnInputs : ℕ → ℕ → List ProverInput
+drawnInputs zero v = []
+drawnInputs (suc count) v = drawInput v .value ∷ drawnInputs count (drawInput v .next)
 
 -- the verdict on a run's honest file
-unfoldable pub verdictOn : Order → Verdict
+unfoldable pub verdictOn : ProverInput → Verdict
 verdictOn o = verify (fileOf (honestStream edition1 (o .sheet) (o .coefficients) (o .coins)))
 
 -- the number of runs
@@ -135,7 +135,7 @@ unfoldable pub loadLines : ℕ → List (List ℕ)
 loadLines seed =
     cond (eqb seed 0)
     (lineOf (record { outcome = refused 12 0; reads = 0 }) ∷ [])
-    (map (λ o. lineOf (verdictOn o)) (orders loadRuns seed))
+    (map (λ o. lineOf (verdictOn o)) (drawnInputs loadRuns seed))
 
 -- The program: its input's first four bytes are the seed, and missing bytes are 0.
 unfoldable pub seedOf : List ℕ → ℕ

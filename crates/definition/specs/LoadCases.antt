@@ -3,13 +3,13 @@ use mathlib.Core.Path.{_≡_, refl}
 use mathlib.Core.List.{[], _∷_, map}
 use mathlib.Core.Option.{none, some}
 use Rattle.definition.specs.Line.{decimalWithin, decimal, outcomeText, lineOf, refusalLine}
-use Rattle.definition.specs.Load.{step, drawBelow, keep, permits, candidates, permitted, workedSheet, drawWords, drawSheet, notAllowed, smallestAllowed, undrawn, drawOut, drawKind, drawKinds, drawOrder, orders, verdictOn, loadLines, seedOf, loadOutput}
+use Rattle.definition.specs.Load.{step, drawBelow, keep, permits, candidates, permitted, workedSheet, drawWords, drawSheet, notAllowed, smallestAllowed, undrawn, drawOut, drawKind, drawKinds, drawInput, drawnInputs, verdictOn, loadLines, seedOf, loadOutput}
 use Rattle.definition.specs.Layout.{out}
 use Rattle.definition.specs.Sheet.{edition1, Level, sheetOf}
 use Rattle.definition.specs.WorkedTranscript.{definitions, accept, refuse, sheetWords}
 
 unfoldable pub loadDefinitions : Unit {0}
-unfolding definitions step drawBelow keep permits candidates permitted drawWords drawSheet notAllowed smallestAllowed undrawn drawOut drawKind drawKinds drawOrder orders verdictOn decimalWithin decimal outcomeText lineOf refusalLine loadLines seedOf loadOutput
+unfolding definitions step drawBelow keep permits candidates permitted drawWords drawSheet notAllowed smallestAllowed undrawn drawOut drawKind drawKinds drawInput drawnInputs verdictOn decimalWithin decimal outcomeText lineOf refusalLine loadLines seedOf loadOutput
 loadDefinitions = tt
 
 -- round 1 of the worked sheet
@@ -54,16 +54,13 @@ pub record LoadCases : Type 0 where
   pub none·left·after·0 : drawOut (sheetOf edition1 sheetWords) (some 0) (out round) 0 3 ≡ record { value = 1; next = 811107 }
   -- where 1 is in the domain, as on no sheet, the smallest after 0 is 2
   pub smallest·2 : smallestAllowed (record { prime = 17; generator = 1; size = 16; degree = 8; folds = []; outCoins = 2; repetitions = [] }) (some 0) (out round) ≡ 2
-  -- modulo 1 every draw is a point of the domain: one draw and 64 more, which is 65 steps; modulo 2 a draw after 0 lies in the domain or is
-  -- 0 again, and both count
-  pub again·64 : drawKind (record { prime = 1; generator = 1; size = 2; degree = 2; folds = []; outCoins = 1; repetitions = [] }) none (out round) 1
-      ≡ record { value = 0; next = 244103520 }
+  -- modulo 2, with the domain of 1 alone, a draw after 0 lies in the domain or is 0 again, and both count: one draw and 64 more, which is 65
+  -- steps
   pub again·64·both : drawKind (record { prime = 2; generator = 1; size = 2; degree = 2; folds = []; outCoins = 2; repetitions = [] }) (some 0) (out round) 1
       ≡ record { value = 0; next = 244103520 }
   -- a run drawn from 849, and one from 6, which falls back to the worked sheet; one from 56080, whose second out coin was equal to the first
   -- when first drawn, then in the domain; two runs on one generator
-  pub sheet·849 : drawSheet 849 .value ≡ 0 ∷ 16 ∷ 8 ∷ 2 ∷ 1 ∷ 1 ∷ 1 ∷ 10 ∷ 0 ∷ 0 ∷ 0 ∷ 0 ∷ []
-  pub order·849 : drawOrder 849 ≡ record {
+  pub input·849 : drawInput 849 ≡ record {
     value = record {
       sheet = 0 ∷ 16 ∷ 8 ∷ 2 ∷ 1 ∷ 1 ∷ 1 ∷ 10 ∷ 0 ∷ 0 ∷ 0 ∷ 0 ∷ [];
       coefficients = 2 ∷ 14 ∷ 2 ∷ 11 ∷ 15 ∷ 7 ∷ 15 ∷ 4 ∷ [];
@@ -71,7 +68,7 @@ pub record LoadCases : Type 0 where
     };
     next = 2168865843;
   }
-  pub order·6 : drawOrder 6 ≡ record {
+  pub input·6 : drawInput 6 ≡ record {
     value = record {
       sheet = 0 ∷ 16 ∷ 8 ∷ 2 ∷ 1 ∷ 1 ∷ 1 ∷ 1 ∷ 0 ∷ 0 ∷ 0 ∷ 0 ∷ [];
       coefficients = 0 ∷ 9 ∷ 0 ∷ 0 ∷ 0 ∷ 3 ∷ 9 ∷ 3 ∷ [];
@@ -79,7 +76,7 @@ pub record LoadCases : Type 0 where
     };
     next = 509620375;
   }
-  pub order·56080 : drawOrder 56080 ≡ record {
+  pub input·56080 : drawInput 56080 ≡ record {
     value = record {
       sheet = 0 ∷ 16 ∷ 8 ∷ 2 ∷ 1 ∷ 2 ∷ 1 ∷ 2 ∷ 0 ∷ 0 ∷ 0 ∷ 0 ∷ [];
       coefficients = 8 ∷ 10 ∷ 2 ∷ 11 ∷ 10 ∷ 6 ∷ 1 ∷ 9 ∷ [];
@@ -87,7 +84,7 @@ pub record LoadCases : Type 0 where
     };
     next = 1591568000;
   }
-  pub sheets·6 : map (λ o. o .sheet) (orders 2 6)
+  pub sheets·6 : map (λ o. o .sheet) (drawnInputs 2 6)
       ≡ (0 ∷ 16 ∷ 8 ∷ 2 ∷ 1 ∷ 1 ∷ 1 ∷ 1 ∷ 0 ∷ 0 ∷ 0 ∷ 0 ∷ []) ∷ (0 ∷ 8 ∷ 4 ∷ 4 ∷ 0 ∷ 2 ∷ 3 ∷ 0 ∷ 0 ∷ 0 ∷ 0 ∷ 0 ∷ []) ∷ []
 
 pub loadCases : LoadCases
@@ -120,11 +117,9 @@ loadCases = record {
   none·left·second = refl;
   none·left·after·0 = refl;
   smallest·2 = refl;
-  again·64 = refl;
   again·64·both = refl;
-  sheet·849 = refl;
-  order·849 = refl;
-  order·6 = refl;
-  order·56080 = refl;
+  input·849 = refl;
+  input·6 = refl;
+  input·56080 = refl;
   sheets·6 = refl;
 }

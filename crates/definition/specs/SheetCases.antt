@@ -1,5 +1,4 @@
 -- The rules of the sheet (01, Fields and the sheet; the edges of A transcript by hand): test 3 by its places, by computation.
-use Prim.Native.Nat.{ℕ}
 use mathlib.Core.Path.{_≡_, refl}
 use mathlib.Core.List.{[], _∷_}
 use Rattle.definition.specs.Sheet.{edition1}

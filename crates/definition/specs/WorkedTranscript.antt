@@ -9,11 +9,11 @@ use Rattle.definition.specs.Sheet.{Level, foldPlaces, foldWords, sheetOf
 use Rattle.definition.specs.Domain.{rootNumbers, point, domain, inDomain, shiftPoint, foldAt}
 use Rattle.definition.specs.Transcript.{roundWords, restWords, transcriptWords}
 use Rattle.definition.specs.Layout.{roundLayout, restLayout, layout, wordsDue, coinKinds, limit, roundCoins, laterCount, readRest, readTranscript, readRounds, readFinals, readCoins}
-use Rattle.definition.specs.Block.{lowBytes, bytesOf, wordOf, weightedSum, checkWord, blockCount, blocksOf, sealFrom, fileOf, fileBlocks, streamOf, wrongChecks}
+use Rattle.definition.specs.Block.{lowBytes, bytesOf, wordOf, weightedSum, checkWord, blockCount, blocksOf, blocksWithChecks, fileOf, fileBlocks, streamOf, wrongChecks}
 use Rattle.definition.specs.Verdict.{Verdict, accepted, refused, refuseAt, refuseIf, _then_, thenVerdict}
 use Rattle.definition.specs.Reading.{lengthTest, checkTest, sheetTest, blocksTest, outOfRange, rangeTest, fillTest, bodyTests, streamTests, reading}
 use Rattle.definition.specs.Deciding.{outInDomain, outTest, sameAs, outBefore, outRepeated, repeatedOuts, equalTest, outTests, ownPlace, coinPlaces, placesOf, samePlace, readsOf, counted, treated, answers, tableFunction, nextFunction, differences, decideFinal, decideRest, decide, deciding}
-use Rattle.definition.specs.Verify.{verifyIn}
+use Rattle.definition.specs.Verify.{verifyIn, decideFile}
 use Rattle.definition.specs.Prover.{tableOf, samplesOf, honestRound, honestAnswers, nextPoly, honestRest, honest, honestStream}
 use Rattle.definition.specs.Prove.{Result, refusal, finish, sheetLengthTest, coefficientsTest, coinsTest, inputRangeTest, coinDomainTest, coinEqualTest, outputTest, proveTests, proveIn, encodeTests, encode}
 use Rattle.definition.specs.Convert.{spread, bodyOf, forward, backward, foldsTest, convert, toEdition1, toEdition2}
@@ -156,9 +156,9 @@ unfolding
     outCoinsRule repetitionsRule laterFoldRule editionRule laterRules sheetRules testOrder levelsFrom firstLevel laterLevels shiftCount finalCount rootOfUnity rootNumbers point domain
     inDomain shiftPoint foldAt roundWords restWords transcriptWords roundLayout restLayout layout wordsDue coinKinds limit
     roundCoins laterCount readRest readTranscript readRounds readFinals readCoins lowBytes bytesOf wordOf weightedSum checkWord blockCount
-    blocksOf sealFrom fileOf fileBlocks streamOf wrongChecks refuseAt refuseIf _then_ thenVerdict lengthTest checkTest sheetTest blocksTest
+    blocksOf blocksWithChecks fileOf fileBlocks streamOf wrongChecks refuseAt refuseIf _then_ thenVerdict lengthTest checkTest sheetTest blocksTest
     outOfRange rangeTest fillTest bodyTests streamTests reading outInDomain outTest sameAs outBefore outRepeated repeatedOuts equalTest outTests ownPlace coinPlaces placesOf samePlace readsOf counted treated answers tableFunction
-    nextFunction differences decideFinal decideRest decide deciding verifyIn tableOf samplesOf honestRound honestAnswers nextPoly honestRest
+    nextFunction differences decideFinal decideRest decide deciding verifyIn decideFile tableOf samplesOf honestRound honestAnswers nextPoly honestRest
     honest honestStream finish sheetLengthTest coefficientsTest coinsTest inputRangeTest coinDomainTest coinEqualTest outputTest proveTests proveIn
     encodeTests encode spread bodyOf forward backward foldsTest convert toEdition1 toEdition2 zipWith flatMap
 definitions = tt

@@ -2,65 +2,67 @@
 use Prim.Native.Nat.{ℕ, _*_, _<_}
 use mathlib.Core.Bool.{Bool, true, false, cond, _||_}
 use mathlib.Core.List.{List, [], _∷_, _++_}
-use mathlib.Core.Path.{_≡_, refl, sym, ap, _∙_}
-use lib.Dec.{eqb}
+use mathlib.Core.Path.{_≡_, refl, ap, _∙_}
 use lib.ListN.{length, getD}
-use borrow.Author.Tests.{eqb-true}
-use Rattle.definition.specs.Field.{fieldOf, primeField}
+use Rattle.definition.specs.Field.{Field}
 use Rattle.definition.specs.Lists.{different, member}
 use Rattle.definition.specs.Polynomial.{Sample, distinct, points, sampledAt}
 use Rattle.definition.specs.Prover.{samplesOf}
 
--- every index of a list, times the scale, is the number of a word in a table of points
+-- every index of a list, times the scale, is the number of an entry in a table of points
 abbrev pub InTable : ℕ → ℕ → List ℕ → Type 0
 InTable points scale js = (i : ℕ) → i < length js → scale * getD js i 0 < points
 
--- a point in front of others, unless it is among them
-unfoldable pub keepPoint : ℕ → List ℕ → List ℕ
-keepPoint x kept = cond (member eqb x kept) kept (x ∷ kept)
+module _ {A : Type 0} (equal : A → A → Bool) where
+  -- a point in front of others, unless it is among them
+  unfoldable pub keepPoint : A → List A → List A
+  keepPoint x kept = cond (member equal x kept) kept (x ∷ kept)
 
--- the points of a list in front of others, the last first
-unfoldable pub keepPoints : List ℕ → List ℕ → List ℕ
-keepPoints [] kept = kept
-keepPoints (x ∷ xs) kept = keepPoint x (keepPoints xs kept)
+  -- the points of a list in front of others, the last first
+  unfoldable pub keepPoints : List A → List A → List A
+  keepPoints [] kept = kept
+  keepPoints (x ∷ xs) kept = keepPoint x (keepPoints xs kept)
 
-pub keep-append : (xs ys kept : List ℕ) → keepPoints (xs ++ ys) kept ≡ keepPoints xs (keepPoints ys kept)
-unfolding keepPoints
-keep-append [] ys kept = refl
-keep-append (x ∷ xs) ys kept = ap (keepPoint x) (keep-append xs ys kept)
+  pub keep-append : (xs ys kept : List A) → keepPoints (xs ++ ys) kept ≡ keepPoints xs (keepPoints ys kept)
+  unfolding keepPoints
+  keep-append [] ys kept = refl
+  keep-append (x ∷ xs) ys kept = ap (keepPoint x) (keep-append xs ys kept)
 
--- what is kept has the points that are given
-member-kept : (x : ℕ) (xs : List ℕ) → member eqb x (different eqb xs) ≡ member eqb x xs
-unfolding different member
-member-kept x [] = refl
-member-kept x (y ∷ ys) = go (member eqb y ys) (eqb x y) (member-kept y ys) refl (member-kept x ys)
-  where
-    go : (b t : Bool) → member eqb y (different eqb ys) ≡ b → eqb x y ≡ t → member eqb x (different eqb ys) ≡ member eqb x ys →
-        member eqb x (cond b (different eqb ys) (y ∷ different eqb ys)) ≡ (t || member eqb x ys)
-    go true true e q h = ap (λ (z : ℕ). member eqb z (different eqb ys)) (eqb-true x y q) ∙ e
-    go true false e q h = h
-    go false t e q h = λ i. q i || h i
+  -- what is kept has the points that are given, where equal elements are the same
+  module _ (same : (x y : A) → equal x y ≡ true → x ≡ y) where
+    member-kept : (x : A) (xs : List A) → member equal x (different equal xs) ≡ member equal x xs
+    unfolding different member
+    member-kept x [] = refl
+    member-kept x (y ∷ ys) = go (member equal y ys) (equal x y) (member-kept y ys) refl (member-kept x ys)
+      where
+        go : (b t : Bool) → member equal y (different equal ys) ≡ b → equal x y ≡ t → member equal x (different equal ys) ≡ member equal x ys →
+            member equal x (cond b (different equal ys) (y ∷ different equal ys)) ≡ (t || member equal x ys)
+        go true true e q h = ap (λ (z : A). member equal z (different equal ys)) (same x y q) ∙ e
+        go true false e q h = h
+        go false t e q h = λ i. q i || h i
 
--- and so it is the list without its repeats
-pub kept-different : (xs : List ℕ) → keepPoints xs [] ≡ different eqb xs
-unfolding keepPoints keepPoint different
-kept-different [] = refl
-kept-different (x ∷ xs) = ap (keepPoint x) (kept-different xs) ∙ ap (λ (b : Bool). cond b (different eqb xs) (x ∷ different eqb xs)) (member-kept x xs)
+    -- and so it is the list without its repeats
+    pub kept-different : (xs : List A) → keepPoints xs [] ≡ different equal xs
+    unfolding keepPoints keepPoint different
+    kept-different [] = refl
+    kept-different (x ∷ xs) = ap (keepPoint x) (kept-different xs) ∙ ap (λ (b : Bool). cond b (different equal xs) (x ∷ different equal xs)) (member-kept x xs)
 
-module _ (field ω : ℕ) (g : List ℕ) where
-  sampled-member : (x : ℕ) (xs : List ℕ) → sampledAt (fieldOf field) x (samplesOf (fieldOf field) ω g xs) ≡ member eqb x xs
-  unfolding sampledAt samplesOf member fieldOf primeField
+module _ {A : Type 0} (F : Field A) (ω : A) (g : List A) where
+  open Field F using (equal)
+
+  sampled-member : (x : A) (xs : List A) → sampledAt F x (samplesOf F ω g xs) ≡ member equal x xs
+  unfolding sampledAt samplesOf member
   sampled-member x [] = refl
-  sampled-member x (y ∷ ys) = ap (λ (t : Bool). eqb x y || t) (sampled-member x ys)
+  sampled-member x (y ∷ ys) = ap (λ (t : Bool). equal x y || t) (sampled-member x ys)
 
-  kept-points : (b c : Bool) (s : Sample ℕ) (kept : List (Sample ℕ)) (xs : List ℕ) → b ≡ c → points kept ≡ xs →
+  kept-points : (b c : Bool) (s : Sample A) (kept : List (Sample A)) (xs : List A) → b ≡ c → points kept ≡ xs →
       points (cond b kept (s ∷ kept)) ≡ cond c xs (s .point ∷ xs)
   unfolding points
   kept-points b true s kept xs e h = ap (λ (t : Bool). points (cond t kept (s ∷ kept))) e ∙ h
-  kept-points b false s kept xs e h = ap (λ (t : Bool). points (cond t kept (s ∷ kept))) e ∙ ap {B = List ℕ} (λ l. s .point ∷ l) h
+  kept-points b false s kept xs e h = ap (λ (t : Bool). points (cond t kept (s ∷ kept))) e ∙ ap {B = List A} (λ l. s .point ∷ l) h
 
   -- the points of the samples that `distinct` keeps
-  pub distinct-points : (xs : List ℕ) → points (distinct (fieldOf field) (samplesOf (fieldOf field) ω g xs)) ≡ different eqb xs
+  pub distinct-points : (xs : List A) → points (distinct F (samplesOf F ω g xs)) ≡ different equal xs
   unfolding points distinct samplesOf different
   distinct-points [] = refl
-  distinct-points (x ∷ xs) = kept-points _ (member eqb x xs) _ _ (different eqb xs) (sampled-member x xs) (distinct-points xs)
+  distinct-points (x ∷ xs) = kept-points _ (member equal x xs) _ _ (different equal xs) (sampled-member x xs) (distinct-points xs)

@@ -11,7 +11,7 @@ ghost use Rattle.distinct.specs.Points.{InTable, keepPoint, keepPoints};
 // Puts a point in front of those from number `from` on, unless it is there. The answer is the number of the first point.
 fn keep(xs: &mut [u32], from: usize, x: u32) -> usize
     requires { ⌜ (0 < from) × (from ≤ length (now xs)) ⌝ }
-    ensures { λ r. ⌜ drop r (now (xs .exit)) ≡ keepPoint x (drop from (now (xs .entry))) ⌝ }
+    ensures { λ r. ⌜ drop r (now (xs .exit)) ≡ keepPoint eqb x (drop from (now (xs .entry))) ⌝ }
     ensures { λ r. ⌜ (r ≤ from) × (from ≤ r + 1) ⌝ }
 {
     if places::found(xs, from, x) {
@@ -26,7 +26,7 @@ fn keep(xs: &mut [u32], from: usize, x: u32) -> usize
 fn keep_shifts(pw: &[u32], scale: usize, k: usize, shifts: &[u32], xs: &mut [u32]) -> usize
     requires { ⌜ (0 < k) × ((k ≤ 16) × (length (now pw) ≤ 4096)) ⌝ }
     requires { ⌜ (InTable (length (now pw)) scale (now shifts)) × (length (now shifts) ≤ length (now xs)) ⌝ }
-    ensures { λ r. ⌜ drop r (now (xs .exit)) ≡ keepPoints (map (shiftIn (now (pw .entry)) scale k) (now (shifts .entry))) [] ⌝ }
+    ensures { λ r. ⌜ drop r (now (xs .exit)) ≡ keepPoints eqb (map (shiftIn 0 (now (pw .entry)) scale k) (now (shifts .entry))) [] ⌝ }
     ensures { λ r. ⌜ (r ≤ length (now (xs .entry))) × (length (now (xs .entry)) ≤ r + length (now (shifts .entry))) ⌝ }
 {
     let mut at = xs.len();
@@ -45,7 +45,7 @@ fn keep_shifts(pw: &[u32], scale: usize, k: usize, shifts: &[u32], xs: &mut [u32
 // Puts points in front of those from number `from` on, the last first.
 fn keep_all(points: &[u32], xs: &mut [u32], from: usize) -> usize
     requires { ⌜ (from ≤ length (now xs)) × (length (now points) ≤ from) ⌝ }
-    ensures { λ r. ⌜ drop r (now (xs .exit)) ≡ keepPoints (now (points .entry)) (drop from (now (xs .entry))) ⌝ }
+    ensures { λ r. ⌜ drop r (now (xs .exit)) ≡ keepPoints eqb (now (points .entry)) (drop from (now (xs .entry))) ⌝ }
     ensures { λ r. ⌜ (r ≤ from) × (from ≤ r + length (now (points .entry))) ⌝ }
 {
     let mut at = from;
@@ -68,7 +68,7 @@ pub fn points(
 ) -> usize
     requires { ⌜ (0 < k) × ((k ≤ 16) × (length (now pw) ≤ 4096)) ⌝ }
     requires { ⌜ (InTable (length (now pw)) scale (now shifts)) × (length (now outs) + length (now shifts) ≤ length (now xs)) ⌝ }
-    ensures { λ r. ⌜ drop r (now (xs .exit)) ≡ different eqb (now (outs .entry) ++ map (shiftIn (now (pw .entry)) scale k) (now (shifts .entry))) ⌝ }
+    ensures { λ r. ⌜ drop r (now (xs .exit)) ≡ different eqb (now (outs .entry) ++ map (shiftIn 0 (now (pw .entry)) scale k) (now (shifts .entry))) ⌝ }
     ensures { λ r. ⌜ (r ≤ length (now (xs .entry))) × (length (now (xs .entry)) ≤ r + (length (now (outs .entry)) + length (now (shifts .entry)))) ⌝ }
 {
     let at = keep_shifts(pw, scale, k, shifts, xs);

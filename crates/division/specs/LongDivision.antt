@@ -1,31 +1,21 @@
 -- Division by many points at once. Let w be the coefficients of the product of 1 - aX over the points: the sum of w times the quotient's coefficients from
 -- number j on is the dividend's coefficient of as much higher number as there are points. So each coefficient of the quotient is one sum of products.
-use Prim.Native.Nat.{ℕ, zero, suc, _+_, _≤_, _<_, zero-le, suc-le-suc}
+use Prim.Native.Nat.{ℕ, zero, suc, _+_, _<_, zero-le, suc-le-suc}
 use native.Mathlib.Nat
 use native.Mathlib.Nat.{suc-add, add-suc}
 use native.Mathlib.Omega.{arith}
 use mathlib.Core.Path.{_≡_, refl, sym, ap, ap₂, _∙_}
 use mathlib.Core.List.{List, [], _∷_, tail}
 use lib.ListN.{length, getD, drop}
-use Rattle.definition.specs.Field.{Field, fieldOf}
+use lib.Seq.{getD-drop}
+use Rattle.definition.specs.Field.{Field}
 use Rattle.definition.specs.Polynomial.{horner, divide, quotient}
+use Rattle.list_laws.specs.Lists.{tail-drop}
 use Rattle.algebra.specs.Laws.{FieldLaws}
-use Rattle.algebra.specs.PrimeField.{laws}
 use Rattle.algebra.specs.RingLaws.{zero-add, zero-mul}
 use Rattle.algebra.specs.Solver.{:0, :1, _:+_, _:-_, _:*_, :-_, _:=_, solve₁, solve₂, solve₃, solve₆}
 use Rattle.sums.specs.Sums.{products}
 use Rattle.sums.specs.ZeroPadding.{ZeroFrom}
-
-drop-getD : {A : Type 0} (d : A) (j i : ℕ) (l : List A) → getD (drop j l) i d ≡ getD l (j + i) d
-drop-getD d zero i l = ap (λ (n : ℕ). getD l n d) (sym (Nat.zero-add i))
-drop-getD d (suc j) i [] = refl
-drop-getD d (suc j) i (x ∷ l) = drop-getD d j i l ∙ ap (λ (n : ℕ). getD (x ∷ l) n d) (sym (suc-add j i))
-
-tail-drop : {A : Type 0} (j : ℕ) (l : List A) → tail (drop j l) ≡ drop (suc j) l
-tail-drop zero [] = refl
-tail-drop zero (x ∷ l) = refl
-tail-drop (suc j) [] = refl
-tail-drop (suc j) (x ∷ l) = tail-drop j l
 
 tail-getD : {A : Type 0} (d : A) (i : ℕ) (l : List A) → getD (tail l) i d ≡ getD l (suc i) d
 tail-getD d i [] = refl
@@ -60,7 +50,7 @@ module _ {A : Type 0} (F : Field A) (L : FieldLaws F) where
   products-zeros (a ∷ w) (x ∷ l) h =
       ap₂ (λ (b s : A). b ⊗ x ⊕ s) (h zero zero-le) (products-zeros w l (λ m u. h (suc m) zero-le)) ∙ solve₁ F L (λ x. :0 :* x :+ :0 := :0) tt x
 
-  -- noughts behind the coefficients may be left out
+  -- zeros behind the coefficients may be left out
   pub products-front : (v w l : List A) → ((m : ℕ) → getD w m 𝟘 ≡ getD v m 𝟘) → products F w l ≡ products F v l
   unfolding products
   products-front [] w l h = products-zeros w l (λ m u. h m)
@@ -120,7 +110,7 @@ module _ {A : Type 0} (F : Field A) (L : FieldLaws F) where
   pub sums-none : (w : List A) → getD w 0 𝟘 ≡ 𝟙 → ZeroFrom F w 1 → QuotientSums [] w
   unfolding quotient
   sums-none w e h f j =
-      products-one w (drop j f) e h ∙ ap reduce (drop-getD 𝟘 j 0 f ∙ ap (λ (n : ℕ). getD f n 𝟘) (Nat.add-zero j ∙ sym (Nat.zero-add j)))
+      products-one w (drop j f) e h ∙ ap reduce (getD-drop j f 0 𝟘 ∙ ap (λ (n : ℕ). getD f n 𝟘) (Nat.add-zero j ∙ sym (Nat.zero-add j)))
 
   pub sums-next : (a : A) (xs w r : List A) → length r ≡ length w → ZeroFrom F (𝟘 ∷ w) (length w) →
       ((m : ℕ) → m < length w → getD r m 𝟘 ≡ getD w m 𝟘 ⊕ (𝟘 ⊖ a) ⊗ getD (𝟘 ∷ w) m 𝟘) → QuotientSums xs w → QuotientSums (a ∷ xs) r
@@ -146,14 +136,14 @@ module _ {A : Type 0} (F : Field A) (L : FieldLaws F) where
       sym (quotient-reduced f xs j some) ∙ solve₂ F L (λ c s. c := :1 :* c :+ s :- s) tt c s ∙ ap (λ (u : A). u ⊖ s) (sum ∙ sym (add-zero _))
       ∙ solve₂ F L (λ u s. u :+ :0 :- s := u :- s) tt (getD f (length xs + j) 𝟘) s
 
--- w begins with 1, has noughts from behind the last of its coefficients on, and its sums with the quotient by the points are the dividend's coefficients
-pub record Dividing (field : ℕ) (xs w : List ℕ) : Type 0 where
-  pub one : getD w 0 0 ≡ 1
-  pub few : ZeroFrom (fieldOf field) w (suc (length xs))
-  pub sums : QuotientSums (fieldOf field) (laws field) xs w
+  -- w begins with 1, has zeros from behind the last of its coefficients on, and its sums with the quotient by the points are the dividend's coefficients
+  pub record Dividing (xs w : List A) : Type 0 where
+    pub one : getD w 0 𝟘 ≡ 𝟙
+    pub few : ZeroFrom F w (suc (length xs))
+    pub sums : QuotientSums xs w
 
--- v are such coefficients but for the first
-pub record Divides (field : ℕ) (xs v : List ℕ) : Type 0 where
-  pub some : 0 < length xs
-  pub many : length v ≡ length xs
-  pub sums : QuotientSums (fieldOf field) (laws field) xs (1 ∷ v)
+  -- v are such coefficients but for the first
+  pub record Divides (xs v : List A) : Type 0 where
+    pub some : 0 < length xs
+    pub many : length v ≡ length xs
+    pub sums : QuotientSums xs (𝟙 ∷ v)

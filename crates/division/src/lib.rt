@@ -7,7 +7,8 @@ ghost use Prim.Native.Nat.{ℕ, suc, _+_, _-_, _≤_, _<_};
 ghost use lib.ListN.{length, take, drop, getD};
 ghost use Rattle.definition.specs.Field.{Field, fieldOf};
 ghost use Rattle.definition.specs.Polynomial.{quotient};
-ghost use Rattle.domain.specs.Filled.{Filled};
+ghost use Rattle.algebra.specs.PrimeField.{laws};
+ghost use Rattle.list_laws.specs.Filled.{Filled};
 ghost use Rattle.sums.specs.Sums.{products};
 ghost use Rattle.division.specs.LongDivision.{Dividing, Divides};
 
@@ -29,8 +30,8 @@ fn raise(field: u32, d: u32, count: usize, w: &mut [u32])
 // 1 - aX times for each point from number `from` on.
 fn raise_each(field: u32, xs: &[u32], from: usize, w: &mut [u32])
     requires { ⌜ (from ≤ length (now xs)) × (length (now xs) - from < length (now w)) ⌝ }
-    requires { ⌜ Dividing field [] (now w) ⌝ }
-    ensures { λ _. ⌜ Dividing field (drop from (now (xs .entry))) (now (w .exit)) ⌝ }
+    requires { ⌜ Dividing (fieldOf field) (laws field) [] (now w) ⌝ }
+    ensures { λ _. ⌜ Dividing (fieldOf field) (laws field) (drop from (now (xs .entry))) (now (w .exit)) ⌝ }
 {
     let mut i = xs.len();
     while from < i {
@@ -40,10 +41,10 @@ fn raise_each(field: u32, xs: &[u32], from: usize, w: &mut [u32])
     }
 }
 
-// The coefficients of the product of 1 - aX over the points from number `from` on, and noughts behind them. The powers of 0 are 1 and then noughts.
+// The coefficients of the product of 1 - aX over the points from number `from` on, and zeros behind them. The powers of 0 are 1 and then zeros.
 fn factors(field: u32, xs: &[u32], from: usize, w: &mut [u32])
     requires { ⌜ (from ≤ length (now xs)) × (length (now xs) - from < length (now w)) ⌝ }
-    ensures { λ _. ⌜ Dividing field (drop from (now (xs .entry))) (now (w .exit)) ⌝ }
+    ensures { λ _. ⌜ Dividing (fieldOf field) (laws field) (drop from (now (xs .entry))) (now (w .exit)) ⌝ }
 {
     sums::powers(field, 0, w);
     raise_each(field, xs, from, w);
@@ -64,7 +65,7 @@ fn behind(field: u32, w: &[u32], f: &[u32], i: usize, count: usize) -> u32
 // The quotient by as many points as w has words, in place, from the last coefficient to the first: it stands where the dividend's coefficients stood.
 fn by_sums(field: u32, w: &[u32], f: &mut [u32], count: usize)
     requires { ⌜ (length (now w) ≤ count) × ((count ≤ length (now f)) × (length (now w) ≤ 66)) ⌝ }
-    ensures { λ _. ⌜ ((xs : List ℕ) → Divides field xs (now (w .entry)) → take (count - length (now (w .entry))) (drop (length (now (w .entry))) (now (f .exit))) ≡ quotient (fieldOf field) (take count (now (f .entry))) xs) ⌝ }
+    ensures { λ _. ⌜ ((xs : List ℕ) → Divides (fieldOf field) (laws field) xs (now (w .entry)) → take (count - length (now (w .entry))) (drop (length (now (w .entry))) (now (f .exit))) ≡ quotient (fieldOf field) (take count (now (f .entry))) xs) ⌝ }
 {
     let mut i = count;
     while w.len() < i {

@@ -1,5 +1,5 @@
 -- Words and coins that lie in a domain: the first of a run of words, and the first out coin among words by their kinds, run by run.
-use Prim.Native.Nat.{ℕ, zero, suc, _+_, _/_, _^_, _≤_, _<_}
+use Prim.Native.Nat.{ℕ, zero, suc, _+_, _/_, _^_, _≤_}
 use native.Mathlib.Omega.{arith}
 use mathlib.Core.Path.{_≡_, refl, ap, _∙_}
 use mathlib.Core.Bool.{Bool, true, false, cond}
@@ -7,8 +7,7 @@ use mathlib.Core.List.{List, [], _∷_, _++_, zipWith}
 use mathlib.Core.Option.{Option, none, some}
 use lib.ListN.{length, getD, drop, replicate}
 use lib.Seq.{drop-cons}
-use Rattle.algebra.specs.ListFacts.{All}
-use Rattle.completeness.specs.ListLaws.{all-replicate}
+use Rattle.list_laws.specs.All.{All, all-replicate}
 use Rattle.definition.specs.Deciding.{outInDomain}
 use Rattle.definition.specs.Domain.{inDomain}
 use Rattle.definition.specs.Field.{fieldOf, primeField}
@@ -28,27 +27,20 @@ FirstInside w pw scale at count v =
     (field ω : ℕ) (l : Level) → Powers field ω pw → 2 ^ l .number ≡ scale → l .size ≡ length pw / scale → v ≡ firstInside field ω l w at count
 
 -- words of kinds that no test is true of, n in number
-pub quiet : (t : Kind → ℕ → Bool) (ks ks′ : List Kind) (w : List ℕ) (at n : ℕ) → length ks ≡ n → All (λ k. (x : ℕ) → t k x ≡ false) ks → at + n ≤ length w →
+pub passed-over : (t : Kind → ℕ → Bool) (ks ks′ : List Kind) (w : List ℕ) (at n : ℕ) → length ks ≡ n → All (λ k. (x : ℕ) → t k x ≡ false) ks → at + n ≤ length w →
     firstTrue at (zipWith t (ks ++ ks′) (drop at w)) ≡ firstTrue (at + n) (zipWith t ks′ (drop (at + n) w))
 unfolding zipWith firstTrue
-quiet t [] ks′ w at n f h l = let e : at ≡ at + n = omega arith in ap (λ (m : ℕ). firstTrue m (zipWith t ks′ (drop m w))) e
-quiet t (k ∷ ks) ks′ w at n f h l =
+passed-over t [] ks′ w at n f h l = let e : at ≡ at + n = omega arith in ap (λ (m : ℕ). firstTrue m (zipWith t ks′ (drop m w))) e
+passed-over t (k ∷ ks) ks′ w at n f h l =
     let e : suc at + length ks ≡ at + n = omega arith in
-    rw (drop-cons w at 0 (omega arith)) (rw (h .0 (getD w at 0)) (quiet t ks ks′ w (suc at) (length ks) refl (h .1) (omega arith)
+    rw (drop-cons w at 0 (omega arith)) (rw (h .0 (getD w at 0)) (passed-over t ks ks′ w (suc at) (length ks) refl (h .1) (omega arith)
     ∙ ap (λ (m : ℕ). firstTrue m (zipWith t ks′ (drop m w))) e))
 
-pub all-quiet : (t : Kind → ℕ → Bool) (ks : List Kind) (w : List ℕ) (at : ℕ) → All (λ k. (x : ℕ) → t k x ≡ false) ks → firstTrue at (zipWith t ks w) ≡ none
+pub all-passed-over : (t : Kind → ℕ → Bool) (ks : List Kind) (w : List ℕ) (at : ℕ) → All (λ k. (x : ℕ) → t k x ≡ false) ks → firstTrue at (zipWith t ks w) ≡ none
 unfolding zipWith firstTrue
-all-quiet t [] w at h = refl
-all-quiet t (k ∷ ks) [] at h = refl
-all-quiet t (k ∷ ks) (x ∷ w) at h = rw (h .0 x) (all-quiet t ks w (suc at) (h .1))
-
--- the first of some tests that is true has its number among theirs
-pub first-below : (from : ℕ) (bs : List Bool) (i : ℕ) → firstTrue from bs ≡ some i → i < from + length bs
-unfolding firstTrue
-first-below from [] i e = let z : _≡_ {A = ℕ} 0 1 = cc in absurd (omega arith)
-first-below from (true ∷ bs) i e = let z : from ≡ i = cc in omega arith
-first-below from (false ∷ bs) i e = omega (arith, first-below (suc from) bs i e)
+all-passed-over t [] w at h = refl
+all-passed-over t (k ∷ ks) [] at h = refl
+all-passed-over t (k ∷ ks) (x ∷ w) at h = rw (h .0 x) (all-passed-over t ks w (suc at) (h .1))
 
 -- the first place found, or else the next
 abbrev pub orElse : Option ℕ → Option ℕ → Option ℕ
@@ -75,14 +67,14 @@ outs-run h field f l ks′ w (suc count) at g =
     go false r = r ∙ ap (λ (n : ℕ). orElse (firstInside field (rootOfUnity h) l w (suc at) count) (firstTrue n (zipWith (outInDomain h) ks′ (drop n w)))) e
 
 module _ (h : Sheet) where
-  pub messages-quiet : (n : ℕ) → All (λ k. (x : ℕ) → outInDomain h k x ≡ false) (replicate n message)
+  pub messages-not-outs : (n : ℕ) → All (λ k. (x : ℕ) → outInDomain h k x ≡ false) (replicate n message)
   unfolding outInDomain
-  messages-quiet n = all-replicate (λ k. (x : ℕ) → outInDomain h k x ≡ false) n message (λ x. refl)
+  messages-not-outs n = all-replicate (λ k. (x : ℕ) → outInDomain h k x ≡ false) n message (λ x. refl)
 
-  pub indices-quiet : (n m : ℕ) → All (λ k. (x : ℕ) → outInDomain h k x ≡ false) (replicate n (index m))
+  pub indices-not-outs : (n m : ℕ) → All (λ k. (x : ℕ) → outInDomain h k x ≡ false) (replicate n (index m))
   unfolding outInDomain
-  indices-quiet n m = all-replicate (λ k. (x : ℕ) → outInDomain h k x ≡ false) n (index m) (λ x. refl)
+  indices-not-outs n m = all-replicate (λ k. (x : ℕ) → outInDomain h k x ≡ false) n (index m) (λ x. refl)
 
-  pub coin-quiet : (x : ℕ) → outInDomain h coin x ≡ false
+  pub coin-not-out : (x : ℕ) → outInDomain h coin x ≡ false
   unfolding outInDomain
-  coin-quiet x = refl
+  coin-not-out x = refl

@@ -69,7 +69,7 @@ pub fn few_points_room() -> [u32; 256]
 }
 
 // The points of domain 0, which are the powers of ω from the first on. The larger field reads them from a stored table, the smaller where it is enough.
-pub fn points(field: u32, size: usize, out: &mut [u32])
+fn points(field: u32, size: usize, out: &mut [u32])
     requires { ⌜ Fitting field size ⌝ }
     requires { ⌜ length (now out) ≡ size ⌝ }
     ensures { λ r. ⌜ Powers field (root field size) (now (out .exit)) ⌝ }

@@ -11,13 +11,13 @@ use Rattle.definition.specs.Field.{primeOf}
 use Rattle.definition.specs.Layout.{Kind, coin, coinKinds, index, layout, message, out}
 use Rattle.definition.specs.Load.{Drawn, drawKinds}
 use Rattle.definition.specs.Sheet.{Sheet, edition1, sheetOf, shiftCount}
-use Rattle.completeness.specs.CoinsAfter.{kinds-all, kinds-count, kinds-last, kinds-next, kindsAfter, later-count, laterKinds, outKinds}
-use Rattle.completeness.specs.Lawful.{lawful}
-use Rattle.completeness.specs.LevelsByNumber.{Paired}
-use Rattle.completeness.specs.Numbered.{levelOf, outsOf}
+use Rattle.layouts.specs.CoinsAfter.{kinds-all, kinds-count, kinds-last, kinds-next, kindsAfter, later-count, laterKinds, outKinds}
+use Rattle.layouts.specs.Lawful.{lawful}
+use Rattle.layouts.specs.LevelsByNumber.{Paired}
+use Rattle.layouts.specs.Levels.{levelOf, outCoinCount}
 use Rattle.generator.specs.Draws.{drawMany, indices-drawn, messages-drawn}
 use Rattle.draws.specs.AtLevel.{AtLevel, rounds-are, times-are}
-use Rattle.draws.specs.Kinds.{after-append, after-coin, after-later, drawn-both, drawn-length, one-coin, outAfter, two-coins}
+use Rattle.draws.proofs.KindsDrawn.{after-append, after-coin, after-later, drawn-both, drawn-length, one-coin, outAfter, two-coins}
 
 -- what is drawn and the generator as it then is, against what the definition draws
 abbrev pub Is : List ℕ → ℕ → Drawn (List ℕ) → Type 0
@@ -67,7 +67,7 @@ module _ {w pw : List ℕ} {i scale : ℕ} (a : AtLevel w pw i scale) (v : ℕ) 
       outAfter none (outKinds (sheetOf edition1 w) i ++ laterKinds (sheetOf edition1 w) i) words ≡ none
   round-closed more {words} first =
       let outs = outKinds h i in
-      let n = outsOf h in
+      let n = outCoinCount h in
       let t = levelOf h i .repetitions in
       let law = lawful edition1 w (omega (arith, a .long)) (a .passed) in
       let long : length words ≡ length (outs ++ laterKinds h i) = ap (λ (d : Drawn (List ℕ)). length (d .value)) first ∙ drawn-length h none (outs ++ laterKinds h i) v in
@@ -96,7 +96,7 @@ module _ {w pw : List ℕ} {i scale : ℕ} (a : AtLevel w pw i scale) (v : ℕ) 
       d ∙ (λ x. drawMany (el x) (et x) v) ∙ sym (indices-drawn h none c t v) ∙ ap (λ (ks : List Kind). drawKinds h none ks v) (sym k)
 
 -- before round i + 1, which has `count` of the n coins still to be drawn
-pub record Onward (w : List ℕ) (i n count : ℕ) : Type 0 where
+pub record ToNextLevel (w : List ℕ) (i n count : ℕ) : Type 0 where
   pub more : i < getD w 4 0
   pub within : count ≤ n
   pub left : n - count ≡ length (kindsAfter (sheetOf edition1 w) (i + 1))
@@ -104,10 +104,10 @@ pub record Onward (w : List ℕ) (i n count : ℕ) : Type 0 where
 pub not-last : (i m : ℕ) → i ≤ m → (i ≡ m → ⊥) → i < m
 not-last i m h e = omega arith
 
-pub onward : {w pw : List ℕ} {i scale n count : ℕ} → AtLevel w pw i scale → i < getD w 4 0 → n ≡ length (kindsAfter (sheetOf edition1 w) i) → count ≡ getD w 5 0 + 2 + getD w (6 + i) 0 →
-    Onward w i n count
+pub to-next-level : {w pw : List ℕ} {i scale n count : ℕ} → AtLevel w pw i scale → i < getD w 4 0 → n ≡ length (kindsAfter (sheetOf edition1 w) i) → count ≡ getD w 5 0 + 2 + getD w (6 + i) 0 →
+    ToNextLevel w i n count
 unfolding sheetOf
-onward {w} {i = i} a more en ec =
+to-next-level {w} {i = i} a more en ec =
     let c = kinds-count (sheetOf edition1 w) i (omega (arith, rounds-are a)) in
     record { more = more; within = omega (arith, c, times-are a); left = omega (arith, c, times-are a) }
 

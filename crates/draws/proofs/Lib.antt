@@ -1,1 +1,2 @@
+pub mod KindsDrawn
 pub mod Joins

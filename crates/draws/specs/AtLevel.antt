@@ -16,16 +16,15 @@ use Rattle.definition.specs.Load.{smallestAllowed}
 use Rattle.definition.specs.Reading.{sheetTest}
 use Rattle.definition.specs.Sheet.{Level, edition1, rootOfUnity, sheetOf, shiftCount}
 use Rattle.definition.specs.Verdict.{accepted}
-use Rattle.completeness.specs.EditionOne.{level-is}
-use Rattle.completeness.specs.Lawful.{lawful, rounds-word, times-word}
-use Rattle.completeness.specs.LevelSizes.{positive-sizes}
-use Rattle.completeness.specs.Numbered.{levelOf, roundsOf}
-use Rattle.completeness.specs.PlainSheet.{fold-one}
+use Rattle.layouts.specs.Lawful.{lawful, rounds-word, times-word}
+use Rattle.layouts.specs.LevelSizes.{positive-sizes}
+use Rattle.layouts.specs.Levels.{levelOf, roundsOf}
+use Rattle.layouts.specs.PlainSheet.{fold-one}
 use Rattle.completeness.specs.Premises.{smallest-second}
-use Rattle.completeness.specs.SheetLevels.{sized}
-use Rattle.completeness.specs.SheetRules.{first-fold, folding-large, front-words, rounds-most, small-repetitions}
+use Rattle.layouts.specs.SheetLevels.{level-is, sized}
+use Rattle.layouts.specs.SheetRules.{first-fold, folding-large, front-words, rounds-most, small-repetitions}
 use Rattle.domain.specs.Powers.{Powers}
-use Rattle.draws.specs.OutCoin.{Stands, Suits}
+use Rattle.draws.specs.OutCoin.{StandsFor, Suits}
 
 -- pw is the table of points, and scale is 2^i
 pub record AtLevel (w pw : List ℕ) (i scale : ℕ) : Type 0 where
@@ -99,7 +98,7 @@ module _ {w pw : List ℕ} {i scale : ℕ} (a : AtLevel w pw i scale) where
   }
 
   -- an out coin of the level, past level 0, is the definition's
-  pub suits : 0 < i → {before : ℕ} (o : Option ℕ) → Stands (sheetOf edition1 w) o before → Suits (getD w 0 0) pw scale before (sheetOf edition1 w) o (levelOf (sheetOf edition1 w) i)
+  pub suits : 0 < i → {before : ℕ} (o : Option ℕ) → StandsFor (sheetOf edition1 w) o before → Suits (getD w 0 0) pw scale before (sheetOf edition1 w) o (levelOf (sheetOf edition1 w) i)
   unfolding sheetOf
   suits some o stands = record {
     prime = refl;

@@ -1,3 +1,2 @@
 pub mod OutCoin
-pub mod Kinds
 pub mod AtLevel

@@ -2,10 +2,10 @@
 use Prim.Native.Nat.{ℕ, zero, suc, _/_, _%_, _^_, _<_}
 use native.Mathlib.Nat.{mod-lt}
 use native.Mathlib.Omega.{arith}
-use mathlib.Core.Bool.{Bool, true, false, cond, not, _||_}
+use mathlib.Core.Bool.{Bool, true, false, cond, not, _||_, Bool·not-not, or-false, or-true}
 use mathlib.Core.List.{List}
 use mathlib.Core.Option.{Option, none, some}
-use mathlib.Core.Path.{_≡_, refl, sym, ap, _∙_}
+use mathlib.Core.Path.{_≡_, sym, ap, _∙_}
 use lib.Dec.{eqb}
 use lib.ListN.{length}
 use borrow.Author.Tests.{eq-eqb, ne-eqb}
@@ -24,9 +24,9 @@ MayBe pw scale before x r =
     (field ω : ℕ) (l : Level) → Powers field ω pw → 2 ^ l .number ≡ scale → l .size ≡ length pw / scale → r ≡ not (inDomain (fieldOf field) ω l x || eqb x before)
 
 -- the word that stands for the out coin before: p, which no element is equal to, for none
-abbrev pub Stands : Sheet → Option ℕ → ℕ → Type 0
-Stands h none x = x ≡ h .prime
-Stands h (some y) x = x ≡ y
+abbrev pub StandsFor : Sheet → Option ℕ → ℕ → Type 0
+StandsFor h none x = x ≡ h .prime
+StandsFor h (some y) x = x ≡ y
 
 -- of level l of the sheet h, after an out coin or none: the field and the level are those of the table; the word before stands for the out coin; and the smallest
 -- element allowed after y is 1 where y is 0, else 0
@@ -35,7 +35,7 @@ pub record Suits (field : ℕ) (pw : List ℕ) (scale before : ℕ) (h : Sheet) 
   pub powers : Powers field (rootOfUnity h) pw
   pub number : 2 ^ l .number ≡ scale
   pub size : l .size ≡ length pw / scale
-  pub stands : Stands h o before
+  pub stands : StandsFor h o before
   pub smallest : (y : ℕ) → smallestAllowed h (some y) (out l) ≡ cond (eqb 0 y) 1 0
 
 -- d is the definition's draw of an out coin there
@@ -50,19 +50,11 @@ pub zero-after : (before : ℕ) → (before ≡ 0 → ⊥) → _≡_ {A = ℕ} 0
 zero-after before d = sym (ap (λ (b : Bool). cond b 1 0) (ne-eqb 0 before (λ e. d (sym e))))
 
 pub may-not : (pw : List ℕ) (scale before x : ℕ) → x ≡ before → MayBe pw scale before x false
-may-not pw scale before x e field ω l w n z = sym (ap (λ (b : Bool). not (inDomain (fieldOf field) ω l x || b)) (eq-eqb x before e) ∙ either (inDomain (fieldOf field) ω l x))
-  where
-    either : (b : Bool) → not (b || true) ≡ false
-    either true = refl
-    either false = refl
+may-not pw scale before x e field ω l w n z = sym (ap (λ (b : Bool). not (inDomain (fieldOf field) ω l x || b)) (eq-eqb x before e) ∙ ap not (or-true (inDomain (fieldOf field) ω l x)))
 
 pub may-be : (pw : List ℕ) (scale before x : ℕ) {inside : Bool} → (x ≡ before → ⊥) → Inside pw scale x inside → MayBe pw scale before x (not inside)
 may-be pw scale before x d test field ω l w n z =
-    ap not (test field ω l w n z ∙ sym (alone (inDomain (fieldOf field) ω l x)) ∙ ap (λ (b : Bool). inDomain (fieldOf field) ω l x || b) (sym (ne-eqb x before d)))
-  where
-    alone : (b : Bool) → (b || false) ≡ b
-    alone true = refl
-    alone false = refl
+    ap not (test field ω l w n z ∙ sym (or-false (inDomain (fieldOf field) ω l x)) ∙ ap (λ (b : Bool). inDomain (fieldOf field) ω l x || b) (sym (ne-eqb x before d)))
 
 module _ (field : ℕ) (pw : List ℕ) (scale before : ℕ) where
   -- so many draws are left, and what they give is what the whole gives
@@ -70,7 +62,7 @@ module _ (field : ℕ) (pw : List ℕ) (scale before : ℕ) where
   OutLeft v again generator = (h : Sheet) (o : Option ℕ) (l : Level) → Suits field pw scale before h o l → drawOut h o (out l) again generator ≡ drawOut h o (out l) 64 v
 
   -- the word before says whether an element repeats the out coin before it
-  same-word : (h : Sheet) (o : Option ℕ) (x : ℕ) → Stands h o before → x < h .prime → sameAs o x ≡ eqb x before
+  same-word : (h : Sheet) (o : Option ℕ) (x : ℕ) → StandsFor h o before → x < h .prime → sameAs o x ≡ eqb x before
   unfolding sameAs
   same-word h none x e l = sym (ne-eqb x before (λ q. omega (arith, e, q)))
   same-word h (some y) x e l = ap (eqb x) (sym e)
@@ -86,13 +78,9 @@ module _ (field : ℕ) (pw : List ℕ) (scale before : ℕ) where
     tested h o l s =
         let value : x ≡ step generator % h .prime = ap (λ (d : Drawn ℕ). d .value) drawn ∙ ap (λ (q : ℕ). step generator % q) (ep ∙ sym (s .prime)) in
         let below : step generator % h .prime < h .prime = mod-lt (step generator) (positive h (s .prime)) in
-        ap not (test field (rootOfUnity h) l (s .powers) (s .number) (s .size)) ∙ twice _
+        ap not (test field (rootOfUnity h) l (s .powers) (s .number) (s .size)) ∙ Bool·not-not _
         ∙ (λ i. inDomain (primeField (sym (s .prime) i)) (rootOfUnity h) l (value i) || eqb (value i) before)
         ∙ ap (λ (b : Bool). inDomain (primeField (h .prime)) (rootOfUnity h) l (step generator % h .prime) || b) (sym (same-word h o (step generator % h .prime) (s .stands) below))
-      where
-        twice : (b : Bool) → not (not b) ≡ b
-        twice true = refl
-        twice false = refl
 
     below-is : (h : Sheet) → h .prime ≡ primeOf field → _≡_ {A = Drawn ℕ} (record { value = x; next = next }) (drawBelow (h .prime) generator)
     below-is h e = drawn ∙ ap (λ (q : ℕ). drawBelow q generator) (ep ∙ sym e)

@@ -13,8 +13,8 @@ ghost use Rattle.definition.specs.Load.{drawKinds};
 ghost use Rattle.definition.specs.Reading.{sheetTest};
 ghost use Rattle.definition.specs.Sheet.{Sheet, edition1, sheetOf};
 ghost use Rattle.definition.specs.Verdict.{accepted};
-ghost use Rattle.completeness.specs.CoinsAfter.{kindsAfter, laterKinds, outKinds};
-ghost use Rattle.completeness.specs.Numbered.{levelOf};
+ghost use Rattle.layouts.specs.CoinsAfter.{kindsAfter, laterKinds, outKinds};
+ghost use Rattle.layouts.specs.Levels.{levelOf};
 ghost use Rattle.draws.specs.AtLevel.{AtLevel};
 ghost use Rattle.draws.specs.OutCoin.{MayBe, OutDrawn};
 

@@ -3,24 +3,17 @@ use Prim.Native.Nat.{ℕ, zero, suc, _+_, _/_, _<_}
 use native.Mathlib.Nat.{div-div-eq-div-mul, div-one}
 use native.Mathlib.Numerals.{add-one}
 use native.Mathlib.Omega.{arith}
-use mathlib.Core.List.{List, map}
+use mathlib.Core.List.{List}
 use mathlib.Core.Path.{_≡_, refl, sym, ap, _∙_}
 use lib.ListN.{length, getD, take, getD-replicate}
 use Rattle.definition.specs.Lists.{productOf, range}
 use Rattle.definition.specs.Sheet.{Edition, edition1, edition2, foldPlaces, foldWords, sheetLength}
-use Rattle.completeness.specs.LevelsByNumber.{product-next}
-use Rattle.completeness.specs.ListLaws.{getD-map}
-use Rattle.completeness.specs.SheetRules.{fold-count}
+use Rattle.layouts.specs.LevelsByNumber.{product-next}
+use Rattle.list_laws.specs.Lists.{getD-map, getD-range}
+use Rattle.layouts.specs.SheetRules.{fold-count}
 use Rattle.edition.specs.declared.Edition.the-variants.{One, Two}
 use Rattle.edition.specs.declared.Edition as code
 use Rattle.edition.specs.Meaning.{editionOf}
-
--- number i of those from one on
-range-at : (from n i : ℕ) → i < n → getD (range from n) i 0 ≡ from + i
-unfolding range
-range-at from zero i l = absurd (omega arith)
-range-at from (suc n) zero l = omega arith
-range-at from (suc n) (suc i) l = range-at (suc from) n i (omega arith) ∙ (let e : suc from + i ≡ from + suc i = omega arith in e)
 
 -- the word of k_i
 abbrev pub Place : Edition → ℕ → ℕ → Type 0
@@ -38,7 +31,7 @@ one-place e i q l = rw q (omega arith, sym (getD-replicate 6 i 3 0 l))
 later-place : (i : ℕ) → (i ≡ 0 → ⊥) → i < 6 → 11 + i ≡ getD (foldPlaces edition2) i 0
 unfolding foldPlaces
 later-place zero n l = absurd (n refl)
-later-place (suc i) n l = sym (range-at 12 5 i (omega arith) ∙ (let e : 12 + i ≡ 11 + suc i = omega arith in e))
+later-place (suc i) n l = sym (getD-range 12 5 i (omega arith) ∙ (let e : 12 + i ≡ 11 + suc i = omega arith in e))
 
 pub two-place : (e : code.Edition) (i : ℕ) → e ≡ Two → (i ≡ 0 → ⊥) → i < 6 → Place (editionOf e) i (11 + i)
 unfolding editionOf

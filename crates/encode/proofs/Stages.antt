@@ -13,8 +13,8 @@ use Rattle.definition.specs.Reading.{sheetTest}
 use Rattle.definition.specs.Sheet.{edition1, firstLevel, rootOfUnity, sheetOf}
 use Rattle.definition.specs.Verdict as definition
 use Rattle.definition.specs.Verdict.{_then_}
-use Rattle.completeness.specs.Lawful.{lawful}
-use Rattle.completeness.specs.Tests.{equal-passes, if-passes, then-passes}
+use Rattle.layouts.specs.Lawful.{lawful}
+use Rattle.layouts.specs.Tests.{equal-passes, if-passes, then-passes}
 use Rattle.domain.specs.Powers.{Powers}
 use Rattle.outcome.specs.declared.Outcome.{Outcome}
 use Rattle.outcome.specs.declared.Outcome.the-variants.{Accepted, Refused}

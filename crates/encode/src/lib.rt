@@ -34,7 +34,7 @@ pub fn encode(sheet: &[u32], coefficients: &[u32], output: &mut [u32]) -> Answer
     ensures { λ r. ⌜ answerOf r ≡ encode (now (sheet .entry)) (now (coefficients .entry)) (now (output .entry)) .answer ⌝ }
     ensures { λ r. ⌜ now (output .exit) ≡ encode (now (sheet .entry)) (now (coefficients .entry)) (now (output .entry)) .output ⌝ }
 {
-    let tests = orders::encode_tests(sheet, coefficients, output.len());
+    let tests = input_tests::encode_tests(sheet, coefficients, output.len());
     if let Outcome::Refused(number, place) = tests {
         return Answer::Refusal(number, place);
     }

@@ -8,7 +8,7 @@ use mathlib.Core.Bool.{cond}
 use mathlib.Core.Option.{Option, none, some}
 use borrow.Author.Tests.{lt-ltb, le-ltb, eq-eqb, ne-eqb}
 use lib.Dec.{eqb, lit<}
-use Rattle.definition.specs.Field.{Field, binaryDigits, powerMod, primeField, power, knownField, primeOf, fieldOf, FieldAnswer, element, noField, inField, powered, inNoField, answerFound, unknownField, sum, difference, product, powerOf, powerTurnsOf, inverseOf}
+use Rattle.definition.specs.Field.{binaryDigits, powerMod, primeField, power, knownField, primeOf, fieldOf, FieldAnswer, element, noField, inField, powered, inNoField, answerFound, unknownField, sum, difference, product, powerOf, powerTurnsOf, inverseOf}
 use Rattle.algebra.specs.ModularArithmetic.{mod-mul, mul-mod, pow-mod, power-is}
 use Rattle.algebra.specs.PowerBySquaring.{powerMod-is}
 

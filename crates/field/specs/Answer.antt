@@ -11,9 +11,9 @@ use Rattle.field.specs.declared.Inversion.the-variants as inversion
 use Rattle.field.specs.declared.Inverted.{Inverted}
 use Rattle.field.specs.declared.Inverted.the-variants as inverted
 
-abbrev pub answerOf : Element → FieldAnswer
-answerOf (Value x) = element x
-answerOf NoField = noField
+abbrev pub elementOf : Element → FieldAnswer
+elementOf (Value x) = element x
+elementOf NoField = noField
 
 abbrev pub poweredOf : PowerTurns → PowerAnswer
 poweredOf (power-turns.Value x turns) = powered x turns

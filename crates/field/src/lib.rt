@@ -4,7 +4,7 @@
 ghost use mathlib.Core.Path.{_≡_};
 ghost use Prim.Native.Nat.{_%_};
 ghost use Rattle.definition.specs.Field.{Field, primeOf, fieldOf, power, binaryDigits, inField, sum, difference, product, powerOf, powerTurnsOf, inverseOf};
-ghost use Rattle.field.specs.Answer.{answerOf, poweredOf, inversionOf, invertedOf};
+ghost use Rattle.field.specs.Answer.{elementOf, poweredOf, inversionOf, invertedOf};
 
 // A multiple of all three primes that is above every word: added before a word is taken away, it keeps a difference from going below zero.
 const ABOVE: u64 = 17 * 65537 * 2013265921;
@@ -121,7 +121,7 @@ pub enum Element {
 
 // The element x, if the number names a field.
 fn answer(field: u32, x: u32) -> Element
-    ensures { λ r. ⌜ answerOf r ≡ inField field x ⌝ }
+    ensures { λ r. ⌜ elementOf r ≡ inField field x ⌝ }
 {
     if field < 3 {
         Element::Value(x)
@@ -132,28 +132,28 @@ fn answer(field: u32, x: u32) -> Element
 
 // The sum of two words, each taken modulo the prime.
 pub fn sum(field: u32, a: u32, b: u32) -> Element
-    ensures { λ r. ⌜ answerOf r ≡ sum field a b ⌝ }
+    ensures { λ r. ⌜ elementOf r ≡ sum field a b ⌝ }
 {
     answer(field, add(field, a, b))
 }
 
 // The difference of two words, each taken modulo the prime.
 pub fn difference(field: u32, a: u32, b: u32) -> Element
-    ensures { λ r. ⌜ answerOf r ≡ difference field a b ⌝ }
+    ensures { λ r. ⌜ elementOf r ≡ difference field a b ⌝ }
 {
     answer(field, sub(field, a, b))
 }
 
 // The product of two words, each taken modulo the prime.
 pub fn product(field: u32, a: u32, b: u32) -> Element
-    ensures { λ r. ⌜ answerOf r ≡ product field a b ⌝ }
+    ensures { λ r. ⌜ elementOf r ≡ product field a b ⌝ }
 {
     answer(field, mul(field, a, b))
 }
 
 // The power of a word taken modulo the prime; the exponent is any word as it is.
 pub fn power(field: u32, a: u32, exponent: u32) -> Element
-    ensures { λ r. ⌜ answerOf r ≡ powerOf field a exponent ⌝ }
+    ensures { λ r. ⌜ elementOf r ≡ powerOf field a exponent ⌝ }
 {
     answer(field, pow(field, a, exponent))
 }

@@ -7,13 +7,13 @@ use outcome::Answer;
 
 // Proves an order, given as words: a sheet of the edition, the coefficients and the coins, one after the other. Of a longer input the first 16,384 bytes are
 // read; no order that is done is so long.
-pub fn prove_order(e: Edition) {
+pub fn prove_input(e: Edition) {
     let mut bytes = [0u8; 16384];
     let n = io::read_full(STDIN_FILENO, &mut bytes);
     let mut output = [0u8; 34304];
     let answer = match e {
-        Edition::One => intake::prove_input(&bytes[..n], &mut output),
-        Edition::Two => intake::prove_input_2(&bytes[..n], &mut output),
+        Edition::One => prove_bytes::prove_input(&bytes[..n], &mut output),
+        Edition::Two => prove_bytes::prove_input_2(&bytes[..n], &mut output),
     };
     deliver(answer, &output);
 }

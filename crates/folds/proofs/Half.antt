@@ -2,10 +2,11 @@
 use Prim.Native.Nat.{ℕ, zero, suc, _+_, _/_}
 use mathlib.Core.Path.{_≡_, refl}
 use mathlib.Core.Option.{some}
-use Rattle.definition.specs.Field.{Field, fieldOf, primeField, primeOf, digitsWithin, binaryDigits, squaring, powerMod}
+use Rattle.definition.specs.Field.{fieldOf, primeField, primeOf, digitsWithin, binaryDigits, squaring, powerMod}
+use Rattle.folds.specs.OneHalf.{two}
 
-pub half-found : (field : ℕ) → some (primeOf field / 2 + 1) ≡ fieldOf field .inverse 2
-unfolding primeOf fieldOf primeField digitsWithin binaryDigits squaring powerMod
+pub half-found : (field : ℕ) → some (primeOf field / 2 + 1) ≡ fieldOf field .inverse (two (fieldOf field))
+unfolding two primeOf fieldOf primeField digitsWithin binaryDigits squaring powerMod
 half-found zero = refl
 half-found (suc zero) = refl
 half-found (suc (suc field)) = refl

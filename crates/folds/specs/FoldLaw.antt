@@ -4,7 +4,7 @@ use native.Mathlib.Nat
 use native.Mathlib.Nat.{le-of-eq, pow-suc}
 use native.Mathlib.Omega.{arith}
 use mathlib.Core.Path.{_≡_, sym, ap, _∙_, subst}
-use mathlib.Core.List.{List, map}
+use mathlib.Core.List.{List, map, map-map}
 use lib.ListN.{length-map}
 use Rattle.definition.specs.Lists.{range}
 use Rattle.definition.specs.Field.{Field, power}
@@ -12,14 +12,14 @@ use Rattle.definition.specs.Sheet.{Level, shiftCount}
 use Rattle.definition.specs.Polynomial.{Sample, points, evaluate, interpolate}
 use Rattle.definition.specs.Domain.{point, rootNumbers, foldAt}
 use Rattle.algebra.specs.Laws.{FieldLaws}
-use Rattle.algebra.specs.ListFacts.{all-in-map, map-map}
+use Rattle.list_laws.specs.All.{all-at, all-in-map}
 use Rattle.algebra.specs.RingLaws.{power-add}
 use Rattle.algebra.specs.RootsOfUnity.{minusOne, power-mul, powers-differ}
 use Rattle.algebra.specs.Different.{Apart, Differ, apart-range}
 use Rattle.algebra.specs.Lengths.{length-interpolate}
 use Rattle.algebra.specs.Interpolation.{interpolate-through}
 use Rattle.algebra.specs.Solver.{:0, :1, _:-_, _:*_, :-_, _:=_, given, solve₄}
-use Rattle.completeness.specs.ListLaws.{all-at, range-length}
+use Rattle.list_laws.specs.Lists.{range-length}
 use Rattle.folds.specs.Halving.{halving}
 use Rattle.folds.specs.HalvingLaw.{halving-is}
 

@@ -1,26 +1,37 @@
 -- Half of 1 in a field.
-use Prim.Native.Nat.{ℕ, _*_, _%_}
-use native.Mathlib.Nat.{mod-eq-of-lt}
-use native.Mathlib.Omega.{arith}
-use mathlib.Core.Path.{_≡_, _∙_, sym, ap}
+use mathlib.Core.Path.{_≡_, _∙_, sym}
 use mathlib.Core.Option.{some}
-use Rattle.definition.specs.Field.{Field, primeField, primeOf, fieldOf, reciprocal}
-use Rattle.algebra.specs.PrimeField.{laws, suited}
-use Rattle.polynomial.specs.Inverses.{Nonzero, found-is}
+use Rattle.definition.specs.Field.{Field, reciprocal}
+use Rattle.algebra.specs.Laws.{FieldLaws}
+use Rattle.algebra.specs.Divisors.{Nonzero}
+use Rattle.algebra.specs.RootsOfUnity.{minusOne}
+use Rattle.polynomial.specs.Inverses.{found-is}
+use Rattle.algebra.specs.Solver.{:0, :1, _:+_, :-_, _:=_, given, solve₁}
 
--- 1/2
-unfoldable pub halfOf : ℕ → ℕ
-halfOf field = reciprocal (fieldOf field) 2
+module _ {A : Type 0} (F : Field A) where
+  infixl 65 _⊕_
+  infixl 70 _⊗_
+  open Field F using (𝟙, _⊕_, _⊗_, inverse)
 
--- 2 differs from 0, and twice 1/2 is 1
-pub two-nonzero : (field : ℕ) → Nonzero field 2
-unfolding fieldOf primeField
-two-nonzero field z = let e : _≡_ {A = ℕ} 2 0 = sym (mod-eq-of-lt (suited field .large)) ∙ laws field .mul-one 2 ∙ z in omega arith
+  -- 2 and 1/2
+  unfoldable pub two : A
+  two = 𝟙 ⊕ 𝟙
 
-pub half-is : (field : ℕ) {u : ℕ} → some u ≡ fieldOf field .inverse 2 → u ≡ halfOf field
-unfolding halfOf
-half-is field e = found-is field 2 (two-nonzero field) e
+  unfoldable pub halfOf : A
+  halfOf = reciprocal F two
 
-pub two-halves : (field : ℕ) → fieldOf field ._⊗_ (fieldOf field ._⊕_ (fieldOf field .𝟙) (fieldOf field .𝟙)) (halfOf field) ≡ fieldOf field .𝟙
-unfolding fieldOf primeField halfOf
-two-halves field = ap (λ (x : ℕ). x * reciprocal (fieldOf field) 2 % primeOf field) (mod-eq-of-lt (suited field .large)) ∙ laws field .mul-inverse 2 (two-nonzero field)
+  module _ (L : FieldLaws F) (signs : minusOne F ≡ 𝟙 → ⊥) where
+    open FieldLaws L using (reduce-add, mul-inverse)
+
+    -- 2 differs from 0 where -1 differs from 1, and twice 1/2 is 1
+    pub two-nonzero : Nonzero F L two
+    unfolding two minusOne
+    two-nonzero z = signs (solve₁ F L (λ x. given (:1 :+ :1) :0 (:- :1) (:- :1 := :1)) tt 𝟙 (sym (reduce-add 𝟙 𝟙) ∙ z))
+
+    pub half-is : {u : A} → some u ≡ inverse two → u ≡ halfOf
+    unfolding halfOf
+    half-is e = found-is F L two two-nonzero e
+
+    pub two-halves : (𝟙 ⊕ 𝟙) ⊗ halfOf ≡ 𝟙
+    unfolding two halfOf
+    two-halves = mul-inverse two two-nonzero

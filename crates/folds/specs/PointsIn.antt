@@ -8,10 +8,10 @@ use lib.ListN.{length, getD}
 use Rattle.definition.specs.Field.{Field, primeField, primeOf, fieldOf, power}
 use Rattle.definition.specs.Sheet.{Level}
 use Rattle.definition.specs.Domain.{point, shiftPoint}
+use Rattle.algebra.specs.Laws.{FieldLaws}
 use Rattle.algebra.specs.RingLaws.{power-add}
 use Rattle.algebra.specs.RootsOfUnity.{minusOne, power-mul}
-use Rattle.algebra.specs.PrimeField.{laws}
-use Rattle.domain.specs.Powers.{Powers}
+use Rattle.domain.specs.Powers.{PowersOver, Powers}
 use Rattle.domain.specs.Roots.{around}
 use Rattle.domain.specs.Points.{point-at}
 
@@ -19,62 +19,68 @@ use Rattle.domain.specs.Points.{point-at}
 abbrev pub PowerTable : ℕ → List ℕ → Type 0
 PowerTable field pw = (ω : ℕ) × Powers field ω pw
 
--- point m of a domain: every scale-th word of the table
-unfoldable pub pointIn : List ℕ → ℕ → ℕ → ℕ
-pointIn pw scale m = getD pw (scale * m) 0
+-- z stands for what is read outside the table
+module _ {A : Type 0} (z : A) (pw : List A) where
+  -- point m of a domain: every scale-th element of the table
+  unfoldable pub pointIn : ℕ → ℕ → A
+  pointIn scale m = getD pw (scale * m) z
 
--- the k-th power of point j: the exponent 1 + scale·j becomes k + k·scale·j, and goes round
-unfoldable pub shiftIn : List ℕ → ℕ → ℕ → ℕ → ℕ
-shiftIn pw scale k j = getD pw ((k - 1 + k * (scale * j)) % length pw) 0
+  -- the k-th power of point j: the exponent 1 + scale·j becomes k + k·scale·j, and goes round
+  unfoldable pub shiftIn : ℕ → ℕ → ℕ → A
+  shiftIn scale k j = getD pw ((k - 1 + k * (scale * j)) % length pw) z
 
--- the inverse of ω^e: ω^(n - e mod n), where n powers make the round
-unfoldable pub backIn : List ℕ → ℕ → ℕ
-backIn pw e = getD pw (length pw - 1 - e % length pw) 0
+  -- the inverse of ω^e: ω^(n - e mod n), where n powers make the round
+  unfoldable pub inversePowerIn : ℕ → A
+  inversePowerIn e = getD pw (length pw - 1 - e % length pw) z
 
-pub back-power : {field ω : ℕ} {pw : List ℕ} → Powers field ω pw → 0 < length pw → (e : ℕ) → fieldOf field ._⊗_ (power (fieldOf field) ω e) (backIn pw e) ≡ fieldOf field .𝟙
-unfolding backIn
-back-power {field} {ω} {pw} w long e =
-    let F = fieldOf field in
-    let n = length pw in
-    let b = n - 1 - e % n in
-    let below = mod-lt e long in
-    let inside : b < n = omega arith in
-    let swapped : e + (1 + b) ≡ 1 + b + e = omega arith in
-    let whole : 1 + b + e % n ≡ n = omega arith in
-    ap (F ._⊗_ (power F ω e)) (w .entry b inside)
-    ∙ sym (power-add F (laws field) ω e (1 + b)) ∙ ap (power F ω) swapped
-    ∙ sym (around F (laws field) ω (1 + b) e n (w .round)) ∙ ap (power F ω) whole ∙ w .round
+module _ {A : Type 0} (F : Field A) (L : FieldLaws F) where
+  infixl 70 _⊗_
+  open Field F using (𝟘, 𝟙, _⊗_)
+
+  -- the exponent of the shift point, in the table
+  pub exponent-is : (ω : A) (n k e : ℕ) → power F ω n ≡ 𝟙 → power F ω ((k + k * e) % n) ≡ power F (power F ω (1 + e)) k
+  exponent-is ω n k e round =
+      let times : 0 + (k + k * e) ≡ (1 + e) * k = omega arith in
+      let none : (k + k * e) % n ≡ 0 + (k + k * e) % n = omega arith in
+      ap (power F ω) none ∙ around F L ω 0 (k + k * e) n round ∙ ap (power F ω) times ∙ sym (power-mul F L ω (1 + e) k)
+
+  module _ {ω : A} {pw : List A} (w : PowersOver F ω pw) where
+    pub inverse-power-is : 0 < length pw → (e : ℕ) → power F ω e ⊗ inversePowerIn 𝟘 pw e ≡ 𝟙
+    unfolding inversePowerIn
+    inverse-power-is long e =
+        let n = length pw in
+        let b = n - 1 - e % n in
+        let below = mod-lt e long in
+        let inside : b < n = omega arith in
+        let swapped : e + (1 + b) ≡ 1 + b + e = omega arith in
+        let whole : 1 + b + e % n ≡ n = omega arith in
+        ap (λ (v : A). power F ω e ⊗ v) (w .entry b inside)
+        ∙ sym (power-add F L ω e (1 + b)) ∙ ap (power F ω) swapped
+        ∙ sym (around F L ω (1 + b) e n (w .round)) ∙ ap (power F ω) whole ∙ w .round
+
+    pub shift-power : (scale k j : ℕ) → 0 < k → 0 < length pw → shiftIn 𝟘 pw scale k j ≡ power F (power F ω (1 + scale * j)) k
+    unfolding shiftIn
+    shift-power scale k j some long =
+        let e = k - 1 + k * (scale * j) in
+        let times : 1 + (k - 1 + k * (scale * j)) ≡ (1 + scale * j) * k = omega arith in
+        w .entry (e % length pw) (mod-lt e long) ∙ around F L ω 1 e (length pw) (w .round)
+        ∙ ap (power F ω) times ∙ sym (power-mul F L ω (1 + scale * j) k)
+
+-- the elements of the table are the definition's points and shift points
+module _ {A : Type 0} (F : Field A) {ω : A} {pw : List A} (w : PowersOver F ω pw) (b : Level) {scale : ℕ} (scaled : scale ≡ 2 ^ b .number) where
+  open Field F using (𝟘)
+
+  pub point-in : (m : ℕ) → scale * m < length pw → pointIn 𝟘 pw scale m ≡ point F ω b m
+  unfolding pointIn
+  point-in m l = point-at F ω b pw scale m w (sym scaled) l
+
+  pub shift-in : FieldLaws F → {k : ℕ} → k ≡ b .fold → (j : ℕ) → 0 < k → 0 < length pw → shiftIn 𝟘 pw scale k j ≡ shiftPoint F ω b j
+  unfolding shiftPoint point
+  shift-in L {k} folded j some long = shift-power F L w scale k j some long ∙ (λ i. power F (power F ω (1 + scaled i * j)) (folded i))
 
 -- v is the k-th power of ω^(1 + scale·j), for every ω that the table is of
 abbrev pub ShiftPoint : List ℕ → ℕ → ℕ → ℕ → ℕ → Type 0
 ShiftPoint pw scale k j v = (field ω : ℕ) → Powers field ω pw → v ≡ power (fieldOf field) (power (fieldOf field) ω (1 + scale * j)) k
-
-pub shift-power : (pw : List ℕ) (scale k j : ℕ) → 0 < k → 0 < length pw → ShiftPoint pw scale k j (shiftIn pw scale k j)
-unfolding shiftIn
-shift-power pw scale k j some long = λ field ω w.
-    let e = k - 1 + k * (scale * j) in
-    let times : 1 + (k - 1 + k * (scale * j)) ≡ (1 + scale * j) * k = omega arith in
-    w .entry (e % length pw) (mod-lt e long) ∙ around (fieldOf field) (laws field) ω 1 e (length pw) (w .round)
-    ∙ ap (power (fieldOf field) ω) times ∙ sym (power-mul (fieldOf field) (laws field) ω (1 + scale * j) k)
-
--- the exponent of the shift point, in the table
-pub exponent-is : (field ω n k e : ℕ) → power (fieldOf field) ω n ≡ fieldOf field .𝟙 → power (fieldOf field) ω ((k + k * e) % n) ≡ power (fieldOf field) (power (fieldOf field) ω (1 + e)) k
-exponent-is field ω n k e round =
-    let F = fieldOf field in
-    let times : 0 + (k + k * e) ≡ (1 + e) * k = omega arith in
-    let none : (k + k * e) % n ≡ 0 + (k + k * e) % n = omega arith in
-    ap (power F ω) none ∙ around F (laws field) ω 0 (k + k * e) n round ∙ ap (power F ω) times ∙ sym (power-mul F (laws field) ω (1 + e) k)
-
--- the words of the table are the definition's points and shift points
-module _ {field ω : ℕ} {pw : List ℕ} (w : Powers field ω pw) (b : Level) {scale : ℕ} (scaled : scale ≡ 2 ^ b .number) where
-  pub point-in : (m : ℕ) → scale * m < length pw → pointIn pw scale m ≡ point (fieldOf field) ω b m
-  unfolding pointIn
-  point-in m l = point-at field ω b pw scale m w (sym scaled) l
-
-  pub shift-in : {k : ℕ} → k ≡ b .fold → (j : ℕ) → 0 < k → 0 < length pw → shiftIn pw scale k j ≡ shiftPoint (fieldOf field) ω b j
-  unfolding shiftPoint point
-  shift-in {k} folded j some long =
-      shift-power pw scale k j some long field ω w ∙ (λ i. power (fieldOf field) (power (fieldOf field) ω (1 + scaled i * j)) (folded i))
 
 -- such a table: the four powers of 13 in the field of 17
 pub four-powers : Powers 0 13 (13 ∷ 16 ∷ 4 ∷ 1 ∷ [])

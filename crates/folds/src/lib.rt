@@ -11,8 +11,8 @@ ghost use lib.ListN.{length, getD};
 ghost use Rattle.definition.specs.Field.{Field, fieldOf};
 ghost use Rattle.field.specs.Answer.{inversionOf};
 ghost use Rattle.folds.specs.Halving.{joined, halving, exponentOf};
-ghost use Rattle.folds.specs.OneHalf.{halfOf};
-ghost use Rattle.folds.specs.PointsIn.{backIn, shiftIn, ShiftPoint};
+ghost use Rattle.folds.specs.OneHalf.{two, halfOf};
+ghost use Rattle.folds.specs.PointsIn.{inversePowerIn, shiftIn, ShiftPoint};
 
 // A word as an index.
 pub fn wide(x: u32) -> usize
@@ -24,16 +24,16 @@ pub fn wide(x: u32) -> usize
 // The shift point of index j, the k-th power of point j: its exponent is k times as large, and the table goes round.
 pub fn shift_point(pw: &[u32], scale: usize, j: usize, k: usize) -> u32
     requires { ⌜ (scale * j < length (now pw)) × ((length (now pw) ≤ 4096) × ((0 < k) × (k ≤ 16))) ⌝ }
-    ensures { λ v. ⌜ v ≡ shiftIn (now (pw .entry)) scale k j ⌝ }
+    ensures { λ v. ⌜ v ≡ shiftIn 0 (now (pw .entry)) scale k j ⌝ }
     ensures { λ v. ⌜ ShiftPoint (now (pw .entry)) scale k j v ⌝ }
 {
     pw[(k - 1 + k * (scale * j)) % pw.len()]
 }
 
 // The inverse of ω^e, which is a power of ω too.
-fn back(pw: &[u32], e: usize) -> u32
+fn inverse_power(pw: &[u32], e: usize) -> u32
     requires { ⌜ 0 < length (now pw) ⌝ }
-    ensures { λ v. ⌜ v ≡ backIn (now (pw .entry)) e ⌝ }
+    ensures { λ v. ⌜ v ≡ inversePowerIn 0 (now (pw .entry)) e ⌝ }
 {
     let n = pw.len();
     pw[n - 1 - e % n]
@@ -41,7 +41,7 @@ fn back(pw: &[u32], e: usize) -> u32
 
 // What the inversion of 2 answers: (p + 1)/2 is found, since p is odd, and no power is taken.
 fn invert_two(field: u32) -> Inversion
-    ensures { λ v. ⌜ inversionOf v ≡ fieldOf field .inverse 2 ⌝ }
+    ensures { λ v. ⌜ inversionOf v ≡ fieldOf field .inverse (two (fieldOf field)) ⌝ }
 {
     Inversion::Found(field::modulus(field) / 2 + 1)
 }
@@ -64,11 +64,11 @@ fn join(field: u32, half: u32, r: u32, y: u32, v: u32, w: u32) -> u32
 fn turn(field: u32, pw: &[u32], half: u32, e: usize, d: usize, r: u32, h: usize, values: &mut [u32])
     requires { ⌜ (0 < length (now pw)) × ((h + h ≤ length (now values)) × (length (now values) ≤ 16)) ⌝ }
     requires { ⌜ (e ≤ 65536) × (d ≤ 65536) ⌝ }
-    ensures { λ _. ⌜ ((m : ℕ) → m < h → getD (now (values .exit)) m 0 ≡ joined (fieldOf field) half r (backIn (now (pw .entry)) (e + m * d)) (getD (now (values .entry)) m 0) (getD (now (values .entry)) (h + m) 0)) ⌝ }
+    ensures { λ _. ⌜ ((m : ℕ) → m < h → getD (now (values .exit)) m 0 ≡ joined (fieldOf field) half r (inversePowerIn 0 (now (pw .entry)) (e + m * d)) (getD (now (values .entry)) m 0) (getD (now (values .entry)) (h + m) 0)) ⌝ }
 {
     let mut m = 0;
     while m < h {
-        let y = back(pw, e + m * d);
+        let y = inverse_power(pw, e + m * d);
         values[m] = join(field, half, r, y, values[m], values[h + m]);
         m += 1;
     }
@@ -78,7 +78,7 @@ fn turn(field: u32, pw: &[u32], half: u32, e: usize, d: usize, r: u32, h: usize,
 pub fn fold_values(field: u32, pw: &[u32], e: usize, d: usize, r: u32, values: &mut [u32]) -> u32
     requires { ⌜ (0 < length (now pw)) × ((e ≤ 4096) × (d ≤ 4096)) ⌝ }
     requires { ⌜ (length (now values) ≡ 2 ^ exponentOf (length (now values))) × (length (now values) ≤ 16) ⌝ }
-    ensures { λ v. ⌜ v ≡ halving (fieldOf field) (halfOf field) (backIn (now (pw .entry))) (exponentOf (length (now (values .entry)))) e d r (λ m. getD (now (values .entry)) m 0) ⌝ }
+    ensures { λ v. ⌜ v ≡ halving (fieldOf field) (halfOf (fieldOf field)) (inversePowerIn 0 (now (pw .entry))) (exponentOf (length (now (values .entry)))) e d r (λ m. getD (now (values .entry)) m 0) ⌝ }
 {
     let two = invert_two(field);
     let Inversion::Found(half) = two else {

@@ -1,101 +1,99 @@
 -- The values at the k roots of a shift point: by sums of products and a table by halves, corrected where there are samples. Assumes nothing.
 use Prim.Native.Nat.{ℕ, zero, suc, _+_, _-_, _*_, _/_, _≤_, _<_}
-use mathlib.Core.Path.{_≡_, refl, sym, ap, _∙_, subst}
+use mathlib.Core.Path.{_≡_, refl, sym, ap, _∙_}
 use mathlib.Core.List.{List, _∷_, _++_}
 use native.Mathlib.Nat.{le-of-eq, le-refl, mul-div-cancel-left, mul-le-mul, mul-le-mul-left, mul-le-mul-right, not-suc-le-zero, suc-mul}
 use native.Mathlib.Omega.{arith}
 use lib.ListN.{length, getD, take, drop, length-drop, List·getD-append}
 use lib.Seq.{getD-take, length-take-le, take-at, take-take}
-use Rattle.definition.specs.Field.{Field, primeField, fieldOf, foundOr, power, reciprocal}
+use Rattle.definition.specs.Field.{Field, foundOr, power, reciprocal}
 use Rattle.definition.specs.Polynomial.{evaluate, geometric}
 use Rattle.algebra.specs.Laws.{FieldLaws}
-use Rattle.algebra.specs.PrimeField.{laws}
 use Rattle.algebra.specs.Solver.{_:*_, _:=_, solve₃}
-use Rattle.domain.specs.Filled.{Filled}
-use Rattle.polynomial.specs.Inverses.{Nonzero}
+use Rattle.list_laws.specs.Filled.{FilledOver}
+use Rattle.algebra.specs.Divisors.{Nonzero}
 use Rattle.sums.specs.AtRoots.{everyNth, sums-at}
 use Rattle.sums.specs.Residues.{root-powers}
 use Rattle.sums.specs.Sums.{products}
-use Rattle.tables.specs.Halving.{Halves, Table}
-use Rattle.fractions.specs.declared.Function.{Function}
+use Rattle.tables.specs.Halving.{Halves}
+use Rattle.fractions.specs.declared.Oracle.{Oracle}
 use Rattle.folds.specs.PointsIn.{pointIn}
-use Rattle.fractions.specs.Fraction.{Fraction}
-use Rattle.fractions.specs.Values.{Clear, Fits, Rooted, ShiftPowers, correctedIn, numeratorIn, vanishingIn, growthIn, valueOf, valueIn, rootIn, first-point, folded, root-number, point-room}
+use Rattle.fractions.specs.Fraction.{FractionOver}
+use Rattle.fractions.specs.Values.{ClearOver, Fits, Rooted, correctedIn, numeratorIn, vanishingIn, growthIn, valueOf, valueIn, rootIn, folded, root-number, point-room}
 
 -- ---- a polynomial's values at the roots
 
-pub halves-same : {field : ℕ} {pw : List ℕ} {at step k : ℕ} {powers : List ℕ} → Rooted field pw at step k powers → (n m : ℕ) → n ≡ k → m ≡ k → Halves n m
+pub halves-same : {A : Type 0} {F : Field A} {pw : List A} {at step k : ℕ} {powers : List A} → Rooted F pw at step k powers → (n m : ℕ) → n ≡ k → m ≡ k → Halves n m
 halves-same r n m en em = record { log = r .log; logSize = r .log; count-is = en ∙ r .two; size-is = em ∙ r .two; fits = omega arith }
 
 -- every stride-th element of the front of a list, as far as it goes
-every-front : (F : Field ℕ) (f : List ℕ) (w from stride count : ℕ) → from + count * stride < w + stride → everyNth F (take w f) from stride count ≡ everyNth F f from stride count
+every-front : {A : Type 0} (F : Field A) (f : List A) (w from stride count : ℕ) → from + count * stride < w + stride → everyNth F (take w f) from stride count ≡ everyNth F f from stride count
 unfolding everyNth
 every-front F f w from stride zero h = refl
 every-front F f w from stride (suc count) h =
     let less : from + count * stride < w = omega (arith, suc-mul count stride) in
     λ i. getD-take w f from (F .𝟘) (omega arith) i ∷ every-front F f w (from + stride) stride count (omega arith) i
 
-module _ {field : ℕ} {pw : List ℕ} {at step k : ℕ} {powers : List ℕ} (r : Rooted field pw at step k powers) where
-  abbrev F : Field ℕ
-  F = fieldOf field
+module _ {A : Type 0} (F : Field A) (L : FieldLaws F) {pw : List A} {at step k : ℕ} {powers : List A} (r : Rooted F pw at step k powers) where
+  open Field F using (𝟘)
 
   -- where the sums are k and the table has their values, those of the first words of f
-  at-root : (f sums out : List ℕ) → k * length powers ≤ length f → length sums ≡ k →
-      ((m : ℕ) → m < k → getD sums m 0 ≡ products F (everyNth F f m k (length powers)) powers) → Table field sums pw at step k out →
-      (m : ℕ) → m < k → getD out m 0 ≡ evaluate F (take (k * length powers) f) (getD pw (at + step * m) 0)
-  unfolding fieldOf primeField
+  at-root : (f sums out : List A) → k * length powers ≤ length f → length sums ≡ k →
+      ((m : ℕ) → m < k → getD sums m 𝟘 ≡ products F (everyNth F f m k (length powers)) powers) → ((m : ℕ) → m < k → getD out m 𝟘 ≡ evaluate F sums (getD pw (at + step * m) 𝟘)) →
+      (m : ℕ) → m < k → getD out m 𝟘 ≡ evaluate F (take (k * length powers) f) (getD pw (at + step * m) 𝟘)
   at-root f sums out long size each table m l =
       let words = k * length powers in
       let n = length powers - 1 in
       let whole : length powers ≡ suc n = omega (arith, r .nonempty) in
       let few : length (take words f) ≤ suc n * k = omega (arith, length-take-le words f long, ap (λ (c : ℕ). k * c) whole) in
-      table (r .ω) (r .table) m l
-      ∙ sums-at F (laws field) (take words f) sums n k (getD pw (at + step * m) 0) (r .y) few size (r .root m l)
-      (λ i u. each i u ∙ ap (λ (t : List ℕ). products F t powers) (sym (every-front F f words i k (length powers) (omega arith)))
+      table m l
+      ∙ sums-at F L (take words f) sums n k (getD pw (at + step * m) 𝟘) (r .y) few size (r .root m l)
+      (λ i u. each i u ∙ ap (λ (t : List A). products F t powers) (sym (every-front F f words i k (length powers) (omega arith)))
       ∙ (λ j. products F (everyNth F (take words f) i k (whole j)) (r .list j)))
 
   -- by a part of a scratch array for the sums, into a part of a longer list
-  pub at-roots-is : (f room sums old front : List ℕ) → k * length powers ≤ length f → k ≤ length room → k ≤ length old → length sums ≡ length (take k room) →
-      ((m : ℕ) → m < length (take k room) → getD sums m 0 ≡ products F (everyNth F f m (length (take k room)) (length powers)) powers) →
-      length front ≡ length (take k old) → Table field (take k (sums ++ drop k room)) pw at step (length (take k old)) front →
-      (m : ℕ) → m < k → getD (front ++ drop k old) m 0 ≡ evaluate F (take (k * length powers) f) (getD pw (at + step * m) 0)
+  pub at-roots-is : (f room sums old front : List A) → k * length powers ≤ length f → k ≤ length room → k ≤ length old → length sums ≡ length (take k room) →
+      ((m : ℕ) → m < length (take k room) → getD sums m 𝟘 ≡ products F (everyNth F f m (length (take k room)) (length powers)) powers) →
+      length front ≡ length (take k old) →
+      ((m : ℕ) → m < length (take k old) → getD front m 𝟘 ≡ evaluate F (take k (sums ++ drop k room)) (getD pw (at + step * m) 𝟘)) →
+      (m : ℕ) → m < k → getD (front ++ drop k old) m 𝟘 ≡ evaluate F (take (k * length powers) f) (getD pw (at + step * m) 𝟘)
   at-roots-is f room sums old front long in-room in-old ls each lf table m l =
       let size-room : length (take k room) ≡ k = length-take-le k room in-room in
       let size-old : length (take k old) ≡ k = length-take-le k old in-old in
       let whole : take k (sums ++ drop k room) ≡ sums = take-at sums (drop k room) k (ls ∙ size-room) in
       let size : length front ≡ k = lf ∙ size-old in
-      List·getD-append front (drop k old) 0 m (omega arith)
+      List·getD-append front (drop k old) 𝟘 m (omega arith)
       ∙ at-root f sums front long (ls ∙ size-room)
       (λ m u. each m (omega (arith, size-room)) ∙ ap (λ (n : ℕ). products F (everyNth F f m n (length powers)) powers) size-room)
-      (subst (λ (n : ℕ). Table field sums pw at step n front) size-old (subst (λ (l : List ℕ). Table field l pw at step (length (take k old)) front) whole table)) m l
+      (λ m u. table m (omega (arith, size-old)) ∙ ap (λ (t : List A). evaluate F t (getD pw (at + step * m) 𝟘)) whole) m l
 
 -- ---- where the roots stand
 
-module _ {points n : ℕ} {how : Function} {k : ℕ} (fits : Fits points n how k) where
+module _ {points n : ℕ} {oracle : Oracle} {k : ℕ} (fits : Fits points n oracle k) where
   -- as many powers as columns
-  pub count-is : how .words / k ≡ fits .columns
+  pub count-is : oracle .words / k ≡ fits .columns
   count-is = ap (λ (m : ℕ). m / k) (fits .whole) ∙ mul-div-cancel-left (fits .columns) (omega (arith, folded fits))
 
-  pub count-few : how .words / k ≤ 33
+  pub count-few : oracle .words / k ≤ 33
   count-few = omega (arith, count-is, fits .whole, fits .used, mul-le-mul-right (fits .columns) (folded fits))
 
-  pub count-some : 0 < how .words → 0 < how .words / k
+  pub count-some : 0 < oracle .words → 0 < oracle .words / k
   count-some h = go (fits .columns) (fits .whole) count-is
     where
-      go : (c : ℕ) → how .words ≡ k * c → how .words / k ≡ c → 0 < how .words / k
+      go : (c : ℕ) → oracle .words ≡ k * c → oracle .words / k ≡ c → 0 < oracle .words / k
       go zero e d = absurd (omega arith)
       go (suc c) e d = omega arith
 
-  pub words-are : how .words ≡ k * (how .words / k)
+  pub words-are : oracle .words ≡ k * (oracle .words / k)
   words-are = fits .whole ∙ ap (λ (c : ℕ). k * c) (sym count-is)
 
-  pub roots-spaced : {j : ℕ} → j < how .step → (how .scale * j < how .scale * how .step) × (how .scale * how .step * k ≡ points)
+  pub roots-spaced : {j : ℕ} → j < oracle .step → (oracle .scale * j < oracle .scale * oracle .step) × (oracle .scale * oracle .step * k ≡ points)
   roots-spaced {j} l = (
-    (let less : how .scale * suc j ≤ how .scale * how .step = mul-le-mul-left (how .scale) l in omega (arith, less, fits .spaced)),
-    (let whole : how .scale * (k * how .step) ≡ how .scale * n = ap (λ (m : ℕ). how .scale * m) (fits .roots) in omega (arith, whole, fits .room)),
+    (let less : oracle .scale * suc j ≤ oracle .scale * oracle .step = mul-le-mul-left (oracle .scale) l in omega (arith, less, fits .spaced)),
+    (let whole : oracle .scale * (k * oracle .step) ≡ oracle .scale * n = ap (λ (m : ℕ). oracle .scale * m) (fits .roots) in omega (arith, whole, fits .room)),
   )
 
-  pub root-place : (j m : ℕ) → how .scale * (j + m * how .step) ≡ how .scale * j + how .scale * how .step * m
+  pub root-place : (j m : ℕ) → oracle .scale * (j + m * oracle .step) ≡ oracle .scale * j + oracle .scale * oracle .step * m
   root-place j m = omega arith
 
 -- the exponent of a shift point fits
@@ -105,10 +103,10 @@ exponent-fits e k l few small =
     let most : k * e ≤ 16 * 4096 = mul-le-mul small less in
     (omega arith, omega arith)
 
-pub rooted : (field : ℕ) (pw table vg : List ℕ) (how : Function) (k : ℕ) → Fits (length pw) (length table) how k → (clear : Clear field pw (length table) vg how) →
-    (j y : ℕ) (powers : List ℕ) → j < how .step → y ≡ power (fieldOf field) (power (fieldOf field) (clear .ω) (1 + how .scale * j)) k → 0 < how .words → length powers ≡ how .words / k →
-    powers ≡ geometric (fieldOf field) y (length powers - 1) → Rooted field pw (how .scale * j) (how .scale * how .step) k powers
-rooted field pw table vg how k fits clear j y powers l shift pos size list = record {
+pub rooted : {A : Type 0} (F : Field A) (L : FieldLaws F) (pw table vg : List A) (oracle : Oracle) (k : ℕ) → Fits (length pw) (length table) oracle k → (clear : ClearOver F L pw (length table) vg oracle) →
+    (j : ℕ) (y : A) (powers : List A) → j < oracle .step → y ≡ power F (power F (clear .ω) (1 + oracle .scale * j)) k → 0 < oracle .words → length powers ≡ oracle .words / k →
+    powers ≡ geometric F y (length powers - 1) → Rooted F pw (oracle .scale * j) (oracle .scale * oracle .step) k powers
+rooted {A} F L pw table vg oracle k fits clear j y powers l shift pos size list = record {
   ω = clear .ω;
   table = clear .powers;
   y = y;
@@ -122,122 +120,123 @@ rooted field pw table vg how k fits clear j y powers l shift pos size list = rec
   spaced = roots-spaced fits l;
 }
   where
-    root : (m : ℕ) → m < k → power (fieldOf field) (getD pw (how .scale * j + how .scale * how .step * m) 0) k ≡ y
+    root : (m : ℕ) → m < k → power F (getD pw (oracle .scale * j + oracle .scale * oracle .step * m) (F .𝟘)) k ≡ y
     root m u =
-        let F = fieldOf field in
         let ω = clear .ω in
-        let d = how .scale * how .step in
-        let e = 1 + how .scale * j in
+        let d = oracle .scale * oracle .step in
+        let e = 1 + oracle .scale * j in
         let place = root-place fits j m in
-        let inside : how .scale * j + d * m < length pw = omega (arith, place, point-room fits (j + m * how .step) (root-number fits l m u)) in
-        let next : 1 + (how .scale * j + d * m) ≡ e + m * d = omega arith in
+        let inside : oracle .scale * j + d * m < length pw = omega (arith, place, point-room fits (j + m * oracle .step) (root-number fits l m u)) in
+        let next : 1 + (oracle .scale * j + d * m) ≡ e + m * d = omega arith in
         let round : power F ω (d * k) ≡ F .𝟙 = ap (power F ω) (roots-spaced fits l .1) ∙ clear .powers .round in
-        ap (λ (x : ℕ). power F x k) (clear .powers .entry _ inside ∙ ap (power F ω) next)
-        ∙ root-powers F (laws field) ω e d k m round ∙ sym shift
+        ap (λ (x : A). power F x k) (clear .powers .entry _ inside ∙ ap (power F ω) next)
+        ∙ root-powers F L ω e d k m round ∙ sym shift
 
 -- the first words of their places, which were stored there
-pub front-whole : (count : ℕ) (room front : List ℕ) → count ≤ length room → length front ≡ length (take count room) →
+pub front-whole : {A : Type 0} (count : ℕ) (room front : List A) → count ≤ length room → length front ≡ length (take count room) →
     (take count (front ++ drop count room) ≡ front) × (length front ≡ count)
 front-whole count room front inside same =
     let long : length front ≡ count = same ∙ length-take-le count room inside in
     (take-at front (drop count room) count long, long)
 
 -- the powers of the shift point, in a part of their places
-pub rooted-part : (field : ℕ) (pw table vg : List ℕ) (how : Function) (k k′ : ℕ) → Fits (length pw) (length table) how k → Clear field pw (length table) vg how → (j : ℕ) (room front : List ℕ) →
-    j < how .step → 0 < how .words → length room ≡ 33 → length front ≡ length (take (how .words / k) room) → ShiftPowers pw (how .scale) k j front → k′ ≡ k →
-    Rooted field pw (how .scale * j) (how .scale * how .step) k′ (take (how .words / k) (front ++ drop (how .words / k) room))
-    × (how .words ≡ k′ * length (take (how .words / k) (front ++ drop (how .words / k) room)))
-rooted-part field pw table vg how k k′ fits clear j room front l pos places same list e =
-    let count = how .words / k in
+pub rooted-part : {A : Type 0} (F : Field A) (L : FieldLaws F) (pw table vg : List A) (oracle : Oracle) (k k′ : ℕ) → Fits (length pw) (length table) oracle k → (clear : ClearOver F L pw (length table) vg oracle) →
+    (j : ℕ) (room front : List A) → j < oracle .step → 0 < oracle .words → length room ≡ 33 → length front ≡ length (take (oracle .words / k) room) →
+    front ≡ geometric F (power F (power F (clear .ω) (1 + oracle .scale * j)) k) (length front - 1) → k′ ≡ k →
+    Rooted F pw (oracle .scale * j) (oracle .scale * oracle .step) k′ (take (oracle .words / k) (front ++ drop (oracle .words / k) room))
+    × (oracle .words ≡ k′ * length (take (oracle .words / k) (front ++ drop (oracle .words / k) room)))
+rooted-part F L pw table vg oracle k k′ fits clear j room front l pos places same list e =
+    let count = oracle .words / k in
     let w = front-whole count room front (omega (arith, count-few fits)) same in
-    let y = power (fieldOf field) (power (fieldOf field) (clear .ω) (1 + how .scale * j)) k in
-    let r = rooted field pw table vg how k fits clear j y front l refl pos (w .1) (list field (clear .ω) (clear .powers)) in
-    let whole : how .words ≡ k * length front = words-are fits ∙ ap (λ (n : ℕ). k * n) (sym (w .1)) in
+    let y = power F (power F (clear .ω) (1 + oracle .scale * j)) k in
+    let r = rooted F L pw table vg oracle k fits clear j y front l refl pos (w .1) list in
+    let whole : oracle .words ≡ k * length front = words-are fits ∙ ap (λ (n : ℕ). k * n) (sym (w .1)) in
     rw (e, w .0) (r, whole)
 
 -- V is 0 at no root
-pub roots-nonzero : (field : ℕ) (pw table vg : List ℕ) (how : Function) (k : ℕ) (fits : Fits (length pw) (length table) how k) → (clear : Clear field pw (length table) vg how) →
-    (j : ℕ) → j < how .step → 0 < how .words → (m : ℕ) → m < k →
-    laws field .reduce (evaluate (fieldOf field) (vanishingIn (how .words) vg) (getD pw (how .scale * j + how .scale * how .step * m) 0)) ≡ fieldOf field .𝟘 → ⊥
-roots-nonzero field pw table vg how k fits clear j l pos m u z =
-    clear .nonzero (j + m * how .step) (root-number fits l m u) pos
-    (ap (λ (e : ℕ). laws field .reduce (evaluate (fieldOf field) (vanishingIn (how .words) vg) (getD pw e 0))) (root-place fits j m) ∙ z)
+pub roots-nonzero : {A : Type 0} (F : Field A) (L : FieldLaws F) (pw table vg : List A) (oracle : Oracle) (k : ℕ) (fits : Fits (length pw) (length table) oracle k) → (clear : ClearOver F L pw (length table) vg oracle) →
+    (j : ℕ) → j < oracle .step → 0 < oracle .words → (m : ℕ) → m < k →
+    Nonzero F L (evaluate F (vanishingIn (oracle .words) vg) (getD pw (oracle .scale * j + oracle .scale * oracle .step * m) (F .𝟘)))
+roots-nonzero F L pw table vg oracle k fits clear j l pos m u z =
+    clear .nonzero (j + m * oracle .step) (root-number fits l m u) pos
+    (ap (λ (e : ℕ). L .reduce (evaluate F (vanishingIn (oracle .words) vg) (getD pw e (F .𝟘)))) (root-place fits j m) ∙ z)
 
 -- ---- the value at a point, without samples and with some
 
-value-some : (F : Field ℕ) (n : ℕ) (ac vg : List ℕ) (x y : ℕ) → 0 < n → correctedIn F n ac vg x y ≡ valueOf F n ac vg x y
+value-some : {A : Type 0} (F : Field A) (n : ℕ) (ac vg : List A) (x y : A) → 0 < n → correctedIn F n ac vg x y ≡ valueOf F n ac vg x y
 unfolding valueOf
 value-some F zero ac vg x y h = absurd (not-suc-le-zero h)
 value-some F (suc n) ac vg x y h = refl
 
-module _ (field : ℕ) (pw table ac vg : List ℕ) (how : Function) (k : ℕ) (fits : Fits (length pw) (length table) how k) (j m : ℕ) where
-  times : j + how .step * m ≡ j + m * how .step
+module _ {A : Type 0} (F : Field A) (pw table ac vg : List A) (oracle : Oracle) (k : ℕ) (fits : Fits (length pw) (length table) oracle k) (j m : ℕ) where
+  open Field F using (𝟘)
+
+  times : j + oracle .step * m ≡ j + m * oracle .step
   times = omega arith
 
-  pub value-first : {v : ℕ} → how .words ≡ 0 → v ≡ getD table (j + how .step * m) 0 → v ≡ rootIn field pw table ac vg how j m
+  pub value-first : {v : A} → oracle .words ≡ 0 → v ≡ getD table (j + oracle .step * m) 𝟘 → v ≡ rootIn F pw table ac vg oracle j m
   unfolding valueIn valueOf
-  value-first e ev = let z = times in rw e (ev ∙ ap (λ (i : ℕ). getD table i 0) z)
+  value-first e ev = let z = times in rw e (ev ∙ ap (λ (i : ℕ). getD table i 𝟘) z)
 
-  pub value-next : {v y : ℕ} → 0 < how .words → y ≡ getD table (j + how .step * m) 0 →
-      v ≡ correctedIn (fieldOf field) (how .words) ac vg (getD pw (how .scale * j + how .scale * how .step * m) 0) y → v ≡ rootIn field pw table ac vg how j m
+  pub value-next : {v y : A} → 0 < oracle .words → y ≡ getD table (j + oracle .step * m) 𝟘 →
+      v ≡ correctedIn F (oracle .words) ac vg (getD pw (oracle .scale * j + oracle .scale * oracle .step * m) (F .𝟘)) y → v ≡ rootIn F pw table ac vg oracle j m
   unfolding valueIn pointIn
   value-next h ey ev =
-      ev ∙ (λ i. correctedIn (fieldOf field) (how .words) ac vg (getD pw (sym (root-place fits j m) i) 0) ((ey ∙ ap (λ (i : ℕ). getD table i 0) times) i))
-      ∙ value-some (fieldOf field) (how .words) ac vg _ _ h
+      ev ∙ (λ i. correctedIn F (oracle .words) ac vg (getD pw (sym (root-place fits j m) i) 𝟘) ((ey ∙ ap (λ (i : ℕ). getD table i 𝟘) times) i))
+      ∙ value-some F (oracle .words) ac vg _ _ h
 
 -- ---- the quotient
 
 -- the numerator, by the inverse of V, is the corrected value
-pub fraction-is : (field words : ℕ) (ac vg : List ℕ) (x y : ℕ) {top bottom v : ℕ} → top ≡ numeratorIn (fieldOf field) words ac vg x y →
-    bottom ≡ evaluate (fieldOf field) (vanishingIn words vg) x → Nonzero field (evaluate (fieldOf field) (vanishingIn words vg) x) →
-    correctedIn (fieldOf field) words ac vg x y ≡ v → Fraction field v top bottom
+pub fraction-is : {A : Type 0} (F : Field A) (L : FieldLaws F) (words : ℕ) (ac vg : List A) (x y : A) {top bottom v : A} → top ≡ numeratorIn F words ac vg x y →
+    bottom ≡ evaluate F (vanishingIn words vg) x → Nonzero F L (evaluate F (vanishingIn words vg) x) →
+    correctedIn F words ac vg x y ≡ v → FractionOver F L v top bottom
 unfolding correctedIn reciprocal foundOr
-fraction-is field words ac vg x y {top} {bottom} {v} et eb h ev = (
-  (λ z. h (ap (laws field .reduce) (sym eb) ∙ z)),
+fraction-is {A} F L words ac vg x y {top} {bottom} {v} et eb h ev = (
+  (λ z. h (ap (L .reduce) (sym eb) ∙ z)),
   (λ u e.
-      let F = fieldOf field in
       let d = F ._⊖_ y (evaluate F (take words ac) x) in
       let g = evaluate F (growthIn words vg) x in
       let w : u ≡ reciprocal F (evaluate F (vanishingIn words vg) x) = sym (ap (foundOr (F .𝟘)) e) ∙ ap (reciprocal F) eb in
-      (λ i. F ._⊗_ (et i) (w i)) ∙ exchanged F (laws field) d g (reciprocal F (evaluate F (vanishingIn words vg) x)) ∙ ev),
+      (λ i. F ._⊗_ (et i) (w i)) ∙ exchanged d g (reciprocal F (evaluate F (vanishingIn words vg) x)) ∙ ev),
 )
   where
-    exchanged : (F : Field ℕ) (L : FieldLaws F) (d g u : ℕ) → F ._⊗_ (F ._⊗_ d g) u ≡ F ._⊗_ (F ._⊗_ d u) g
-    exchanged F L = solve₃ F L (λ d g u. d :* g :* u := d :* u :* g) tt
+    exchanged : (d g u : A) → F ._⊗_ (F ._⊗_ d g) u ≡ F ._⊗_ (F ._⊗_ d u) g
+    exchanged = solve₃ F L (λ d g u. d :* g :* u := d :* u :* g) tt
 
 -- ---- loops over the roots
 
-pub numerator-turn : (field : ℕ) (f : ℕ → ℕ) (old new : List ℕ) (m a g : ℕ) {d r : ℕ} → Filled f old new m → d ≡ fieldOf field ._⊖_ (getD new m 0) a →
-    r ≡ fieldOf field ._⊗_ d g → r ≡ fieldOf field ._⊗_ (fieldOf field ._⊖_ (getD old m 0) a) g
-numerator-turn field f old new m a g t ed er =
-    let F = fieldOf field in
-    er ∙ ap (λ (x : ℕ). F ._⊗_ x g) (ed ∙ ap (λ (x : ℕ). F ._⊖_ x a) (t .left m (le-refl m)))
+pub numerator-turn : {A : Type 0} (F : Field A) (f : ℕ → A) (old new : List A) (m : ℕ) (a g : A) {d r : A} → FilledOver (F .𝟘) f old new m → d ≡ F ._⊖_ (getD new m (F .𝟘)) a →
+    r ≡ F ._⊗_ d g → r ≡ F ._⊗_ (F ._⊖_ (getD old m (F .𝟘)) a) g
+numerator-turn {A} F f old new m a g t ed er =
+    er ∙ ap (λ (x : A). F ._⊗_ x g) (ed ∙ ap (λ (x : A). F ._⊖_ x a) (t .left m (le-refl m)))
 
 -- ---- numerators and denominators at the roots
 
--- the words behind the first 66, from which the geometric sum is read
-abbrev behind : List ℕ → List ℕ
+-- the elements behind the first 66, from which the geometric sum is read
+abbrev behind : {A : Type 0} → List A → List A
 behind vg = take (length vg - 66) (drop 66 vg)
 
-pub part-room : (l : List ℕ) (at n : ℕ) → at + n ≤ length l → n ≤ length (take (length l - at) (drop at l))
+pub part-room : {A : Type 0} (l : List A) (at n : ℕ) → at + n ≤ length l → n ≤ length (take (length l - at) (drop at l))
 part-room l at n h = omega (arith, length-take-le (length l - at) (drop at l) (le-of-eq (sym (length-drop at l))))
 
-pub numerators-are : (field words : ℕ) (ac vg : List ℕ) (x : ℕ → ℕ) (old new a g : List ℕ) → words ≤ length vg - 66 →
-    ((m : ℕ) → m < length old → getD a m 0 ≡ evaluate (fieldOf field) (take words ac) (x m)) →
-    ((m : ℕ) → m < length old → getD g m 0 ≡ evaluate (fieldOf field) (take words (behind vg)) (x m)) →
-    Filled (λ m. fieldOf field ._⊗_ (fieldOf field ._⊖_ (getD old m 0) (getD a m 0)) (getD g m 0)) old new (length old) →
-    (m : ℕ) → m < length old → getD new m 0 ≡ numeratorIn (fieldOf field) words ac vg (x m) (getD old m 0)
-numerators-are field words ac vg x old new a g room ea eg t m l =
-    let F = fieldOf field in
-    let grown : getD g m 0 ≡ evaluate F (growthIn words vg) (x m) = eg m l ∙ ap (λ (w : List ℕ). evaluate F w (x m)) (take-take words (length vg - 66) (drop 66 vg) room) in
-    t .passed m l ∙ (λ i. F ._⊗_ (F ._⊖_ (getD old m 0) (ea m l i)) (grown i))
+pub numerators-are : {A : Type 0} (F : Field A) (words : ℕ) (ac vg : List A) (x : ℕ → A) (old new a g : List A) → words ≤ length vg - 66 →
+    ((m : ℕ) → m < length old → getD a m (F .𝟘) ≡ evaluate F (take words ac) (x m)) →
+    ((m : ℕ) → m < length old → getD g m (F .𝟘) ≡ evaluate F (take words (behind vg)) (x m)) →
+    FilledOver (F .𝟘) (λ m. F ._⊗_ (F ._⊖_ (getD old m (F .𝟘)) (getD a m (F .𝟘))) (getD g m (F .𝟘))) old new (length old) →
+    (m : ℕ) → m < length old → getD new m (F .𝟘) ≡ numeratorIn F words ac vg (x m) (getD old m (F .𝟘))
+numerators-are {A} F words ac vg x old new a g room ea eg t m l =
+    let grown : getD g m (F .𝟘) ≡ evaluate F (growthIn words vg) (x m) = eg m l ∙ ap (λ (w : List A). evaluate F w (x m)) (take-take words (length vg - 66) (drop 66 vg) room) in
+    t .passed m l ∙ (λ i. F ._⊗_ (F ._⊖_ (getD old m (F .𝟘)) (ea m l i)) (grown i))
 
-module _ (field : ℕ) (pw table ac vg : List ℕ) (how : Function) (k : ℕ) (fits : Fits (length pw) (length table) how k) (clear : Clear field pw (length table) vg how) where
-  pub fractions-are : (j : ℕ) → j < how .step → 0 < how .words → (m : ℕ) → m < k → (words : ℕ) {y top bottom : ℕ} → how .words ≡ words → y ≡ getD table (j + how .step * m) 0 →
-      top ≡ numeratorIn (fieldOf field) words ac vg (getD pw (how .scale * j + how .scale * how .step * m) 0) y →
-      bottom ≡ evaluate (fieldOf field) (vanishingIn words vg) (getD pw (how .scale * j + how .scale * how .step * m) 0) →
-      Fraction field (rootIn field pw table ac vg how j m) top bottom
+module _ {A : Type 0} (F : Field A) (L : FieldLaws F) (pw table ac vg : List A) (oracle : Oracle) (k : ℕ) (fits : Fits (length pw) (length table) oracle k) (clear : ClearOver F L pw (length table) vg oracle) where
+  open Field F using (𝟘)
+
+  pub fractions-are : (j : ℕ) → j < oracle .step → 0 < oracle .words → (m : ℕ) → m < k → (words : ℕ) {y top bottom : A} → oracle .words ≡ words → y ≡ getD table (j + oracle .step * m) 𝟘 →
+      top ≡ numeratorIn F words ac vg (getD pw (oracle .scale * j + oracle .scale * oracle .step * m) (F .𝟘)) y →
+      bottom ≡ evaluate F (vanishingIn words vg) (getD pw (oracle .scale * j + oracle .scale * oracle .step * m) (F .𝟘)) →
+      FractionOver F L (rootIn F pw table ac vg oracle j m) top bottom
   fractions-are j l more m u words {y} ew ey et eb =
-      let x = getD pw (how .scale * j + how .scale * how .step * m) 0 in
-      fraction-is field (how .words) ac vg x y (et ∙ (λ i. numeratorIn (fieldOf field) (sym ew i) ac vg x y)) (eb ∙ (λ i. evaluate (fieldOf field) (vanishingIn (sym ew i) vg) x))
-      (roots-nonzero field pw table vg how k fits clear j l more m u) (value-next field pw table ac vg how k fits j m more ey refl)
+      let x = getD pw (oracle .scale * j + oracle .scale * oracle .step * m) (F .𝟘) in
+      fraction-is F L (oracle .words) ac vg x y (et ∙ (λ i. numeratorIn F (sym ew i) ac vg x y)) (eb ∙ (λ i. evaluate F (vanishingIn (sym ew i) vg) x))
+      (roots-nonzero F L pw table vg oracle k fits clear j l more m u) (value-next F pw table ac vg oracle k fits j m more ey refl)

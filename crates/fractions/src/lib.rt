@@ -8,20 +8,20 @@ ghost use Prim.Native.Nat.{ℕ, _+_, _*_, _≤_, _<_};
 ghost use lib.ListN.{length, getD, take};
 ghost use Rattle.definition.specs.Field.{Field, fieldOf};
 ghost use Rattle.definition.specs.Polynomial.{evaluate};
-ghost use Rattle.domain.specs.Filled.{Filled};
+ghost use Rattle.list_laws.specs.Filled.{Filled};
 ghost use Rattle.fractions.specs.Fraction.{Fraction};
 ghost use Rattle.fractions.specs.Values.{Fits, Clear, Rooted, ShiftPowers, vanishingIn, numeratorIn, rootIn};
 
 // How the function of a level is worked out: its point m stands at scale·m in pw, the roots of a shift point have numbers that are `step` apart, and the first
 // `words` of the coefficients are in use. Before the first round there are no samples, no words, and the table's own values are the function's.
-pub struct Function {
+pub struct Oracle {
     pub scale: usize,
     pub step: usize,
     pub words: usize,
 }
 
 // Places for the values at the roots of a shift point, at most 16.
-fn roots() -> [u32; 16]
+pub fn roots() -> [u32; 16]
     ensures { λ r. ⌜ length r ≡ 16 ⌝ }
 {
     [0u32; 16]
@@ -47,7 +47,7 @@ fn at_roots(
     k: usize,
     out: &mut [u32],
 )
-    requires { ⌜ Rooted field (now pw) at step k (now powers) ⌝ }
+    requires { ⌜ Rooted (fieldOf field) (now pw) at step k (now powers) ⌝ }
     requires { ⌜ (k * length (now powers) ≤ length (now f)) × (k ≤ length (now out)) ⌝ }
     ensures { λ _. ⌜ ((m : ℕ) → m < k → getD (now (out .exit)) m 0 ≡ evaluate (fieldOf field) (take (k * length (now (powers .entry))) (now (f .entry))) (getD (now (pw .entry)) (at + step * m) 0)) ⌝ }
 {
@@ -82,7 +82,7 @@ fn quotients(
     bottoms: &mut [u32],
 )
     requires { ⌜ (length (now ac) ≡ 66) × ((length (now vg) ≡ 132) × (length (now bottoms) ≡ length (now tops))) ⌝ }
-    requires { ⌜ Rooted field (now pw) at step (length (now tops)) (now powers) ⌝ }
+    requires { ⌜ Rooted (fieldOf field) (now pw) at step (length (now tops)) (now powers) ⌝ }
     requires { ⌜ length (now tops) * length (now powers) ≤ 66 ⌝ }
     ensures { λ _. ⌜ ((m : ℕ) → m < length (now (tops .entry)) → getD (now (tops .exit)) m 0 ≡ numeratorIn (fieldOf field) (length (now (tops .entry)) * length (now (powers .entry))) (now (ac .entry)) (now (vg .entry)) (getD (now (pw .entry)) (at + step * m) 0) (getD (now (tops .entry)) m 0)) ⌝ }
     ensures { λ _. ⌜ ((m : ℕ) → m < length (now (tops .entry)) → getD (now (bottoms .exit)) m 0 ≡ evaluate (fieldOf field) (vanishingIn (length (now (tops .entry)) * length (now (powers .entry))) (now (vg .entry))) (getD (now (pw .entry)) (at + step * m) 0)) ⌝ }
@@ -123,28 +123,28 @@ pub fn fractions(
     table: &[u32],
     ac: &[u32],
     vg: &[u32],
-    how: Function,
+    oracle: Oracle,
     j: usize,
     tops: &mut [u32],
     bottoms: &mut [u32],
 )
-    requires { ⌜ (length (now ac) ≡ 66) × ((length (now vg) ≡ 132) × (Clear field (now pw) (length (now table)) (now vg) how)) ⌝ }
-    requires { ⌜ Fits (length (now pw)) (length (now table)) how (length (now tops)) ⌝ }
-    requires { ⌜ (j < how .step) × ((0 < how .words) × (length (now bottoms) ≡ length (now tops))) ⌝ }
-    ensures { λ _. ⌜ ((m : ℕ) → m < length (now (tops .entry)) → Fraction field (rootIn field (now (pw .entry)) (now (table .entry)) (now (ac .entry)) (now (vg .entry)) how j m) (getD (now (tops .exit)) m 0) (getD (now (bottoms .exit)) m 0)) ⌝ }
+    requires { ⌜ (length (now ac) ≡ 66) × ((length (now vg) ≡ 132) × (Clear field (now pw) (length (now table)) (now vg) oracle)) ⌝ }
+    requires { ⌜ Fits (length (now pw)) (length (now table)) oracle (length (now tops)) ⌝ }
+    requires { ⌜ (j < oracle .step) × ((0 < oracle .words) × (length (now bottoms) ≡ length (now tops))) ⌝ }
+    ensures { λ _. ⌜ ((m : ℕ) → m < length (now (tops .entry)) → Fraction field (rootIn (fieldOf field) (now (pw .entry)) (now (table .entry)) (now (ac .entry)) (now (vg .entry)) oracle j m) (getD (now (tops .exit)) m 0) (getD (now (bottoms .exit)) m 0)) ⌝ }
 {
     let k = tops.len();
-    gather(table, how.step, j, tops);
-    let count = how.words / k;
+    gather(table, oracle.step, j, tops);
+    let count = oracle.words / k;
     let mut powers = columns();
-    shift_powers(pw, how.scale, k, j, &mut powers[..count]);
+    shift_powers(pw, oracle.scale, k, j, &mut powers[..count]);
     quotients(
         field,
         pw,
         ac,
         vg,
-        how.scale * j,
-        how.scale * how.step,
+        oracle.scale * j,
+        oracle.scale * oracle.step,
         &powers[..count],
         tops,
         bottoms,

@@ -39,11 +39,6 @@ many-last limit zero v = refl
 many-last limit (suc count) v =
     ap (λ (d : Drawn (List ℕ)). record { value = drawBelow limit v .value ∷ d .value; next = d .next }) (many-last limit count (drawBelow limit v .next))
 
-pub many-length : (limit count v : ℕ) → length (drawMany limit count v .value) ≡ count
-unfolding drawMany
-many-length limit zero v = refl
-many-length limit (suc count) v = ap suc (many-length limit count (drawBelow limit v .next))
-
 -- ---- the places filled so far
 
 pub many-none : (limit v : ℕ) (places : List ℕ) → _≡_ {A = Drawn (List ℕ)} (record { value = take 0 places; next = v }) (drawMany limit 0 v)

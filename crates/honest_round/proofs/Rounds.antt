@@ -8,22 +8,22 @@ use lib.Dec.{eqb}
 use lib.ListN.{length, getD, take, drop, length-drop}
 use lib.Seq.{getD-drop, getD-take, length-take-le}
 use Rattle.definition.specs.Domain.{shiftPoint}
-use Rattle.definition.specs.Field.{Field, fieldOf}
+use Rattle.definition.specs.Field.{Field, fieldOf, primeField}
 use Rattle.definition.specs.Lists.{different}
 use Rattle.definition.specs.Sheet.{Edition, Sheet, sheetOf, shiftCount}
-use Rattle.algebra.specs.ListFacts.{All}
-use Rattle.completeness.specs.ByPlace.{at-place}
+use Rattle.list_laws.specs.All.{All, at-place}
 use Rattle.definition.specs.Layout.{laterCount, roundCoins}
 use Rattle.definition.specs.Polynomial.{correctedPoly, distinct, points}
 use Rattle.definition.specs.Prover.{honestAnswers, nextPoly}
-use Rattle.completeness.specs.Numbered.{degreeOf, levelOf, outsOf, roundsOf, sheetField, sheetRoot}
+use Rattle.algebra.specs.PrimeField.{laws}
+use Rattle.layouts.specs.Levels.{degreeOf, levelOf, outCoinCount, roundsOf, sheetField, sheetRoot}
 use Rattle.correction.specs.Corrected.{Corrected}
 use Rattle.folds.specs.PointsIn.{shiftIn, shift-in}
 use Rattle.honest_words.specs.Levels.{shifts-are}
 use Rattle.distinct.specs.Points.{InTable, distinct-points}
 use Rattle.honest_words.specs.Sizes.{Sizes, falls, field-word, next-place, numbers, sizes}
-use Rattle.domain.specs.Parts.{begun, front-stays}
-use Rattle.honest_words.specs.Standing.{RoundDealt, Standing, coinsNext, correctedFrom, foldAfter, foldFrom, foldOf, repetitionsOf, shiftsNext}
+use Rattle.list_laws.specs.LentParts.{begun, front-stays}
+use Rattle.honest_words.specs.Invariant.{RoundCoinsFit, Invariant, coinsNext, correctedFrom, foldAfter, foldFrom, foldOf, repetitionsOf, shiftsNext}
 
 -- the place in the table of each shift index
 shifts-inside : (h : Sheet) (i scale points : ℕ) (js : List ℕ) → Sizes h i scale points → All (λ j. j < shiftCount (levelOf h i)) js → InTable points scale js
@@ -40,27 +40,27 @@ map-agree : {A B : Type 0} (f h : A → B) (xs : List A) → ((x : A) → f x �
 map-agree f h [] e = refl
 map-agree f h (x ∷ xs) e = λ j. e x j ∷ map-agree f h xs e j
 
-module _ {h : Sheet} {i : ℕ} {coins : List ℕ} (dealt : RoundDealt h i coins) {s t : ℕ} (es : outsOf h ≡ s) (et : repetitionsOf h i ≡ t) where
+module _ {h : Sheet} {i : ℕ} {coins : List ℕ} (runs : RoundCoinsFit h i coins) {s t : ℕ} (es : outCoinCount h ≡ s) (et : repetitionsOf h i ≡ t) where
   -- the shift indices, as the code cuts them
   pub shifts-long : length (take (s + 2 + t - (s + 2)) (drop (s + 2) coins)) ≡ t
-  shifts-long = length-take-le (s + 2 + t - (s + 2)) (drop (s + 2) coins) (omega (arith, dealt .there, length-drop (s + 2) coins)) ∙ omega arith
+  shifts-long = length-take-le (s + 2 + t - (s + 2)) (drop (s + 2) coins) (omega (arith, runs .there, length-drop (s + 2) coins)) ∙ omega arith
 
   shifts-is : take (s + 2 + t - (s + 2)) (drop (s + 2) coins) ≡ shiftsNext h i coins
   unfolding shiftsNext
   shifts-is =
       let e : s + 2 + t - (s + 2) ≡ repetitionsOf h i = omega (arith, et) in
-      let f : s + 2 ≡ outsOf h + 2 = omega (arith, es) in
+      let f : s + 2 ≡ outCoinCount h + 2 = omega (arith, es) in
       λ x. take (e x) (drop (f x) coins)
 
-  combination-is : getD coins s 0 ≡ getD (take (2 + repetitionsOf h i) (drop (outsOf h) coins)) 0 0
+  combination-is : getD coins s 0 ≡ getD (take (2 + repetitionsOf h i) (drop (outCoinCount h) coins)) 0 0
   combination-is =
-      let e : outsOf h + 0 ≡ s = omega (arith, es) in
-      sym (getD-take (2 + repetitionsOf h i) (drop (outsOf h) coins) 0 0 (omega arith) ∙ getD-drop (outsOf h) coins 0 0 ∙ ap (λ (n : ℕ). getD coins n 0) e)
+      let e : outCoinCount h + 0 ≡ s = omega (arith, es) in
+      sym (getD-take (2 + repetitionsOf h i) (drop (outCoinCount h) coins) 0 0 (omega arith) ∙ getD-drop (outCoinCount h) coins 0 0 ∙ ap (λ (n : ℕ). getD coins n 0) e)
 
 -- ---- the corrected polynomial
 
-module _ {ed : Edition} {w pw : List ℕ} {i scale : ℕ} (st : Standing ed w pw i scale) {coins : List ℕ} (dealt : RoundDealt (sheetOf ed w) i coins)
-    {s t k : ℕ} (es : outsOf (sheetOf ed w) ≡ s) (et : repetitionsOf (sheetOf ed w) i ≡ t) (ek : k ≡ foldOf (sheetOf ed w) i) where
+module _ {ed : Edition} {w pw : List ℕ} {i scale : ℕ} (st : Invariant ed w pw i scale) {coins : List ℕ} (runs : RoundCoinsFit (sheetOf ed w) i coins)
+    {s t k : ℕ} (es : outCoinCount (sheetOf ed w) ≡ s) (et : repetitionsOf (sheetOf ed w) i ≡ t) (ek : k ≡ foldOf (sheetOf ed w) i) where
   abbrev h : Sheet
   h = sheetOf ed w
 
@@ -70,34 +70,34 @@ module _ {ed : Edition} {w pw : List ℕ} {i scale : ℕ} (st : Standing ed w pw
   -- the points of G by the table of points
   points-are : (g : List ℕ) →
       points (distinct (sheetField h) (honestAnswers (sheetField h) (sheetRoot h) (levelOf h i) g (coinsNext h i coins)))
-      ≡ different eqb (take s coins ++ map (shiftIn pw scale k) js)
-  unfolding honestAnswers coinsNext roundCoins laterCount
+      ≡ different eqb (take s coins ++ map (shiftIn 0 pw scale k) js)
+  unfolding honestAnswers coinsNext roundCoins laterCount fieldOf primeField
   points-are g =
       let z = sizes st in
       let S = shiftPoint (fieldOf (getD w 0 0)) (sheetRoot h) (levelOf h i) in
       ap (λ (F : Field ℕ). points (distinct F (honestAnswers F (sheetRoot h) (levelOf h i) g (coinsNext h i coins)))) (sym (field-word ed w))
-      ∙ distinct-points (getD w 0 0) (sheetRoot h) g (take (outsOf h) coins ++ map S (drop 2 (take (2 + repetitionsOf h i) (drop (outsOf h) coins))))
-      ∙ (λ x. different eqb (take (es x) coins ++ map S ((shifts-are h i coins ∙ sym (shifts-is dealt es et)) x)))
-      ∙ ap (λ (xs : List ℕ). different eqb (take s coins ++ xs)) (map-agree S (shiftIn pw scale k) js
-      (λ j. sym (shift-in (st .powers) (levelOf h i) (st .scaled) {k = k} ek j (omega (arith, ek, numbers (st .place) .least-fold)) (z .some-points))))
+      ∙ distinct-points (fieldOf (getD w 0 0)) (sheetRoot h) g (take (outCoinCount h) coins ++ map S (drop 2 (take (2 + repetitionsOf h i) (drop (outCoinCount h) coins))))
+      ∙ (λ x. different eqb (take (es x) coins ++ map S ((shifts-are h i coins ∙ sym (shifts-is runs es et)) x)))
+      ∙ ap (λ (xs : List ℕ). different eqb (take s coins ++ xs)) (map-agree S (shiftIn 0 pw scale k) js
+      (λ j. sym (shift-in (fieldOf (getD w 0 0)) (st .powers) (levelOf h i) (st .scaled) (laws (getD w 0 0)) {k = k} ek j (omega (arith, ek, numbers (st .place) .least-fold)) (z .some-points))))
 
   -- each shift point stands in it
   pub shifts-in : InTable (length pw) scale (take (s + 2 + t - (s + 2)) (drop (s + 2) coins))
   shifts-in =
-      subst (InTable (length pw) scale) (sym (shifts-is dealt es et))
-      (shifts-inside h i scale (length pw) (shiftsNext h i coins) (sizes st) (dealt .below))
+      subst (InTable (length pw) scale) (sym (shifts-is runs es et))
+      (shifts-inside h i scale (length pw) (shiftsNext h i coins) (sizes st) (runs .below))
 
   pub corrected-is : (g xs out : List ℕ) →
-      xs ≡ different eqb (take s coins ++ map (shiftIn pw scale k) (take (s + 2 + t - (s + 2)) (drop (s + 2) coins))) →
-      Corrected (getD w 0 0) xs (getD coins s 0) g out → out ≡ correctedFrom (sheetOf ed w) i g coins
+      xs ≡ different eqb (take s coins ++ map (shiftIn 0 pw scale k) (take (s + 2 + t - (s + 2)) (drop (s + 2) coins))) →
+      Corrected (fieldOf (getD w 0 0)) xs (getD coins s 0) g out → out ≡ correctedFrom (sheetOf ed w) i g coins
   unfolding correctedFrom nextPoly coinsNext roundCoins laterCount
   corrected-is g xs out e c =
       let G = distinct (sheetField h) (honestAnswers (sheetField h) (sheetRoot h) (levelOf h i) g (coinsNext h i coins)) in
-      c G (points-are g ∙ sym e) ∙ (λ x. correctedPoly (field-word ed w x) G (combination-is dealt es et x) g)
+      c G (points-are g ∙ sym e) ∙ (λ x. correctedPoly (field-word ed w x) G (combination-is runs es et x) g)
 
 -- what a round leaves: the fold of the corrected polynomial, which stood in the first d places of next
 pub folded-next : (h : Sheet) (i d folded : ℕ) (coins g g₁ next front back : List ℕ) {r : ℕ} → d ≤ length next → length front ≡ length (take d next) →
-    front ≡ correctedFrom h i (take (length (take d next)) g) coins → r ≡ getD coins (outsOf h + 1) 0 →
+    front ≡ correctedFrom h i (take (length (take d next)) g) coins → r ≡ getD coins (outCoinCount h + 1) 0 →
     folded ≤ length g₁ → length back ≡ length (take folded g₁) → back ≡ foldFrom h (i + 1) r (take d (begun next front d)) →
     take folded (begun g₁ back folded) ≡ foldAfter h i (take d g) coins
 folded-next h i d folded coins g g₁ next front back fits same is coin room long fold =
@@ -106,6 +106,6 @@ folded-next h i d folded coins g g₁ next front back fits same is coin room lon
     front-stays g₁ back folded room long ∙ fold ∙ (λ x. foldFrom h (i + 1) (coin x) (f x))
 
 -- the places of one fold are enough for the next
-pub room : {ed : Edition} {w pw : List ℕ} {i scale d folded n : ℕ} → Standing ed w pw i scale → i < roundsOf (sheetOf ed w) →
+pub room : {ed : Edition} {w pw : List ℕ} {i scale d folded n : ℕ} → Invariant ed w pw i scale → i < roundsOf (sheetOf ed w) →
     d ≡ degreeOf (sheetOf ed w) (i + 1) → folded ≡ degreeOf (sheetOf ed w) (i + 1 + 1) → d ≤ n → folded ≤ n
 room st l e f h = omega (arith, falls (next-place st l))

@@ -5,9 +5,9 @@ ghost use mathlib.Core.Path.{_≡_};
 ghost use Prim.Native.Nat.{_+_, _*_, _/_, _≤_, _<_};
 ghost use lib.ListN.{length, getD, take};
 ghost use Rattle.definition.specs.Sheet.{sheetOf};
-ghost use Rattle.completeness.specs.Numbered.{degreeOf, roundsOf};
+ghost use Rattle.layouts.specs.Levels.{degreeOf, roundsOf};
 ghost use Rattle.edition.specs.Meaning.{editionOf};
-ghost use Rattle.honest_words.specs.Standing.{AtLevel, RoundDealt, Standing, correctedFrom, foldAfter, foldFrom, foldOf, roundCount, roundFrom};
+ghost use Rattle.honest_words.specs.Invariant.{AtLevel, RoundCoinsFit, Invariant, correctedFrom, foldAfter, foldFrom, foldOf, roundCount, roundFrom};
 
 // Places for the points of a round, at most 2 + 48.
 fn points_room() -> [u32; 50]
@@ -35,9 +35,9 @@ fn correct(
     g: &mut [u32],
     next: &mut [u32],
 )
-    requires { ⌜ (Standing (editionOf e) (now w) (now pw) level scale) × (level < roundsOf (sheetOf (editionOf e) (now w))) ⌝ }
+    requires { ⌜ (Invariant (editionOf e) (now w) (now pw) level scale) × (level < roundsOf (sheetOf (editionOf e) (now w))) ⌝ }
     requires { ⌜ length (now next) ≡ degreeOf (sheetOf (editionOf e) (now w)) (level + 1) ⌝ }
-    requires { ⌜ (RoundDealt (sheetOf (editionOf e) (now w)) level (now coins)) × (length (now next) ≤ length (now g)) ⌝ }
+    requires { ⌜ (RoundCoinsFit (sheetOf (editionOf e) (now w)) level (now coins)) × (length (now next) ≤ length (now g)) ⌝ }
     ensures { λ _. ⌜ now (next .exit) ≡ correctedFrom (sheetOf (editionOf e) (now (w .entry))) level (take (length (now (next .entry))) (now (g .entry))) (now (coins .entry)) ⌝ }
 {
     let s = w[5] as usize;
@@ -88,9 +88,9 @@ fn step_by(
     next: &mut [u32],
     out: &mut [u32],
 )
-    requires { ⌜ (Standing (editionOf e) (now w) (now pw) level scale) × (level < roundsOf (sheetOf (editionOf e) (now w))) ⌝ }
+    requires { ⌜ (Invariant (editionOf e) (now w) (now pw) level scale) × (level < roundsOf (sheetOf (editionOf e) (now w))) ⌝ }
     requires { ⌜ (d ≡ degreeOf (sheetOf (editionOf e) (now w)) (level + 1)) × (folded ≡ degreeOf (sheetOf (editionOf e) (now w)) (level + 1 + 1)) ⌝ }
-    requires { ⌜ (RoundDealt (sheetOf (editionOf e) (now w)) level (now coins)) × ((d ≤ length (now g)) × (d ≤ length (now next))) ⌝ }
+    requires { ⌜ (RoundCoinsFit (sheetOf (editionOf e) (now w)) level (now coins)) × ((d ≤ length (now g)) × (d ≤ length (now next))) ⌝ }
     requires { ⌜ length (now out) ≡ roundCount (sheetOf (editionOf e) (now w)) level ⌝ }
     ensures { λ _. ⌜ now (out .exit) ≡ roundFrom (sheetOf (editionOf e) (now (w .entry))) level (take d (now (g .entry))) (now (coins .entry)) ⌝ }
     ensures { λ _. ⌜ take folded (now (g .exit)) ≡ foldAfter (sheetOf (editionOf e) (now (w .entry))) level (take d (now (g .entry))) (now (coins .entry)) ⌝ }
@@ -134,9 +134,9 @@ pub fn step(
     g: &mut [u32],
     out: &mut [u32],
 )
-    requires { ⌜ (Standing (editionOf e) (now w) (now pw) level scale) × (level < roundsOf (sheetOf (editionOf e) (now w))) ⌝ }
+    requires { ⌜ (Invariant (editionOf e) (now w) (now pw) level scale) × (level < roundsOf (sheetOf (editionOf e) (now w))) ⌝ }
     requires { ⌜ (d ≡ degreeOf (sheetOf (editionOf e) (now w)) (level + 1)) × (folded ≡ degreeOf (sheetOf (editionOf e) (now w)) (level + 1 + 1)) ⌝ }
-    requires { ⌜ (RoundDealt (sheetOf (editionOf e) (now w)) level (now coins)) × (d ≤ length (now g)) ⌝ }
+    requires { ⌜ (RoundCoinsFit (sheetOf (editionOf e) (now w)) level (now coins)) × (d ≤ length (now g)) ⌝ }
     requires { ⌜ length (now out) ≡ roundCount (sheetOf (editionOf e) (now w)) level ⌝ }
     ensures { λ _. ⌜ now (out .exit) ≡ roundFrom (sheetOf (editionOf e) (now (w .entry))) level (take d (now (g .entry))) (now (coins .entry)) ⌝ }
     ensures { λ _. ⌜ take folded (now (g .exit)) ≡ foldAfter (sheetOf (editionOf e) (now (w .entry))) level (take d (now (g .entry))) (now (coins .entry)) ⌝ }

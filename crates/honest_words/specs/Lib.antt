@@ -1,4 +1,4 @@
-pub mod Standing
+pub mod Invariant
 pub mod Levels
 pub mod Sizes
 pub mod Tables

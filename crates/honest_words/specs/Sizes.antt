@@ -11,12 +11,12 @@ use lib.Seq.{getD-take}
 use Rattle.definition.specs.Field.{fieldOf}
 use Rattle.definition.specs.Lists.{productOf}
 use Rattle.definition.specs.Sheet.{Edition, Sheet, foldWords, sheetLength, sheetOf}
-use Rattle.completeness.specs.Lawful.{Lawful, lawful, rounds-word, times-word}
-use Rattle.completeness.specs.LevelsByNumber.{folded}
-use Rattle.completeness.specs.Numbered.{degreeOf, levelOf, outsOf, roundsOf, sheetField}
-use Rattle.completeness.specs.SheetLevels
-use Rattle.completeness.specs.SheetRules.{fold-words, folding-large, folding-small, long-enough}
-use Rattle.honest_words.specs.Standing.{AtLevel, OnLevel, Standing, foldOf, repetitionsOf}
+use Rattle.layouts.specs.Lawful.{Lawful, lawful, rounds-word, times-word}
+use Rattle.layouts.specs.LevelsByNumber.{folded}
+use Rattle.layouts.specs.Levels.{degreeOf, levelOf, outCoinCount, roundsOf, sheetField}
+use Rattle.layouts.specs.SheetLevels
+use Rattle.layouts.specs.SheetRules.{fold-words, folding-large, folding-small, long-enough}
+use Rattle.honest_words.specs.Invariant.{AtLevel, OnLevel, Invariant, foldOf, repetitionsOf}
 
 -- the sheet's field by its number, its number of points and its number of out coins are words of it
 pub field-word : (ed : Edition) (w : List ℕ) → fieldOf (getD w 0 0) ≡ sheetField (sheetOf ed w)
@@ -27,7 +27,7 @@ pub size-word : (ed : Edition) (w : List ℕ) → sheetOf ed w .size ≡ getD w 
 unfolding sheetOf
 size-word ed w = refl
 
-pub outs-word : (ed : Edition) (w : List ℕ) → outsOf (sheetOf ed w) ≡ getD w 5 0
+pub outs-word : (ed : Edition) (w : List ℕ) → outCoinCount (sheetOf ed w) ≡ getD w 5 0
 unfolding sheetOf
 outs-word ed w = refl
 
@@ -41,8 +41,8 @@ pub record Numbers (ed : Edition) (w : List ℕ) (i : ℕ) : Type 0 where
   pub twelve : 12 ≤ length w
   pub rounds : roundsOf (sheetOf ed w) ≡ getD w 4 0
   pub most-rounds : roundsOf (sheetOf ed w) ≤ 5
-  pub outs : outsOf (sheetOf ed w) ≡ getD w 5 0
-  pub most-outs : outsOf (sheetOf ed w) ≤ 2
+  pub outs : outCoinCount (sheetOf ed w) ≡ getD w 5 0
+  pub most-outs : outCoinCount (sheetOf ed w) ≤ 2
   pub repetitions : repetitionsOf (sheetOf ed w) i ≡ getD w (6 + i) 0
   pub most-repetitions : repetitionsOf (sheetOf ed w) i ≤ 48
   pub fold : foldOf (sheetOf ed w) i ≡ getD (foldWords ed w) i 0
@@ -104,7 +104,7 @@ half-degree h x =
     let b : suc (x .b) ≤ suc (x .a) = omega (arith, x .below) in
     omega (arith, x .degree, x .size, pow-mono b, pow-suc 2 (x .b))
 
-pub sizes : {ed : Edition} {w pw : List ℕ} {i scale : ℕ} → Standing ed w pw i scale → Sizes (sheetOf ed w) i scale (length pw)
+pub sizes : {ed : Edition} {w pw : List ℕ} {i scale : ℕ} → Invariant ed w pw i scale → Sizes (sheetOf ed w) i scale (length pw)
 sizes {ed} {w} {pw} {i} {scale} st =
     let h = sheetOf ed w in
     let x = law (st .place) in
@@ -124,7 +124,7 @@ sizes {ed} {w} {pw} {i} {scale} st =
     small : (j : ℕ) → j ≤ 5 → scale ≡ 2 ^ j → scale ≤ 32
     small j l e = omega (arith, pow-mono l)
 
-module _ {ed : Edition} {w pw : List ℕ} {i scale : ℕ} (st : Standing ed w pw i scale) where
+module _ {ed : Edition} {w pw : List ℕ} {i scale : ℕ} (st : Invariant ed w pw i scale) where
   pub next-scale : 2 * scale ≡ 2 ^ (i + 1)
   next-scale = ap (λ (s : ℕ). 2 * s) (st .scaled) ∙ sym (ap (λ (j : ℕ). 2 ^ j) (add-one i) ∙ pow-suc 2 i ∙ mul-comm (2 ^ i) 2)
 
@@ -136,13 +136,13 @@ module _ {ed : Edition} {w pw : List ℕ} {i scale : ℕ} (st : Standing ed w pw
     pub next-place : AtLevel ed w (i + 1)
     next-place = record { long = st .place .long; passed = st .place .passed; level = omega arith }
 
-    pub next-standing : Standing ed w pw (i + 1) (2 * scale)
-    next-standing = record { place = next-place; powers = st .powers; points = st .points; scaled = next-scale }
+    pub next-invariant : Invariant ed w pw (i + 1) (2 * scale)
+    next-invariant = record { place = next-place; powers = st .powers; points = st .points; scaled = next-scale }
 
     -- the table of the fold over the next domain
     pub next-on-level : (m n : ℕ) → m ≡ degreeOf (sheetOf ed w) (i + 1) → n ≡ length pw / (2 * scale) → OnLevel ed w pw (2 * scale) m n
-    next-on-level m n d e = record { number = i + 1; standing = next-standing; degree = d; size = e ∙ next-size }
+    next-on-level m n d e = record { number = i + 1; invariant = next-invariant; degree = d; size = e ∙ next-size }
 
     -- fewer points than coefficients
-    pub fewer-points : outsOf (sheetOf ed w) + repetitionsOf (sheetOf ed w) i < degreeOf (sheetOf ed w) (i + 1)
+    pub fewer-points : outCoinCount (sheetOf ed w) + repetitionsOf (sheetOf ed w) i < degreeOf (sheetOf ed w) (i + 1)
     fewer-points = omega (arith, law (st .place) .few i l, ap (degreeOf (sheetOf ed w)) (add-one i))

@@ -9,13 +9,13 @@ use lib.Pow.{pow-pos}
 use Rattle.definition.specs.Field.{fieldOf}
 use Rattle.definition.specs.Prover.{tableOf}
 use Rattle.definition.specs.Sheet.{Edition, Level, Sheet, sheetOf}
-use Rattle.completeness.specs.LevelSizes
-use Rattle.completeness.specs.LevelsByNumber.{halved, undivided, undivided-degree}
-use Rattle.completeness.specs.Numbered.{degreeOf, levelOf, sheetField, sheetRoot}
-use Rattle.completeness.specs.SheetRules.{fold-words, folding-log, pow-most}
+use Rattle.layouts.specs.LevelSizes
+use Rattle.layouts.specs.LevelsByNumber.{halved, undivided, undivided-degree}
+use Rattle.layouts.specs.Levels.{degreeOf, levelOf, sheetField, sheetRoot}
+use Rattle.layouts.specs.SheetRules.{fold-words, folding-log, pow-most}
 use Rattle.tables.specs.Halving.{Halves}
 use Rattle.tables.specs.OnDomain.{DomainTable}
-use Rattle.honest_words.specs.Standing.{AtLevel, OnLevel, foldOf}
+use Rattle.honest_words.specs.Invariant.{AtLevel, OnLevel, foldOf}
 use Rattle.honest_words.specs.Sizes.{divided, law, multiplied, numbers, sizes}
 
 -- out is the table of f over the domain of each level with this scale and size
@@ -72,11 +72,11 @@ module _ (ed : Edition) (w : List ℕ) where
 -- what is asked, at some level of the sheet
 pub level-asks : {ed : Edition} {w pw : List ℕ} {scale count n : ℕ} → OnLevel ed w pw scale count n → Halves count n × ((0 < scale) × (scale * n ≡ length pw))
 level-asks {ed} {w} o =
-    let z = sizes (o .standing) in
-    (rw (o .degree, o .size) (level-halves ed w (o .number) (o .standing .place)), (z .scaled, rw (o .size) (z .whole)))
+    let z = sizes (o .invariant) in
+    (rw (o .degree, o .size) (level-halves ed w (o .number) (o .invariant .place)), (z .scaled, rw (o .size) (z .whole)))
 
 -- what is answered for each ω that the table of points is of is answered for the sheet's
 pub level-table : {ed : Edition} {w pw : List ℕ} {scale count n : ℕ} (f : List ℕ) {out : List ℕ} → OnLevel ed w pw scale count n → DomainTable (getD w 0 0) f pw scale n out →
     LevelTable (sheetOf ed w) f scale n out
 unfolding fieldOf sheetOf
-level-table f o t = λ l e s. t _ l (o .standing .powers) e s
+level-table f o t = λ l e s. t _ l (o .invariant .powers) e s

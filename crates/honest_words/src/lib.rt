@@ -7,10 +7,10 @@ ghost use lib.ListN.{length};
 ghost use Rattle.definition.specs.Field.{fieldOf};
 ghost use Rattle.definition.specs.Polynomial.{evaluate};
 ghost use Rattle.definition.specs.Sheet.{sheetOf};
-ghost use Rattle.completeness.specs.Numbered.{degreeOf, roundsOf};
+ghost use Rattle.layouts.specs.Levels.{degreeOf, roundsOf};
 ghost use Rattle.edition.specs.Meaning.{editionOf};
 ghost use Rattle.honest_words.specs.Tables.{LevelTable};
-ghost use Rattle.honest_words.specs.Standing.{OnLevel, RoundDealt, Standing, roundCount, roundFrom};
+ghost use Rattle.honest_words.specs.Invariant.{OnLevel, RoundCoinsFit, Invariant, roundCount, roundFrom};
 
 // A copy of words.
 pub fn copy(src: &[u32], out: &mut [u32])
@@ -75,9 +75,9 @@ pub fn round(
     coins: &[u32],
     out: &mut [u32],
 )
-    requires { ⌜ (Standing (editionOf e) (now w) (now pw) level scale) × (level < roundsOf (sheetOf (editionOf e) (now w))) ⌝ }
+    requires { ⌜ (Invariant (editionOf e) (now w) (now pw) level scale) × (level < roundsOf (sheetOf (editionOf e) (now w))) ⌝ }
     requires { ⌜ length (now g) ≡ degreeOf (sheetOf (editionOf e) (now w)) (level + 1) ⌝ }
-    requires { ⌜ (RoundDealt (sheetOf (editionOf e) (now w)) level (now coins)) × (length (now out) ≡ roundCount (sheetOf (editionOf e) (now w)) level) ⌝ }
+    requires { ⌜ (RoundCoinsFit (sheetOf (editionOf e) (now w)) level (now coins)) × (length (now out) ≡ roundCount (sheetOf (editionOf e) (now w)) level) ⌝ }
     ensures { λ _. ⌜ now (out .exit) ≡ roundFrom (sheetOf (editionOf e) (now (w .entry))) level (now (g .entry)) (now (coins .entry)) ⌝ }
 {
     let s = w[5] as usize;

@@ -4,7 +4,7 @@ use native.Mathlib.Omega.{arith}
 use mathlib.Core.List.{List}
 use mathlib.Core.Path.{_≡_, sym, ap, _∙_}
 use lib.ListN.{length, take}
-use Rattle.completeness.specs.Tests.{equal-passes, then-passes}
+use Rattle.layouts.specs.Tests.{equal-passes, then-passes}
 use Rattle.definition.specs.Line.{refusalLine}
 use Rattle.definition.specs.Prove.{done, refusal, sheetLengthTest}
 use Rattle.definition.specs.Reading.{sheetTest}
@@ -14,7 +14,7 @@ use Rattle.outcome.specs.declared.Outcome.{Outcome as Answered}
 use Rattle.outcome.specs.declared.Outcome.the-variants.{Accepted, Refused}
 use Rattle.outcome.specs.Meaning.{outcomeOf}
 use Rattle.word_input.specs.Input.{takeWords}
-use Rattle.word_input.specs.InputWords.{Made, words-ragged, words-taken}
+use Rattle.word_input.specs.InputWords.{Made, words-partial, words-taken}
 use Rattle.listing.specs.Listing.{domainsText, listing, sheetListing, textAfter}
 
 module _ (w : List ℕ) {r : Answered} (tests : outcomeOf r ≡ (sheetLengthTest edition1 w then sheetTest edition1 w)) where
@@ -39,6 +39,6 @@ module _ (bytes room : List ℕ) where
       let t = words-taken bytes room m in
       rw (t .0) (e ∙ ap sheetListing (t .1))
 
-  pub listing-ragged : {a b : ℕ} → refusal a b ≡ takeWords bytes room .answer → refusalLine a b ≡ listing bytes
+  pub listing-partial : {a b : ℕ} → refusal a b ≡ takeWords bytes room .answer → refusalLine a b ≡ listing bytes
   unfolding listing textAfter
-  listing-ragged e = rw (words-ragged bytes room e)
+  listing-partial e = rw (words-partial bytes room e)

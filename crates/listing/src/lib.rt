@@ -99,7 +99,7 @@ fn of_words(words: &[u32; 4096], count: usize, out: &mut [u8; 131072]) -> usize
     ensures { λ r. ⌜ r ≤ 131072 ⌝ }
 {
     let w = word_input::front(words, count);
-    let tests = orders::sheet_tests(Edition::One, w);
+    let tests = input_tests::sheet_tests(Edition::One, w);
     match tests {
         Outcome::Accepted => kept(w, out),
         Outcome::Refused(number, place) => line::write(line::of_refusal(number, place), 0, out),

@@ -1,13 +1,12 @@
 // The polynomials A and V of a round's samples and the geometric sum as coefficient lists, by one inversion.
-use inversions::Inverses;
 ghost use mathlib.Core.Path.{_≡_};
 ghost use Prim.Native.Nat.{ℕ, suc, _+_, _-_, _≤_, _<_};
 ghost use mathlib.Core.List.{[], _∷_};
 ghost use lib.ListN.{length, getD, take, drop};
-ghost use Rattle.definition.specs.Field.{Field, primeOf, fieldOf, reciprocal};
+ghost use Rattle.definition.specs.Field.{fieldOf, reciprocal};
 ghost use Rattle.definition.specs.Polynomial.{pair, evaluate, geometric};
 ghost use Rattle.algebra.specs.Different.{Apart};
-ghost use Rattle.domain.specs.Filled.{Filled};
+ghost use Rattle.list_laws.specs.Filled.{Filled};
 ghost use Rattle.polynomial.specs.Vanishing.{vanishAt};
 ghost use Rattle.sums.specs.ZeroPadding.{ZeroFrom};
 ghost use Rattle.lists.specs.Correcting.{Columned, Correcting};
@@ -33,66 +32,6 @@ pub fn double_places() -> [u32; 132]
     ensures { λ r. ⌜ length r ≡ 132 ⌝ }
 {
     [0u32; 132]
-}
-
-// The sum of x and d, y times, with one remainder for both: y is below p, and so the product fits.
-fn sum_times(field: u32, x: u32, d: u32, y: u32) -> u32
-    requires { ⌜ (d < primeOf field) × (y < primeOf field) ⌝ }
-    ensures { λ r. ⌜ r ≡ fieldOf field ._⊗_ (fieldOf field ._⊕_ x d) y ⌝ }
-{
-    field::reduce(field, (x as u64 + d as u64) * y as u64)
-}
-
-// Each word before number j becomes its point less point j, that word times.
-fn times_difference(field: u32, xs: &[u32], j: usize, out: &mut [u32])
-    requires { ⌜ (j < length (now xs)) × (length (now out) ≡ length (now xs)) ⌝ }
-    requires { ⌜ ((i : ℕ) → i < j → getD (now out) i 0 < primeOf field) ⌝ }
-    ensures { λ _. ⌜ Filled (λ i. fieldOf field ._⊗_ (fieldOf field ._⊖_ (getD (now (xs .entry)) i 0) (getD (now (xs .entry)) j 0)) (getD (now (out .entry)) i 0)) (now (out .entry)) (now (out .exit)) j ⌝ }
-{
-    let d = field::sub(field, 0, xs[j]);
-    let mut i = 0;
-    while i < j {
-        out[i] = sum_times(field, xs[i], d, out[i]);
-        i += 1;
-    }
-}
-
-// Every word becomes c.
-fn fill(c: u32, out: &mut [u32])
-    ensures { λ _. ⌜ Filled (λ _. c) (now (out .entry)) (now (out .exit)) (length (now (out .entry))) ⌝ }
-{
-    let mut i = 0;
-    while i < out.len() {
-        out[i] = c;
-        i += 1;
-    }
-}
-
-// For each point the product of its differences to those behind it, by one point after the other for all in front of it, so that no product waits for another.
-fn differences(field: u32, xs: &[u32], out: &mut [u32])
-    requires { ⌜ length (now out) ≡ length (now xs) ⌝ }
-    ensures { λ _. ⌜ ((i : ℕ) → i < length (now (xs .entry)) → getD (now (out .exit)) i 0 ≡ vanishAt (fieldOf field) (drop (suc i) (now (xs .entry))) (getD (now (xs .entry)) i 0)) ⌝ }
-{
-    fill(1, out);
-    let mut j = xs.len();
-    while 0 < j {
-        j -= 1;
-        times_difference(field, xs, j, out);
-    }
-}
-
-// The inverses of these products: what the Newton step of each point divides by. The points differ, and so no product is 0.
-fn divisors(field: u32, xs: &[u32], out: &mut [u32])
-    requires { ⌜ (length (now out) ≡ length (now xs)) × (length (now xs) ≤ 66) ⌝ }
-    requires { ⌜ Apart (fieldOf field) (now xs) ⌝ }
-    ensures { λ _. ⌜ ((i : ℕ) → i < length (now (xs .entry)) → getD (now (out .exit)) i 0 ≡ reciprocal (fieldOf field) (vanishAt (fieldOf field) (drop (suc i) (now (xs .entry))) (getD (now (xs .entry)) i 0))) ⌝ }
-{
-    differences(field, xs, out);
-    let mut behind = places();
-    let found = inversions::invert_all(field, out, &mut behind);
-    let Inverses::Found = found else {
-        return;
-    };
 }
 
 // The value at x of a polynomial with no more coefficients than `room`, lent for the powers of x, has words.
@@ -137,8 +76,8 @@ fn step(
     requires { ⌜ (0 < i) × ((i ≤ length (now xs)) × ((length (now ys) ≡ length (now xs)) × (length (now us) ≡ length (now xs)))) ⌝ }
     requires { ⌜ (length (now xs) < length (now q)) × ((length (now q) ≤ 66) × ((length (now v) ≡ length (now q)) × (length (now room) ≡ length (now q)))) ⌝ }
     requires { ⌜ getD (now us) (i - 1) 0 ≡ reciprocal (fieldOf field) (vanishAt (fieldOf field) (drop i (now xs)) (getD (now xs) (i - 1) 0)) ⌝ }
-    requires { ⌜ Through field (drop i (now xs)) (drop i (now ys)) (now q) (now v) ⌝ }
-    ensures { λ _. ⌜ Through field (drop (i - 1) (now (xs .entry))) (drop (i - 1) (now (ys .entry))) (now (q .exit)) (now (v .exit)) ⌝ }
+    requires { ⌜ Through (fieldOf field) (drop i (now xs)) (drop i (now ys)) (now q) (now v) ⌝ }
+    ensures { λ _. ⌜ Through (fieldOf field) (drop (i - 1) (now (xs .entry))) (drop (i - 1) (now (ys .entry))) (now (q .exit)) (now (v .exit)) ⌝ }
 {
     let count = xs.len() - i;
     let x = xs[i - 1];
@@ -150,10 +89,10 @@ fn step(
 // A and V of no samples: 0 and 1.
 fn start(field: u32, q: &mut [u32], v: &mut [u32])
     requires { ⌜ 0 < length (now v) ⌝ }
-    ensures { λ _. ⌜ Through field [] [] (now (q .exit)) (now (v .exit)) ⌝ }
+    ensures { λ _. ⌜ Through (fieldOf field) [] [] (now (q .exit)) (now (v .exit)) ⌝ }
 {
-    fill(0, q);
-    fill(0, v);
+    differences::fill(0, q);
+    differences::fill(0, v);
     v[0] = 1;
 }
 
@@ -170,7 +109,7 @@ fn steps(
     requires { ⌜ (length (now ys) ≡ length (now xs)) × (length (now us) ≡ length (now xs)) ⌝ }
     requires { ⌜ (length (now xs) < length (now q)) × ((length (now q) ≤ 66) × ((length (now v) ≡ length (now q)) × (length (now room) ≡ length (now q)))) ⌝ }
     requires { ⌜ ((i : ℕ) → i < length (now xs) → getD (now us) i 0 ≡ reciprocal (fieldOf field) (vanishAt (fieldOf field) (drop (suc i) (now xs)) (getD (now xs) i 0))) ⌝ }
-    ensures { λ _. ⌜ Through field (now (xs .entry)) (now (ys .entry)) (now (q .exit)) (now (v .exit)) ⌝ }
+    ensures { λ _. ⌜ Through (fieldOf field) (now (xs .entry)) (now (ys .entry)) (now (q .exit)) (now (v .exit)) ⌝ }
 {
     start(field, q, v);
     let mut i = xs.len();
@@ -181,15 +120,15 @@ fn steps(
 }
 
 // A and V of the samples with points xs, which differ, and values ys: by one inversion.
-pub fn interpolated(field: u32, xs: &[u32], ys: &[u32], q: &mut [u32], v: &mut [u32])
+fn interpolated(field: u32, xs: &[u32], ys: &[u32], q: &mut [u32], v: &mut [u32])
     requires { ⌜ (length (now ys) ≡ length (now xs)) × ((length (now xs) < length (now q)) × ((length (now q) ≡ 66) × (length (now v) ≡ 66))) ⌝ }
     requires { ⌜ Apart (fieldOf field) (now xs) ⌝ }
-    ensures { λ _. ⌜ Through field (now (xs .entry)) (now (ys .entry)) (now (q .exit)) (now (v .exit)) ⌝ }
+    ensures { λ _. ⌜ Through (fieldOf field) (now (xs .entry)) (now (ys .entry)) (now (q .exit)) (now (v .exit)) ⌝ }
 {
     let n = xs.len();
     let mut us = places();
-    divisors(field, xs, &mut us[..n]);
     let mut room = places();
+    differences::divisors(field, xs, &mut us[..n], &mut room);
     steps(field, xs, ys, &us[..n], &mut room, q, v);
 }
 
@@ -199,7 +138,7 @@ fn growth(field: u32, c: u32, e: usize, out: &mut [u32])
     ensures { λ _. ⌜ ((x : ℕ) → evaluate (fieldOf field) (now (out .exit)) x ≡ evaluate (fieldOf field) (geometric (fieldOf field) c e) x) ⌝ }
     ensures { λ _. ⌜ ZeroFrom (fieldOf field) (now (out .exit)) (suc e) ⌝ }
 {
-    fill(0, out);
+    differences::fill(0, out);
     sums::powers(field, c, &mut out[..e + 1]);
 }
 

@@ -7,11 +7,11 @@ use lib.ListN.{length, getD, length-append}
 use borrow.Author.Tests.{eq-eqb, ne-eqb}
 use Rattle.definition.specs.Block.{wordOf}
 use Rattle.definition.specs.Line.{decimal, lineOf, outcomeText}
-use Rattle.definition.specs.Load.{drawOrder, loadLines, loadRuns, orders, seedOf, verdictOn}
+use Rattle.definition.specs.Load.{drawInput, loadLines, loadRuns, drawnInputs, seedOf, verdictOn}
 use Rattle.definition.specs.Reading.{sheetTest}
 use Rattle.definition.specs.Sheet.{edition1, sheetOf}
 use Rattle.definition.specs.Verdict.{Verdict, accepted, refused}
-use Rattle.completeness.specs.DueSizes.{reads-most}
+use Rattle.layouts.specs.DueSizes.{reads-most}
 use Rattle.completeness.specs.LoadAllowed.{draws-accepted, draws-allowed, sheet-faultless}
 use Rattle.completeness.specs.Numbered.{readsDue}
 use Rattle.completeness.specs.Reads.{reads-at-most}
@@ -19,22 +19,22 @@ use Rattle.line.specs.Decimal.{long-64}
 use Rattle.load.specs.Runs.{linesFrom}
 
 pub lines-none : (v : ℕ) → linesFrom zero v ≡ []
-unfolding linesFrom orders flatMap
+unfolding linesFrom drawnInputs flatMap
 lines-none v = refl
 
-pub lines-next : (runs v : ℕ) → linesFrom (suc runs) v ≡ lineOf (verdictOn (drawOrder v .value)) ++ linesFrom runs (drawOrder v .next)
-unfolding linesFrom orders flatMap
+pub lines-next : (runs v : ℕ) → linesFrom (suc runs) v ≡ lineOf (verdictOn (drawInput v .value)) ++ linesFrom runs (drawInput v .next)
+unfolding linesFrom drawnInputs flatMap
 lines-next runs v = refl
 
 -- ---- the reads of a run are few
 
-drawn-faultless : (v : ℕ) → (length (drawOrder v .value .sheet) ≡ 12) × (sheetTest edition1 (drawOrder v .value .sheet) ≡ accepted)
-unfolding drawOrder
+drawn-faultless : (v : ℕ) → (length (drawInput v .value .sheet) ≡ 12) × (sheetTest edition1 (drawInput v .value .sheet) ≡ accepted)
+unfolding drawInput
 drawn-faultless v = sheet-faultless v
 
-reads-few : (v : ℕ) → readsDue (sheetOf edition1 (drawOrder v .value .sheet)) (drawOrder v .value .coins) ≤ 4608
+reads-few : (v : ℕ) → readsDue (sheetOf edition1 (drawInput v .value .sheet)) (drawInput v .value .coins) ≤ 4608
 reads-few v =
-    let o = drawOrder v .value in
+    let o = drawInput v .value in
     let s = drawn-faultless v in
     omega (arith, reads-at-most edition1 (o .sheet) (o .coefficients) (o .coins) (draws-allowed v), reads-most edition1 (o .sheet) (omega (arith, s .0)) (s .1))
 
@@ -42,16 +42,16 @@ line-accepted : (v : Verdict) (reads : ℕ) → reads < 2 ^ 64 → v ≡ record 
 unfolding lineOf outcomeText
 line-accepted v reads h e = rw e (omega (arith, length-append (decimal reads) (10 ∷ []), long-64 reads h))
 
-line-short : (v : ℕ) → length (lineOf (verdictOn (drawOrder v .value))) ≤ 34
+line-short : (v : ℕ) → length (lineOf (verdictOn (drawInput v .value))) ≤ 34
 line-short v = line-accepted _ _ (omega (arith, reads-few v)) (draws-accepted v)
 
-pub verdict-short : (v : ℕ) {verdict : Verdict} {long : ℕ} → verdict ≡ verdictOn (drawOrder v .value) → long ≡ length (lineOf verdict) → long ≤ 34
+pub verdict-short : (v : ℕ) {verdict : Verdict} {long : ℕ} → verdict ≡ verdictOn (drawInput v .value) → long ≡ length (lineOf verdict) → long ≤ 34
 verdict-short v e h = subst (λ (n : ℕ). n ≤ 34) (sym (h ∙ ap (λ (u : Verdict). length (lineOf u)) e)) (line-short v)
 
 -- ---- one run more
 
 pub lines-step : (left v : ℕ) (before : List ℕ) {next : ℕ} {verdict : Verdict} {line after whole : List ℕ} → 0 < left →
-    verdict ≡ verdictOn (drawOrder v .value) → next ≡ drawOrder v .next → line ≡ lineOf verdict → after ≡ before ++ line →
+    verdict ≡ verdictOn (drawInput v .value) → next ≡ drawInput v .next → line ≡ lineOf verdict → after ≡ before ++ line →
     before ++ linesFrom left v ≡ whole → after ++ linesFrom (left - 1) next ≡ whole
 lines-step left v before {next} {verdict} {line} h e n l a w =
     let one : suc (left - 1) ≡ left = omega arith in

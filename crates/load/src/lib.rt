@@ -8,7 +8,7 @@ ghost use mathlib.Core.List.{_++_, flatMap};
 ghost use Prim.Native.Nat.{ℕ, _+_, _*_, _≤_, _<_};
 ghost use lib.ListN.{length, getD, take};
 ghost use Rattle.definition.specs.Layout.{coinKinds, layout};
-ghost use Rattle.definition.specs.Load.{drawOrder, drawSheet, loadLines, loadOutput, seedOf, verdictOn};
+ghost use Rattle.definition.specs.Load.{drawInput, drawSheet, loadLines, loadOutput, seedOf, verdictOn};
 ghost use Rattle.definition.specs.Reading.{sheetTest};
 ghost use Rattle.definition.specs.Sheet.{edition1, sheetOf};
 ghost use Rattle.definition.specs.Verdict.{accepted};
@@ -66,8 +66,8 @@ fn after_sheet(
 
 // One run: a sheet, coefficients and coins are drawn, the order is proved, and the honest file is judged.
 pub fn run(generator: Generator) -> Ran
-    ensures { λ r. ⌜ verdictOf (r .verdict) ≡ verdictOn (drawOrder (generator .v) .value) ⌝ }
-    ensures { λ r. ⌜ r .next .v ≡ drawOrder (generator .v) .next ⌝ }
+    ensures { λ r. ⌜ verdictOf (r .verdict) ≡ verdictOn (drawInput (generator .v) .value) ⌝ }
+    ensures { λ r. ⌜ r .next .v ≡ drawInput (generator .v) .next ⌝ }
 {
     let mut w = [0u32; 12];
     let next = sheets::draw(generator, &mut w);
@@ -75,7 +75,7 @@ pub fn run(generator: Generator) -> Ran
     let mut coins = coins_room();
     let mut output = file_room();
     let d = w[2] as usize;
-    let n = sheet::coins_due(Edition::One, &w);
+    let n = sizes::coins_due(Edition::One, &w);
     after_sheet(
         &w,
         next,

@@ -5,7 +5,7 @@ use Rattle.field.specs.declared.Element.{Element}
 use Rattle.field.specs.declared.Element.the-variants as element
 use Rattle.field.specs.declared.Inverted.{Inverted}
 use Rattle.field.specs.declared.Inverted.the-variants as inverted
-use Rattle.field.specs.Answer.{answerOf, invertedOf}
+use Rattle.field.specs.Answer.{elementOf, invertedOf}
 use Rattle.outcome.specs.declared.Outcome.{Outcome}
 use Rattle.outcome.specs.declared.Outcome.the-variants.{Accepted, Refused}
 use Rattle.outcome.specs.declared.Answer.{Answer}
@@ -41,16 +41,16 @@ module _ (a : Answer) where
       (ap refusalOf m, ap valueOf m)
 
 module _ (a : Element) where
-  pub element-numbers : (x : ℕ) → a ≡ element.Value x → ElementNumbers (answerOf a) 1 x
+  pub element-numbers : (x : ℕ) → a ≡ element.Value x → ElementNumbers (elementOf a) 1 x
   unfolding fieldNamed elementOrZero
   element-numbers x h =
-      let m = ap answerOf (sym h) in
+      let m = ap elementOf (sym h) in
       (ap fieldNamed m, ap elementOrZero m)
 
-  pub no-field-numbers : a ≡ element.NoField → ElementNumbers (answerOf a) 0 0
+  pub no-field-numbers : a ≡ element.NoField → ElementNumbers (elementOf a) 0 0
   unfolding fieldNamed elementOrZero
   no-field-numbers h =
-      let m = ap answerOf (sym h) in
+      let m = ap elementOf (sym h) in
       (ap fieldNamed m, ap elementOrZero m)
 
 module _ (a : Inverted) where

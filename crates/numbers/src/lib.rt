@@ -5,8 +5,8 @@ use outcome::Answer;
 use outcome::Outcome;
 use outcome::Verdict;
 ghost use mathlib.Core.Path.{_≡_};
-ghost use Rattle.field.specs.Answer.{answerOf, invertedOf};
-ghost use Rattle.outcome.specs.Meaning.{answerOf as orderAnswer, outcomeOf, verdictOf};
+ghost use Rattle.field.specs.Answer.{elementOf, invertedOf};
+ghost use Rattle.outcome.specs.Meaning.{answerOf, outcomeOf, verdictOf};
 ghost use Rattle.numbers.specs.Numbers.{numberOf, placeIn, refusalOf, valueOf, fieldNamed, elementOrZero, inverseNumber, inverseOrZero};
 
 // Writes an outcome: the fault's place, 0 where accepted. Answers 0 for accepted, else the fault's number.
@@ -39,8 +39,8 @@ pub fn write_verdict(v: Verdict, place: &mut u64, reads: &mut u64) -> u32
 
 // Writes an answer's value: the count where done, else the refusal's place. Answers 0 where done, else the refusal's number.
 pub fn write_value(answer: Answer, value: &mut u64) -> u32
-    ensures { λ r. ⌜ r ≡ refusalOf (orderAnswer answer) ⌝ }
-    ensures { λ r. ⌜ now (value .exit) ≡ valueOf (orderAnswer answer) ⌝ }
+    ensures { λ r. ⌜ r ≡ refusalOf (answerOf answer) ⌝ }
+    ensures { λ r. ⌜ now (value .exit) ≡ valueOf (answerOf answer) ⌝ }
 {
     match answer {
         Answer::Done(count) => {
@@ -56,7 +56,7 @@ pub fn write_value(answer: Answer, value: &mut u64) -> u32
 
 // Answers 0 where done, else the refusal's number.
 pub fn refusal_number(answer: Answer) -> u32
-    ensures { λ r. ⌜ r ≡ refusalOf (orderAnswer answer) ⌝ }
+    ensures { λ r. ⌜ r ≡ refusalOf (answerOf answer) ⌝ }
 {
     match answer {
         Answer::Done(count) => 0,
@@ -66,8 +66,8 @@ pub fn refusal_number(answer: Answer) -> u32
 
 // Writes an element, or 0 where the number named no field; answers 1 or 0.
 pub fn write_element(answer: Element, element: &mut u32) -> u32
-    ensures { λ r. ⌜ r ≡ fieldNamed (answerOf answer) ⌝ }
-    ensures { λ r. ⌜ now (element .exit) ≡ elementOrZero (answerOf answer) ⌝ }
+    ensures { λ r. ⌜ r ≡ fieldNamed (elementOf answer) ⌝ }
+    ensures { λ r. ⌜ now (element .exit) ≡ elementOrZero (elementOf answer) ⌝ }
 {
     match answer {
         Element::Value(x) => {

@@ -11,13 +11,13 @@ use lib.ListN.{length, getD}
 use lib.Dec.{leb}
 use lib.Pow.{pow-mono, pow-pos}
 use borrow.Author.Tests.{eq-eqb, le-leb, lt-leb, ne-eqb}
-use Rattle.completeness.specs.CoinsAfter.{chosen, wordsAfter}
-use Rattle.completeness.specs.Lawful.{Lawful, lawful, rounds-word, times-word}
-use Rattle.completeness.specs.Numbered.{levelOf, roundsOf}
-use Rattle.completeness.specs.SheetRules.{long-enough, rounds-most}
+use Rattle.layouts.specs.CoinsAfter.{chosen, wordsAfter}
+use Rattle.layouts.specs.Lawful.{Lawful, lawful, rounds-word, times-word}
+use Rattle.layouts.specs.Levels.{levelOf, roundsOf}
+use Rattle.layouts.specs.SheetRules.{long-enough, rounds-most}
 use Rattle.definition.specs.Deciding.{equalTest, outTest, outTests}
 use Rattle.definition.specs.Field.{fieldOf, primeField}
-use Rattle.definition.specs.Layout.{Kind, coin, coinKinds, layout, out, wordsDue}
+use Rattle.definition.specs.Layout.{Kind, coinKinds, layout, wordsDue}
 use Rattle.definition.specs.Reading.{sheetTest}
 use Rattle.definition.specs.Sheet.{Edition, Level, Sheet, rootOfUnity, sheetLength, sheetOf}
 use Rattle.definition.specs.Verdict.{Outcome, _then_, accepted, refuseAt, refused}
@@ -26,7 +26,7 @@ use Rattle.domain.specs.Powers.{Powers}
 use Rattle.outcome.specs.declared.Found.{Found}
 use Rattle.outcome.specs.declared.Found.the-variants.{At, Nothing}
 use Rattle.outcome.specs.Meaning.{placeOf}
-use Rattle.out_coins.specs.Kinds.{afterFold, kinds-first, kinds-last, messagesIn, round-count, roundWords}
+use Rattle.out_coins.specs.Kinds.{kindsAfterFold, kinds-first, kinds-last, messagesIn, round-count, roundWordCount}
 use Rattle.out_coins.specs.Walks.{equal-none, equal-step, equalAt, equalFrom, inside-none, inside-step, insideFrom, rest-there, tests-rest}
 
 or-none : (a : Option ℕ) → orElse a none ≡ a
@@ -60,8 +60,8 @@ module _ (w : List ℕ) (at count : ℕ) where
   one-coin d = sym (rw (lt-leb 2 count d))
 
 -- the out coins come first among a round's words from them on
-pub outs-first : (alone : Bool) (w : List ℕ) (i : ℕ) → getD w 5 0 ≤ roundWords alone w i
-unfolding roundWords
+pub outs-first : (alone : Bool) (w : List ℕ) (i : ℕ) → getD w 5 0 ≤ roundWordCount alone w i
+unfolding roundWordCount
 outs-first alone w i = omega arith
 
 -- what the noted pair says in the end
@@ -77,18 +77,18 @@ ended-nowhere e q = sym (ap (λ (x : Found). refuseAt 7 none then refuseAt 14 (p
 pub record Asked (ed : Edition) (w : List ℕ) (alone : Bool) (words : List ℕ) (start : ℕ) : Type 0 where
   pub long : sheetLength ed ≤ length w
   pub passed : sheetTest ed w ≡ accepted
-  pub due : start + length (chosen alone (afterFold (sheetOf ed w))) ≤ length words
+  pub due : start + length (chosen alone (kindsAfterFold (sheetOf ed w))) ≤ length words
 
 pub asked : {ed : Edition} {w : List ℕ} {alone : Bool} {words : List ℕ} {start : ℕ} → (sheetLength ed ≤ length w) × (sheetTest ed w ≡ accepted) →
-    start + length (chosen alone (afterFold (sheetOf ed w))) ≤ length words → Asked ed w alone words start
+    start + length (chosen alone (kindsAfterFold (sheetOf ed w))) ≤ length words → Asked ed w alone words start
 asked a d = record { long = a .0; passed = a .1; due = d }
 
 -- i rounds are behind without an out coin in its domain, the second of two equal out coins is found or none is, and the next word is number `at`
 pub record AtRound (h : Sheet) (alone : Bool) (words : List ℕ) (start : ℕ) (equal : Option ℕ) (at scale i : ℕ) : Type 0 where
   pub within : i ≤ roundsOf h
   pub scaled : scale ≡ 2 ^ i
-  pub inside : insideFrom h (chosen alone (wordsAfter h i)) words at ≡ insideFrom h (chosen alone (afterFold h)) words start
-  pub same : orElse equal (equalFrom (chosen alone (wordsAfter h i)) words at) ≡ equalFrom (chosen alone (afterFold h)) words start
+  pub inside : insideFrom h (chosen alone (wordsAfter h i)) words at ≡ insideFrom h (chosen alone (kindsAfterFold h)) words start
+  pub same : orElse equal (equalFrom (chosen alone (wordsAfter h i)) words at) ≡ equalFrom (chosen alone (kindsAfterFold h)) words start
   pub there : at + length (chosen alone (wordsAfter h i)) ≤ length words
 
 -- the loop's invariant: so it is in each edition whose rules the words keep
@@ -138,7 +138,7 @@ module _ {ed : Edition} {w : List ℕ} {alone : Bool} {words : List ℕ} {start 
 
   module _ {equal : Option ℕ} {at scale i : ℕ} (r : AtRound (sheetOf ed w) alone words start equal at scale i) where
     -- after the last round
-    pub ended : getD w 4 0 ≤ i → (refuseAt 7 none then refuseAt 14 equal) ≡ outTests (sheetOf ed w) start (chosen alone (afterFold (sheetOf ed w))) words
+    pub ended : getD w 4 0 ≤ i → (refuseAt 7 none then refuseAt 14 equal) ≡ outTests (sheetOf ed w) start (chosen alone (kindsAfterFold (sheetOf ed w))) words
     unfolding outTests outTest equalTest
     ended last =
         let k = kinds-last alone h i (omega (arith, rounds)) in
@@ -161,8 +161,8 @@ module _ {ed : Edition} {w : List ℕ} {alone : Bool} {words : List ℕ} {start 
       time = times-word ed w (A .long) (A .passed) i (omega arith)
 
       -- the words from the out coins on, as the kinds count them
-      words-count : sheetOf ed w .outCoins + (messagesIn alone (sheetOf ed w .outCoins) + (2 + levelOf (sheetOf ed w) i .repetitions)) ≡ roundWords alone w i
-      unfolding roundWords sheetOf
+      words-count : sheetOf ed w .outCoins + (messagesIn alone (sheetOf ed w .outCoins) + (2 + levelOf (sheetOf ed w) i .repetitions)) ≡ roundWordCount alone w i
+      unfolding roundWordCount sheetOf
       words-count = omega (arith, time)
 
       module _ {points : ℕ} (size : points ≡ getD w 1 0) where
@@ -171,10 +171,10 @@ module _ {ed : Edition} {w : List ℕ} {alone : Bool} {words : List ℕ} {start 
         unfolding sheetOf
         table-size = λ j. size j / scale-next j
 
-        next-there : at + messagesIn alone (points / (scale * 2)) + roundWords alone w i + length (chosen alone (wordsAfter (sheetOf ed w) (i + 1))) ≤ length words
+        next-there : at + messagesIn alone (points / (scale * 2)) + roundWordCount alone w i + length (chosen alone (wordsAfter (sheetOf ed w) (i + 1))) ≤ length words
         next-there = omega (arith, r .there, round-count alone h i (omega (arith, rounds)), words-count, ap (messagesIn alone) table-size)
 
-        pub round-there : at + messagesIn alone (points / (scale * 2)) + roundWords alone w i ≤ length words
+        pub round-there : at + messagesIn alone (points / (scale * 2)) + roundWordCount alone w i ≤ length words
         round-there = omega (arith, next-there)
 
         -- the places as the kinds count them
@@ -182,7 +182,7 @@ module _ {ed : Edition} {w : List ℕ} {alone : Bool} {words : List ℕ} {start 
         outs-place = ap (λ (n : ℕ). at + messagesIn alone n) (sym table-size)
 
         next-place : at + messagesIn alone (levelOf (sheetOf ed w) (i + 1) .size) + (sheetOf ed w .outCoins + (messagesIn alone (sheetOf ed w .outCoins) + (2 + levelOf (sheetOf ed w) i .repetitions)))
-            ≡ at + messagesIn alone (points / (scale * 2)) + roundWords alone w i
+            ≡ at + messagesIn alone (points / (scale * 2)) + roundWordCount alone w i
         next-place = λ j. outs-place j + words-count j
 
         abbrev rest : List Kind
@@ -190,13 +190,13 @@ module _ {ed : Edition} {w : List ℕ} {alone : Bool} {words : List ℕ} {start 
 
         by-inside : insideFrom (sheetOf ed w) (chosen alone (wordsAfter (sheetOf ed w) i)) words at
             ≡ orElse (firstInside (getD w 0 0) (rootOfUnity (sheetOf ed w)) (levelOf (sheetOf ed w) (i + 1)) words (at + messagesIn alone (points / (scale * 2))) (sheetOf ed w .outCoins))
-            (insideFrom (sheetOf ed w) rest words (at + messagesIn alone (points / (scale * 2)) + roundWords alone w i))
+            (insideFrom (sheetOf ed w) rest words (at + messagesIn alone (points / (scale * 2)) + roundWordCount alone w i))
         by-inside =
             inside-step alone h words at i (omega (arith, rounds)) (law .once i (omega (arith, rounds))) (omega (arith, next-place, round-there)) (getD w 0 0) (field-is ed w)
             ∙ (λ j. orElse (firstInside (getD w 0 0) (rootOfUnity h) l words (outs-place j) (h .outCoins)) (insideFrom h rest words (next-place j)))
 
         by-equal : equalFrom (chosen alone (wordsAfter (sheetOf ed w) i)) words at
-            ≡ orElse (equalAt words (at + messagesIn alone (points / (scale * 2))) (sheetOf ed w .outCoins)) (equalFrom rest words (at + messagesIn alone (points / (scale * 2)) + roundWords alone w i))
+            ≡ orElse (equalAt words (at + messagesIn alone (points / (scale * 2))) (sheetOf ed w .outCoins)) (equalFrom rest words (at + messagesIn alone (points / (scale * 2)) + roundWordCount alone w i))
         by-equal =
             equal-step alone h words at i (omega (arith, rounds)) (law .once i (omega (arith, rounds))) (omega (arith, next-place, round-there)) (law .outs)
             ∙ (λ j. orElse (equalAt words (outs-place j) (h .outCoins)) (equalFrom rest words (next-place j)))
@@ -205,7 +205,7 @@ module _ {ed : Edition} {w : List ℕ} {alone : Bool} {words : List ℕ} {start 
         outsAt = at + messagesIn alone (points / (scale * 2))
 
         abbrev next : ℕ
-        next = at + messagesIn alone (points / (scale * 2)) + roundWords alone w i
+        next = at + messagesIn alone (points / (scale * 2)) + roundWordCount alone w i
 
         module _ (pw : List ℕ) (many : length pw ≡ points) (ed′ : Edition) (points-are : Powers (getD w 0 0) (rootOfUnity (sheetOf ed′ w)) pw) {o : Option ℕ} {heads : ℕ}
             (eh : heads ≡ messagesIn alone (points / (scale * 2))) (first : FirstInside words pw (scale * 2) (at + heads) (getD w 5 0) o) where
@@ -215,19 +215,19 @@ module _ {ed : Edition} {w : List ℕ} {alone : Bool} {words : List ℕ} {start 
               first (getD w 0 0) (rootOfUnity h) l (rw (same-root ed ed′ w) points-are) (sym scale-next) (sym table-size ∙ ap (λ (n : ℕ). n / (scale * 2)) (sym many))
               ∙ ap (λ (n : ℕ). firstInside (getD w 0 0) (rootOfUnity h) l words (at + n) (h .outCoins)) eh
 
-          found-as : orElse o (insideFrom (sheetOf ed w) rest words next) ≡ insideFrom (sheetOf ed w) (chosen alone (afterFold (sheetOf ed w))) words start
+          found-as : orElse o (insideFrom (sheetOf ed w) rest words next) ≡ insideFrom (sheetOf ed w) (chosen alone (kindsAfterFold (sheetOf ed w))) words start
           found-as = ap (λ (x : Option ℕ). orElse x (insideFrom h rest words next)) of-round ∙ sym by-inside ∙ r .inside
 
-          pub found : {place : ℕ} → some place ≡ o → refused 7 place ≡ outTests (sheetOf ed w) start (chosen alone (afterFold (sheetOf ed w))) words
+          pub found : {place : ℕ} → some place ≡ o → refused 7 place ≡ outTests (sheetOf ed w) start (chosen alone (kindsAfterFold (sheetOf ed w))) words
           unfolding outTests outTest refuseAt _then_
           found e =
-              ap (λ (x : Option ℕ). refuseAt 7 x then equalTest h start (chosen alone (afterFold h)) words)
+              ap (λ (x : Option ℕ). refuseAt 7 x then equalTest h start (chosen alone (kindsAfterFold h)) words)
               (ap (λ (x : Option ℕ). orElse x (insideFrom h rest words next)) e ∙ found-as)
 
-          pub turned : none ≡ o → {equal′ here : Option ℕ} {next′ : ℕ} → equal′ ≡ orElse equal here → here ≡ equalAt words (at + heads) (getD w 5 0) → next′ ≡ at + heads + roundWords alone w i →
+          pub turned : none ≡ o → {equal′ here : Option ℕ} {next′ : ℕ} → equal′ ≡ orElse equal here → here ≡ equalAt words (at + heads) (getD w 5 0) → next′ ≡ at + heads + roundWordCount alone w i →
               AtRound (sheetOf ed w) alone words start equal′ next′ (scale * 2) (i + 1)
           turned e {equal′} {here} {next′} q eq en =
-              let place : next′ ≡ next = en ∙ ap (λ (n : ℕ). at + n + roundWords alone w i) eh in
+              let place : next′ ≡ next = en ∙ ap (λ (n : ℕ). at + n + roundWordCount alone w i) eh in
               let pair : equal′ ≡ orElse equal (equalAt words outsAt (h .outCoins)) = q ∙ ap (orElse equal) (eq ∙ (λ j. equalAt words (at + eh j) (sym (outs-is ed w) j))) in
               record {
                 within = omega (arith, rounds);
@@ -253,13 +253,13 @@ module _ (ed : Edition) (w : List ℕ) (due : wordsDue ed (sheetOf ed w) ≤ len
     unfolding messagesIn sheetOf
     start-is = ap (λ (n : ℕ). n + getD w 1 0 + 1) ef
 
-    pub stream-start : from + getD w 1 0 + 1 + length (chosen false (afterFold (sheetOf ed w))) ≤ length w
+    pub stream-start : from + getD w 1 0 + 1 + length (chosen false (kindsAfterFold (sheetOf ed w))) ≤ length w
     stream-start = omega (arith, start-is, rest-there false (sheetOf ed w) w (sheetLength ed) all-there)
 
-    pub stream-rest : outTests (sheetOf ed w) (from + getD w 1 0 + 1) (chosen false (afterFold (sheetOf ed w))) w ≡ outTests (sheetOf ed w) (sheetLength ed) (layout (sheetOf ed w)) w
+    pub stream-rest : outTests (sheetOf ed w) (from + getD w 1 0 + 1) (chosen false (kindsAfterFold (sheetOf ed w))) w ≡ outTests (sheetOf ed w) (sheetLength ed) (layout (sheetOf ed w)) w
     unfolding chosen
     stream-rest =
-        ap (λ (n : ℕ). outTests (sheetOf ed w) n (chosen false (afterFold (sheetOf ed w))) w) start-is ∙ tests-rest false (sheetOf ed w) w (sheetLength ed) all-there
+        ap (λ (n : ℕ). outTests (sheetOf ed w) n (chosen false (kindsAfterFold (sheetOf ed w))) w) start-is ∙ tests-rest false (sheetOf ed w) w (sheetLength ed) all-there
 
 -- a full coin list
 module _ (ed : Edition) (w coins : List ℕ) (full : length coins ≡ length (coinKinds (layout (sheetOf ed w)))) where
@@ -267,10 +267,10 @@ module _ (ed : Edition) (w coins : List ℕ) (full : length coins ≡ length (co
   unfolding chosen
   all-coins = omega (arith, full)
 
-  pub coins-start : 1 + length (chosen true (afterFold (sheetOf ed w))) ≤ length coins
+  pub coins-start : 1 + length (chosen true (kindsAfterFold (sheetOf ed w))) ≤ length coins
   unfolding messagesIn
   coins-start = rest-there true (sheetOf ed w) coins 0 all-coins
 
-  pub coins-rest : outTests (sheetOf ed w) 1 (chosen true (afterFold (sheetOf ed w))) coins ≡ outTests (sheetOf ed w) 0 (coinKinds (layout (sheetOf ed w))) coins
+  pub coins-rest : outTests (sheetOf ed w) 1 (chosen true (kindsAfterFold (sheetOf ed w))) coins ≡ outTests (sheetOf ed w) 0 (coinKinds (layout (sheetOf ed w))) coins
   unfolding messagesIn chosen
   coins-rest = tests-rest true (sheetOf ed w) coins 0 all-coins

@@ -5,26 +5,25 @@ use mathlib.Core.Bool.{Bool, true, false, cond}
 use mathlib.Core.List.{List, [], _∷_, _++_, append-assoc}
 use mathlib.Core.Path.{_≡_, refl, ap, _∙_}
 use lib.ListN.{length, getD, replicate, length-append, length-replicate}
-use Rattle.algebra.specs.ListFacts.{All, all-append}
-use Rattle.completeness.specs.CoinsAfter.{chosen, chosen-append, words-first, words-last, words-next, wordsAfter}
-use Rattle.completeness.specs.LayoutFacts.{coins-final, coins-messages, coins-append, round-coins}
-use Rattle.completeness.specs.LevelsByNumber.{Paired}
-use Rattle.completeness.specs.ListLaws.{all-replicate}
-use Rattle.completeness.specs.Numbered.{levelOf, outsOf, roundsOf}
+use Rattle.list_laws.specs.All.{All, all-append, all-replicate}
+use Rattle.layouts.specs.CoinsAfter.{chosen, chosen-append, words-first, words-last, words-next, wordsAfter}
+use Rattle.layouts.specs.LayoutFacts.{coins-final, coins-messages, coins-append, round-coins}
+use Rattle.layouts.specs.LevelsByNumber.{Paired}
+use Rattle.layouts.specs.Levels.{levelOf, outCoinCount, roundsOf}
 use Rattle.definition.specs.Layout.{Kind, coin, coinKinds, index, layout, message, out, restLayout, roundLayout}
 use Rattle.definition.specs.Sheet.{Level, Sheet, finalCount, firstLevel, laterLevels, shiftCount}
 
 -- the kinds of the words after fold coin 0
-abbrev pub afterFold : Sheet → List Kind
-afterFold h = restLayout (h .outCoins) (firstLevel h) (laterLevels h)
+abbrev pub kindsAfterFold : Sheet → List Kind
+kindsAfterFold h = restLayout (h .outCoins) (firstLevel h) (laterLevels h)
 
 -- how many of n messages stand among the words
 unfoldable pub messagesIn : Bool → ℕ → ℕ
 messagesIn alone n = cond alone 0 n
 
 -- the number of words of round i + 1 of a sheet w from its out coins on
-unfoldable pub roundWords : Bool → List ℕ → ℕ → ℕ
-roundWords alone w i = getD w 5 0 + messagesIn alone (getD w 5 0) + 2 + getD w (6 + i) 0
+unfoldable pub roundWordCount : Bool → List ℕ → ℕ → ℕ
+roundWordCount alone w i = getD w 5 0 + messagesIn alone (getD w 5 0) + 2 + getD w (6 + i) 0
 
 -- a kind that is no out coin
 abbrev pub Silent : Kind → Type 0
@@ -87,33 +86,33 @@ chosen-final true s b = coins-final s b
 
 module _ (alone : Bool) (h : Sheet) where
   pub kinds-next : (i : ℕ) → i < roundsOf h → chosen alone (wordsAfter h i)
-      ≡ headKinds alone (levelOf h (i + 1)) ++ (replicate (outsOf h) (out (levelOf h (i + 1))) ++ (tailKinds alone (outsOf h) (levelOf h i) ++ chosen alone (wordsAfter h (i + 1))))
+      ≡ headKinds alone (levelOf h (i + 1)) ++ (replicate (outCoinCount h) (out (levelOf h (i + 1))) ++ (tailKinds alone (outCoinCount h) (levelOf h i) ++ chosen alone (wordsAfter h (i + 1))))
   kinds-next i l =
       let head = headKinds alone (levelOf h (i + 1)) in
-      let outs = replicate (outsOf h) (out (levelOf h (i + 1))) in
-      let tail = tailKinds alone (outsOf h) (levelOf h i) in
+      let outs = replicate (outCoinCount h) (out (levelOf h (i + 1))) in
+      let tail = tailKinds alone (outCoinCount h) (levelOf h i) in
       let rest = chosen alone (wordsAfter h (i + 1)) in
-      ap (chosen alone) (words-next h i l) ∙ chosen-append alone (roundLayout (outsOf h) (levelOf h i) (levelOf h (i + 1))) (wordsAfter h (i + 1))
-      ∙ ap {B = List Kind} (λ ks. ks ++ rest) (chosen-round alone (outsOf h) (levelOf h i) (levelOf h (i + 1)))
+      ap (chosen alone) (words-next h i l) ∙ chosen-append alone (roundLayout (outCoinCount h) (levelOf h i) (levelOf h (i + 1))) (wordsAfter h (i + 1))
+      ∙ ap {B = List Kind} (λ ks. ks ++ rest) (chosen-round alone (outCoinCount h) (levelOf h i) (levelOf h (i + 1)))
       ∙ append-assoc head (outs ++ tail) rest ∙ ap {B = List Kind} (λ ks. head ++ ks) (append-assoc outs tail rest)
 
   pub kinds-last : (i : ℕ) → roundsOf h ≤ i → All Silent (chosen alone (wordsAfter h i))
   kinds-last i l =
       let b = levelOf h i in
-      rw (words-last h i l, chosen-final alone (outsOf h) b)
+      rw (words-last h i l, chosen-final alone (outCoinCount h) b)
       (all-append Silent (replicate (messagesIn alone (finalCount b)) message) _ (all-replicate Silent (messagesIn alone (finalCount b)) message tt)
       (all-replicate Silent (b .repetitions) (index (shiftCount b)) tt))
 
-  pub kinds-first : Paired h → chosen alone (afterFold h) ≡ chosen alone (wordsAfter h 0)
+  pub kinds-first : Paired h → chosen alone (kindsAfterFold h) ≡ chosen alone (wordsAfter h 0)
   kinds-first long = ap (chosen alone) (words-first h long)
 
   -- the number of words of a round
   pub round-count : (i : ℕ) → i < roundsOf h → length (chosen alone (wordsAfter h i))
-      ≡ messagesIn alone (levelOf h (i + 1) .size) + (outsOf h + (messagesIn alone (outsOf h) + (2 + levelOf h i .repetitions))) + length (chosen alone (wordsAfter h (i + 1)))
+      ≡ messagesIn alone (levelOf h (i + 1) .size) + (outCoinCount h + (messagesIn alone (outCoinCount h) + (2 + levelOf h i .repetitions))) + length (chosen alone (wordsAfter h (i + 1)))
   round-count i l =
       let head = headKinds alone (levelOf h (i + 1)) in
-      let outs = replicate (outsOf h) (out (levelOf h (i + 1))) in
-      let tail = tailKinds alone (outsOf h) (levelOf h i) in
+      let outs = replicate (outCoinCount h) (out (levelOf h (i + 1))) in
+      let tail = tailKinds alone (outCoinCount h) (levelOf h i) in
       let rest = chosen alone (wordsAfter h (i + 1)) in
       omega (
         arith,
@@ -122,15 +121,15 @@ module _ (alone : Bool) (h : Sheet) where
         length-append outs (tail ++ rest),
         length-append tail rest,
         length-replicate (messagesIn alone (levelOf h (i + 1) .size)) message,
-        length-replicate (outsOf h) (out (levelOf h (i + 1))),
-        tail-count alone (outsOf h) (levelOf h i),
+        length-replicate (outCoinCount h) (out (levelOf h (i + 1))),
+        tail-count alone (outCoinCount h) (levelOf h i),
       )
 
   -- table 0 and fold coin 0 come first, or fold coin 0 alone
-  pub kinds-all : chosen alone (layout h) ≡ replicate (messagesIn alone (h .size)) message ++ (coin ∷ chosen alone (afterFold h))
+  pub kinds-all : chosen alone (layout h) ≡ replicate (messagesIn alone (h .size)) message ++ (coin ∷ chosen alone (kindsAfterFold h))
   unfolding chosen messagesIn layout coinKinds
   kinds-all = go alone
     where
-      go : (a : Bool) → chosen a (layout h) ≡ replicate (messagesIn a (h .size)) message ++ (coin ∷ chosen a (afterFold h))
+      go : (a : Bool) → chosen a (layout h) ≡ replicate (messagesIn a (h .size)) message ++ (coin ∷ chosen a (kindsAfterFold h))
       go false = refl
-      go true = coins-append (replicate (h .size) message) (coin ∷ afterFold h) ∙ ap {B = List Kind} (λ ks. ks ++ coinKinds (coin ∷ afterFold h)) (coins-messages (h .size))
+      go true = coins-append (replicate (h .size) message) (coin ∷ kindsAfterFold h) ∙ ap {B = List Kind} (λ ks. ks ++ coinKinds (coin ∷ kindsAfterFold h)) (coins-messages (h .size))

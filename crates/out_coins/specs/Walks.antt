@@ -9,18 +9,17 @@ use mathlib.Core.Path.{_≡_, refl, sym, ap, _∙_}
 use lib.Dec.{eqb, leb}
 use lib.ListN.{length, getD, drop, replicate, length-append, length-replicate}
 use lib.Seq.{drop-cons}
-use Rattle.algebra.specs.ListFacts.{All, all-map}
-use Rattle.completeness.specs.CoinsAfter.{chosen, wordsAfter}
-use Rattle.completeness.specs.ListLaws.{all-replicate}
-use Rattle.completeness.specs.Numbered.{levelOf, outsOf, roundsOf}
+use Rattle.list_laws.specs.All.{All, all-map, all-replicate}
+use Rattle.layouts.specs.CoinsAfter.{chosen, wordsAfter}
+use Rattle.layouts.specs.Levels.{levelOf, outCoinCount, roundsOf}
 use Rattle.definition.specs.Deciding.{equalTest, outBefore, outInDomain, outRepeated, outTest, outTests, repeatedOuts, sameAs}
 use Rattle.definition.specs.Field.{fieldOf, primeField}
 use Rattle.definition.specs.Layout.{Kind, coin, index, layout, message, out}
 use Rattle.definition.specs.Lists.{firstTrue}
 use Rattle.definition.specs.Sheet.{Level, Sheet, rootOfUnity}
 use Rattle.definition.specs.Verdict.{_then_, refuseAt}
-use Rattle.domain.specs.OutCoins.{all-quiet, firstInside, orElse, outs-run, quiet}
-use Rattle.out_coins.specs.Kinds.{Ends, Silent, afterFold, headKinds, kinds-all, kinds-next, messagesIn, silent-head, tail-count, tail-ends, tailKinds}
+use Rattle.domain.specs.OutCoins.{all-passed-over, firstInside, orElse, outs-run, passed-over}
+use Rattle.out_coins.specs.Kinds.{Ends, Silent, kindsAfterFold, headKinds, kinds-all, kinds-next, messagesIn, silent-head, tail-count, tail-ends, tailKinds}
 
 -- of the words from number `at` on, which are of these kinds: the first out coin in its domain, and the first that repeats the one before it in its round
 abbrev pub insideFrom : Sheet → List Kind → List ℕ → ℕ → Option ℕ
@@ -54,10 +53,10 @@ module _ (h : Sheet) where
   outside ks s = all-map ks s (λ k q. silent-outside k q)
 
   pub inside-over : (ks ks′ : List Kind) (w : List ℕ) (at n : ℕ) → length ks ≡ n → All Silent ks → at + n ≤ length w → insideFrom h (ks ++ ks′) w at ≡ insideFrom h ks′ w (at + n)
-  inside-over ks ks′ w at n e s l = quiet (outInDomain h) ks ks′ w at n e (outside ks s) l
+  inside-over ks ks′ w at n e s l = passed-over (outInDomain h) ks ks′ w at n e (outside ks s) l
 
   pub inside-none : (ks : List Kind) (w : List ℕ) (at : ℕ) → All Silent ks → insideFrom h ks w at ≡ none
-  inside-none ks w at s = all-quiet (outInDomain h) ks (drop at w) at (outside ks s)
+  inside-none ks w at s = all-passed-over (outInDomain h) ks (drop at w) at (outside ks s)
 
   pub inside-round : (field : ℕ) → primeField (h .prime) ≡ fieldOf field → (l : Level) (s : ℕ) (ks ks′ : List Kind) (w : List ℕ) (at n : ℕ) → length ks ≡ n → Ends ks → at + (s + n) ≤ length w →
       insideFrom h (replicate s (out l) ++ (ks ++ ks′)) w at ≡ orElse (firstInside field (rootOfUnity h) l w at s) (insideFrom h ks′ w (at + (s + n)))
@@ -139,26 +138,26 @@ module _ (alone : Bool) (h : Sheet) (w : List ℕ) (at i : ℕ) (more : i < roun
   head = messagesIn alone (levelOf h (i + 1) .size)
 
   abbrev tail : ℕ
-  tail = messagesIn alone (outsOf h) + (2 + levelOf h i .repetitions)
+  tail = messagesIn alone (outCoinCount h) + (2 + levelOf h i .repetitions)
 
   abbrev rest : List Kind
   rest = chosen alone (wordsAfter h (i + 1))
 
-  module _ (there : at + head + (outsOf h + tail) ≤ length w) where
+  module _ (there : at + head + (outCoinCount h + tail) ≤ length w) where
     pub inside-step : (field : ℕ) → primeField (h .prime) ≡ fieldOf field → insideFrom h (chosen alone (wordsAfter h i)) w at
-        ≡ orElse (firstInside field (rootOfUnity h) (levelOf h (i + 1)) w (at + head) (outsOf h)) (insideFrom h rest w (at + head + (outsOf h + tail)))
+        ≡ orElse (firstInside field (rootOfUnity h) (levelOf h (i + 1)) w (at + head) (outCoinCount h)) (insideFrom h rest w (at + head + (outCoinCount h + tail)))
     inside-step field f =
         ap (λ (ks : List Kind). insideFrom h ks w at) (kinds-next alone h i more)
         ∙ inside-over h (headKinds alone (levelOf h (i + 1))) _ w at head (length-replicate head message) (silent-head alone (levelOf h (i + 1))) (omega (arith, there))
-        ∙ inside-round h field f (levelOf h (i + 1)) (outsOf h) (tailKinds alone (outsOf h) (levelOf h i)) rest w (at + head) tail
-        (tail-count alone (outsOf h) (levelOf h i)) (tail-ends alone (outsOf h) (levelOf h i) once) there
+        ∙ inside-round h field f (levelOf h (i + 1)) (outCoinCount h) (tailKinds alone (outCoinCount h) (levelOf h i)) rest w (at + head) tail
+        (tail-count alone (outCoinCount h) (levelOf h i)) (tail-ends alone (outCoinCount h) (levelOf h i) once) there
 
-    pub equal-step : outsOf h ≤ 2 → equalFrom (chosen alone (wordsAfter h i)) w at ≡ orElse (equalAt w (at + head) (outsOf h)) (equalFrom rest w (at + head + (outsOf h + tail)))
+    pub equal-step : outCoinCount h ≤ 2 → equalFrom (chosen alone (wordsAfter h i)) w at ≡ orElse (equalAt w (at + head) (outCoinCount h)) (equalFrom rest w (at + head + (outCoinCount h + tail)))
     equal-step few =
         ap (λ (ks : List Kind). equalFrom ks w at) (kinds-next alone h i more)
         ∙ equal-over (headKinds alone (levelOf h (i + 1))) _ w at head (length-replicate head message) (silent-head alone (levelOf h (i + 1))) (omega (arith, there))
-        ∙ equal-round (levelOf h (i + 1)) (outsOf h) (tailKinds alone (outsOf h) (levelOf h i)) rest w (at + head) tail few
-        (tail-count alone (outsOf h) (levelOf h i)) (tail-ends alone (outsOf h) (levelOf h i) once) there
+        ∙ equal-round (levelOf h (i + 1)) (outCoinCount h) (tailKinds alone (outCoinCount h) (levelOf h i)) rest w (at + head) tail few
+        (tail-count alone (outCoinCount h) (levelOf h i)) (tail-ends alone (outCoinCount h) (levelOf h i) once) there
 
 -- ---- table 0 and fold coin 0
 
@@ -166,12 +165,12 @@ module _ (alone : Bool) (h : Sheet) (w : List ℕ) (from : ℕ) (there : from + 
   abbrev table : ℕ
   table = messagesIn alone (h .size)
 
-  pub rest-there : from + messagesIn alone (h .size) + 1 + length (chosen alone (afterFold h)) ≤ length w
+  pub rest-there : from + messagesIn alone (h .size) + 1 + length (chosen alone (kindsAfterFold h)) ≤ length w
   rest-there =
-      omega (arith, there, ap length (kinds-all alone h), length-append (replicate table message) (coin ∷ chosen alone (afterFold h)), length-replicate table message)
+      omega (arith, there, ap length (kinds-all alone h), length-append (replicate table message) (coin ∷ chosen alone (kindsAfterFold h)), length-replicate table message)
 
   -- the tests of all words are those of the words after fold coin 0
-  pub tests-rest : outTests h (from + messagesIn alone (h .size) + 1) (chosen alone (afterFold h)) w ≡ outTests h from (chosen alone (layout h)) w
+  pub tests-rest : outTests h (from + messagesIn alone (h .size) + 1) (chosen alone (kindsAfterFold h)) w ≡ outTests h from (chosen alone (layout h)) w
   unfolding outTests outTest equalTest
   tests-rest = sym (
       ap (λ (ks : List Kind). refuseAt 7 (insideFrom h ks w from) then refuseAt 14 (equalFrom ks w from)) (kinds-all alone h)
@@ -180,12 +179,12 @@ module _ (alone : Bool) (h : Sheet) (w : List ℕ) (from : ℕ) (there : from + 
       silent : All Silent (replicate table message)
       silent = all-replicate Silent table message tt
 
-      inside-first : insideFrom h (replicate table message ++ (coin ∷ chosen alone (afterFold h))) w from ≡ insideFrom h (chosen alone (afterFold h)) w (from + table + 1)
+      inside-first : insideFrom h (replicate table message ++ (coin ∷ chosen alone (kindsAfterFold h))) w from ≡ insideFrom h (chosen alone (kindsAfterFold h)) w (from + table + 1)
       inside-first =
-          inside-over h (replicate table message) (coin ∷ chosen alone (afterFold h)) w from table (length-replicate table message) silent (omega (arith, rest-there))
-          ∙ inside-over h (coin ∷ []) (chosen alone (afterFold h)) w (from + table) 1 refl (tt, tt) (omega (arith, rest-there))
+          inside-over h (replicate table message) (coin ∷ chosen alone (kindsAfterFold h)) w from table (length-replicate table message) silent (omega (arith, rest-there))
+          ∙ inside-over h (coin ∷ []) (chosen alone (kindsAfterFold h)) w (from + table) 1 refl (tt, tt) (omega (arith, rest-there))
 
-      equal-first : equalFrom (replicate table message ++ (coin ∷ chosen alone (afterFold h))) w from ≡ equalFrom (chosen alone (afterFold h)) w (from + table + 1)
+      equal-first : equalFrom (replicate table message ++ (coin ∷ chosen alone (kindsAfterFold h))) w from ≡ equalFrom (chosen alone (kindsAfterFold h)) w (from + table + 1)
       equal-first =
-          equal-over (replicate table message) (coin ∷ chosen alone (afterFold h)) w from table (length-replicate table message) silent (omega (arith, rest-there))
-          ∙ equal-over (coin ∷ []) (chosen alone (afterFold h)) w (from + table) 1 refl (tt, tt) (omega (arith, rest-there))
+          equal-over (replicate table message) (coin ∷ chosen alone (kindsAfterFold h)) w from table (length-replicate table message) silent (omega (arith, rest-there))
+          ∙ equal-over (coin ∷ []) (chosen alone (kindsAfterFold h)) w (from + table) 1 refl (tt, tt) (omega (arith, rest-there))

@@ -5,7 +5,7 @@ use outcome::Outcome;
 ghost use mathlib.Core.Path.{_≡_};
 ghost use Prim.Native.Nat.{_+_, _≤_, _<_};
 ghost use lib.ListN.{length, getD};
-ghost use Rattle.completeness.specs.CoinsAfter.{chosen};
+ghost use Rattle.layouts.specs.CoinsAfter.{chosen};
 ghost use Rattle.definition.specs.Deciding.{outTests};
 ghost use Rattle.definition.specs.Layout.{coinKinds, layout, wordsDue};
 ghost use Rattle.definition.specs.Reading.{sheetTest};
@@ -15,7 +15,7 @@ ghost use Rattle.domain.specs.OutCoins.{orElse};
 ghost use Rattle.domain.specs.Powers.{Powers};
 ghost use Rattle.edition.specs.Meaning.{editionOf};
 ghost use Rattle.outcome.specs.Meaning.{outcomeOf, placeOf};
-ghost use Rattle.out_coins.specs.Kinds.{afterFold, messagesIn, roundWords};
+ghost use Rattle.out_coins.specs.Kinds.{kindsAfterFold, messagesIn, roundWordCount};
 ghost use Rattle.out_coins.specs.Walks.{equalAt};
 
 // How many of n messages stand among the words: none where the coins stand alone.
@@ -31,8 +31,8 @@ fn messages(alone: bool, n: usize) -> usize
 // The number of the first word after round i + 1, whose out coins begin at a number: past out coins, replies, combination coin, fold coin and shift indices.
 fn after_round(w: &[u32], alone: bool, outs: usize, i: usize) -> usize
     requires { ⌜ (12 ≤ length (now w)) × (i < 6) ⌝ }
-    requires { ⌜ outs + roundWords alone (now w) i < 18446744073709551616 ⌝ }
-    ensures { λ r. ⌜ r ≡ outs + roundWords alone (now (w .entry)) i ⌝ }
+    requires { ⌜ outs + roundWordCount alone (now w) i < 18446744073709551616 ⌝ }
+    ensures { λ r. ⌜ r ≡ outs + roundWordCount alone (now (w .entry)) i ⌝ }
 {
     let s = w[5] as usize;
     outs + (s + messages(alone, s) + 2 + w[6 + i] as usize)
@@ -62,7 +62,7 @@ fn first_of(earlier: Found, later: Found) -> Found
 }
 
 // The tests of the out coins among the words from number `start` on, the first after fold coin 0. The words are those of a stream, or coins alone.
-pub fn after_fold(
+fn after_fold(
     e: Edition,
     w: &[u32],
     pw: &[u32],
@@ -71,9 +71,9 @@ pub fn after_fold(
     start: usize,
 ) -> Outcome
     requires { ⌜ (sheetLength (editionOf e) ≤ length (now w)) × (sheetTest (editionOf e) (now w) ≡ accepted) ⌝ }
-    requires { ⌜ start + length (chosen alone (afterFold (sheetOf (editionOf e) (now w)))) ≤ length (now words) ⌝ }
+    requires { ⌜ start + length (chosen alone (kindsAfterFold (sheetOf (editionOf e) (now w)))) ≤ length (now words) ⌝ }
     requires { ⌜ (Powers (getD (now w) 0 0) (rootOfUnity (sheetOf (editionOf e) (now w))) (now pw)) × (length (now pw) ≡ getD (now w) 1 0) ⌝ }
-    ensures { λ r. ⌜ outcomeOf r ≡ outTests (sheetOf (editionOf e) (now (w .entry))) start (chosen alone (afterFold (sheetOf (editionOf e) (now (w .entry))))) (now (words .entry)) ⌝ }
+    ensures { λ r. ⌜ outcomeOf r ≡ outTests (sheetOf (editionOf e) (now (w .entry))) start (chosen alone (kindsAfterFold (sheetOf (editionOf e) (now (w .entry))))) (now (words .entry)) ⌝ }
 {
     let rounds = w[4] as usize;
     let s = w[5] as usize;

@@ -2,16 +2,16 @@
 use Prim.Native.Nat.{ℕ, zero, suc, _+_, _-_, _≤_, _<_}
 use native.Mathlib.Nat.{le-refl}
 use native.Mathlib.Omega.{arith}
-use mathlib.Core.Bool.{Bool, true, false, not, cond, _||_}
+use mathlib.Core.Bool.{Bool, true, false, not, _||_}
 use mathlib.Core.List.{List, [], _∷_}
 use mathlib.Core.Path.{_≡_, refl, sym, ap, _∙_}
 use lib.Dec.{eqb}
 use lib.ListN.{length, getD, drop, replicate, set, getD-replicate, length-replicate, length-set, drop-of-length-le}
 use lib.Seq.{getD-set-same, getD-set-other}
 use borrow.Author.Tests.{eqb-true, eqb-false, not-true, not-false}
-use Rattle.algebra.specs.ListFacts.{All}
+use Rattle.list_laws.specs.All.{All}
 use Rattle.definition.specs.Lists.{different, member}
-use Rattle.polynomial.specs.Backwards.{drop-back}
+use Rattle.list_laws.specs.Backwards.{drop-back}
 
 -- The number of different ones from index i on.
 pub record Counted (js : List ℕ) (count i : ℕ) : Type 0 where
@@ -30,12 +30,12 @@ module _ (js : List ℕ) (count i : ℕ) (h : 0 < i) (c : Counted js count i) wh
   count-new z = record {
     within = omega (arith, c .within);
     few = omega (arith, c .few);
-    counted = rw (drop-back js i h (c .within), z) (omega (arith, c .counted));
+    counted = rw (drop-back js 0 i h (c .within), z) (omega (arith, c .counted));
   }
 
   pub count-old : member eqb (getD js (i - 1) 0) (drop i js) ≡ true → Counted js count (i - 1)
   unfolding different
-  count-old z = record { within = omega (arith, c .within); few = omega (arith, c .few); counted = rw (drop-back js i h (c .within), z) (c .counted) }
+  count-old z = record { within = omega (arith, c .within); few = omega (arith, c .few); counted = rw (drop-back js 0 i h (c .within), z) (c .counted) }
 
 pub count-done : (js : List ℕ) (count i : ℕ) → i ≤ 0 → Counted js count i → count ≡ length (different eqb js)
 count-done js count zero h c = c .counted
@@ -86,7 +86,7 @@ module _ (js marks : List ℕ) (count i : ℕ) (all : All (λ j. j < 2048) js) (
   index-below = below-at 2048 js (i - 1) all (omega (arith, c .within))
 
   pub marked-turn : Marked 2048 (drop (i - 1) js) (set marks (getD js (i - 1) 0) 1)
-  marked-turn = rw (drop-back js i h (c .within)) (marked-next 2048 (drop i js) marks (getD js (i - 1) 0) index-below m)
+  marked-turn = rw (drop-back js 0 i h (c .within)) (marked-next 2048 (drop i js) marks (getD js (i - 1) 0) index-below m)
 
   met : {b : Bool} → b ≡ isMark (getD marks (getD js (i - 1) 0) 0) → b ≡ member eqb (getD js (i - 1) 0) (drop i js)
   met e = e ∙ m .flags (getD js (i - 1) 0) index-below

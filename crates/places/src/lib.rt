@@ -3,7 +3,7 @@ ghost use mathlib.Core.Path.{_≡_};
 ghost use Prim.Native.Nat.{_≤_, _<_};
 ghost use lib.Dec.{eqb};
 ghost use lib.ListN.{length, getD, drop, replicate, set};
-ghost use Rattle.algebra.specs.ListFacts.{All};
+ghost use Rattle.list_laws.specs.All.{All};
 ghost use Rattle.definition.specs.Lists.{different, member};
 ghost use Rattle.places.specs.Marks.{isMark};
 

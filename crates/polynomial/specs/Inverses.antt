@@ -46,6 +46,12 @@ module _ {A : Type 0} (F : Field A) (L : FieldLaws F) (reduced : (x : A) → L .
   pub inverse-second : (a b : A) {m u : A} → m ≡ a ⊗ b → inverse m ≡ some u → inverse b ≡ some (u ⊗ a)
   inverse-second a b em eu = inverse-first b a (em ∙ mul-comm a b) eu
 
+module _ {A : Type 0} (F : Field A) (L : FieldLaws F) where
+  -- the answer for an element that differs from 0
+  pub found-is : (x : A) {u : A} → divisors.Nonzero F L x → some u ≡ F .inverse x → u ≡ reciprocal F x
+  unfolding foundOr
+  found-is x h e = ap (foundOr (F .𝟘)) (e ∙ L .inverse-found x h)
+
 -- ---- the three fields
 
 -- x differs from 0
@@ -63,11 +69,3 @@ module _ (field : ℕ) where
       go : (b : Bool) → laws field .reduce (foundOr 0 (cond b none (some u))) ≡ foundOr 0 (cond b none (some u))
       go true = laws field .reduce-zero
       go false = sym (laws field .mul-one u) ∙ ap (λ (n : ℕ). n % primeOf field) (mul-one u) ∙ powerMod-reduced x (primeOf field - 2) (primeOf field)
-
-  -- the answer for a word that differs from 0
-  pub never-none : (x : ℕ) → Nonzero field x → none ≡ fieldOf field .inverse x → ⊥
-  never-none x h e = divisors.never-none (fieldOf field) (laws field) x h (sym e)
-
-  pub found-is : (x : ℕ) {u : ℕ} → Nonzero field x → some u ≡ fieldOf field .inverse x → u ≡ reciprocal (fieldOf field) x
-  unfolding foundOr
-  found-is x h e = ap (foundOr 0) (e ∙ laws field .inverse-found x h)

@@ -1,5 +1,3 @@
-pub mod Backwards
 pub mod Pairs
 pub mod Vanishing
-pub mod GeometricSum
 pub mod Inverses

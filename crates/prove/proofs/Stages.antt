@@ -15,7 +15,7 @@ use Rattle.definition.specs.Verdict as definition
 use Rattle.definition.specs.Verdict.{_then_}
 use Rattle.completeness.specs.Numbered.{Allowed}
 use Rattle.completeness.specs.ProveAccepted.{done-allowed}
-use Rattle.completeness.specs.Tests.{equal-passes, if-passes}
+use Rattle.layouts.specs.Tests.{equal-passes, if-passes}
 use Rattle.outcome.specs.declared.Outcome.{Outcome}
 use Rattle.outcome.specs.declared.Outcome.the-variants.{Accepted, Refused}
 use Rattle.outcome.specs.Meaning.{outcomeOf}

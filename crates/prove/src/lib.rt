@@ -45,7 +45,7 @@ fn write(
     ensures { λ _. ⌜ now (output .exit) ≡ fileOf (honestStream (editionOf e) (now (sheet .entry)) (now (coefficients .entry)) (now (coins .entry))) ++ drop (length (fileOf (honestStream (editionOf e) (now (sheet .entry)) (now (coefficients .entry)) (now (coins .entry))))) (now (output .entry)) ⌝ }
 {
     honest::stream(e, sheet, coefficients, coins, &mut words[..due]);
-    stream::seal(words, due, output);
+    stream::write_file(words, due, output);
     Answer::Done((due + 126) / 127)
 }
 
@@ -61,11 +61,11 @@ pub fn prove_in(
     ensures { λ r. ⌜ answerOf r ≡ proveIn (editionOf e) (now (sheet .entry)) (now (coefficients .entry)) (now (coins .entry)) (now (output .entry)) .answer ⌝ }
     ensures { λ r. ⌜ now (output .exit) ≡ proveIn (editionOf e) (now (sheet .entry)) (now (coefficients .entry)) (now (coins .entry)) (now (output .entry)) .output ⌝ }
 {
-    let tests = orders::prove_tests(e, sheet, coefficients, coins, output.len());
+    let tests = input_tests::prove_tests(e, sheet, coefficients, coins, output.len());
     if let Outcome::Refused(number, place) = tests {
         return Answer::Refusal(number, place);
     }
-    let due = sheet::words_due(e, sheet);
+    let due = sizes::words_due(e, sheet);
     if due <= 1016 {
         let mut few = small_room();
         return write(e, sheet, coefficients, coins, due, &mut few, output);

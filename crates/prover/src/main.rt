@@ -2,5 +2,5 @@
 use edition::Edition;
 
 fn main() {
-    files::prove_order(Edition::One);
+    files::prove_input(Edition::One);
 }

@@ -2,5 +2,5 @@
 use edition::Edition;
 
 fn main() {
-    files::prove_order(Edition::Two);
+    files::prove_input(Edition::Two);
 }

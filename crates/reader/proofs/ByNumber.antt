@@ -9,8 +9,8 @@ use lib.ListN.{length, getD, set, take}
 use lib.Seq.{getD-take, length-take-le}
 use borrow.Author.Tests.{le-ltb, lt-ltb}
 use Rattle.definition.specs.Block.{streamOf}
-use Rattle.stream.specs.Overwriting.{overwrite, overwrite-next}
-use Rattle.stream.specs.FileWords.{wordAt, stream-length, stream-at}
+use Rattle.list_laws.specs.Overwriting.{overwrite, overwrite-next}
+use Rattle.layouts.specs.FileWords.{wordAt, stream-length, stream-at}
 use Rattle.reader.specs.declared.Word.{Word}
 use Rattle.reader.specs.declared.Word.the-variants.{Value, End}
 use Rattle.reader.specs.Words.{wordIn, valueOf, numberAfter}
@@ -70,12 +70,12 @@ module _ (file output : List ℕ) (block : 512 ≤ length file) where
   pub sheet-next : {at : ℕ} {o : List ℕ} {w : Word} {v n : ℕ} → at < 12 → 12 ≤ length output → o ≡ overwrite output 0 (take at (take 12 (streamOf file)))
       → valueOf w ≡ wordIn (streamOf file) at → w ≡ Value v → n ≡ numberAfter (streamOf file) at
       → (n ≡ at + 1) × (set o at v ≡ overwrite output 0 (take n (take 12 (streamOf file))))
-  sheet-next {at} {o} {w} {v} {n} h room before told value after =
+  sheet-next {at} {o} {w} {v} {n} h room before value-is value after =
       let l : at < 127 * (length file / 512) = omega arith in
       let x = take 12 (streamOf file) in
       let moved : n ≡ at + 1 = after ∙ sym (number-there file at l) in
       let here : at ≡ 0 + at = omega arith in
-      let is : v ≡ getD x at 0 = value-there file at l told value ∙ sym (getD-take 12 (streamOf file) at 0 h) in (
+      let is : v ≡ getD x at 0 = value-there file at l value-is value ∙ sym (getD-take 12 (streamOf file) at 0 h) in (
         moved,
         ap (λ (k : ℕ). set o k v) here
             ∙ overwrite-next output 0 x at (omega (arith, sheet-length)) (omega (arith, sheet-length)) is before

@@ -8,7 +8,7 @@ use borrow.Author.Tests.{le-ltb, lt-ltb}
 use Rattle.definition.specs.Block.{streamOf}
 use Rattle.definition.specs.Prove.{Answer, done, refusal, finish, outputTest}
 use Rattle.definition.specs.Verdict.{refuseIf, _then_}
-use Rattle.stream.specs.Overwriting.{overwrite}
+use Rattle.list_laws.specs.Overwriting.{overwrite}
 use Rattle.reader.specs.Words.{sheetWords}
 
 module _ (file output : List ℕ) where

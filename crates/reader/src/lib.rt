@@ -6,7 +6,7 @@ ghost use Prim.Native.Nat.{_*_, _/_, _≤_};
 ghost use lib.ListN.{length, take};
 ghost use Rattle.definition.specs.Block.{streamOf};
 ghost use Rattle.outcome.specs.Meaning.{answerOf};
-ghost use Rattle.stream.specs.Overwriting.{overwrite};
+ghost use Rattle.list_laws.specs.Overwriting.{overwrite};
 ghost use Rattle.reader.specs.Words.{valueOf, wordIn, numberAfter, sheetWords};
 
 // A word of the stream, or that it has ended.

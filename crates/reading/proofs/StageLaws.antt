@@ -9,7 +9,7 @@ use mathlib.Core.Option.{Option, none, some}
 use lib.Dec.{eqb}
 use lib.ListN.{length, take, drop}
 use lib.Seq.{take-all, take-take, length-take-le}
-use Rattle.completeness.specs.FileSize.{short-sheet}
+use Rattle.layouts.specs.SheetRules.{short-sheet}
 use Rattle.definition.specs.Lists.{firstOf, firstTrue}
 use Rattle.definition.specs.Sheet.{Edition, sheetLength, sheetOf, sheetRules, testOrder}
 use Rattle.definition.specs.Layout.{layout, wordsDue}
@@ -23,7 +23,7 @@ use Rattle.outcome.specs.declared.Outcome.the-variants.{Refused}
 use Rattle.outcome.specs.Meaning.{outcomeOf}
 use Rattle.sheet.specs.Rules.{none-broken, refusal-of}
 use Rattle.sheet.specs.Front.{test-front, sheet-front}
-use Rattle.stream.specs.FileWords.{stream-length}
+use Rattle.layouts.specs.FileWords.{stream-length}
 use Rattle.stream.specs.Loaded.{Loaded, loaded-all}
 use Rattle.reading.specs.Stages.{Loads, Read}
 use Rattle.reading.specs.Passed.{few-blocks}

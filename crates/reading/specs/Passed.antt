@@ -9,8 +9,8 @@ use Rattle.definition.specs.Layout.{layout, wordsDue}
 use Rattle.definition.specs.Block.{streamOf}
 use Rattle.definition.specs.Verdict.{accepted}
 use Rattle.definition.specs.Reading.{sheetTest, rangeTest, reading}
-use Rattle.completeness.specs.DueSizes.{blocks-most}
-use Rattle.completeness.specs.Passed.{passed}
+use Rattle.layouts.specs.DueSizes.{blocks-most}
+use Rattle.layouts.specs.Passed.{passed}
 use Rattle.ranges.specs.RoundsOfLayout.{long-enough}
 
 module _ (ed : Edition) (file : List ℕ) (e : reading ed file ≡ accepted) where

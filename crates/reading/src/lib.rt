@@ -25,7 +25,7 @@ fn body(e: Edition, w: &[u32]) -> Outcome
     if let Found::At(place) = range {
         return Outcome::Refused(5, place);
     }
-    let fill = ranges::fill_not_zero(w, sheet::words_due(e, w));
+    let fill = ranges::fill_not_zero(w, sizes::words_due(e, w));
     if let Found::At(place) = fill {
         return Outcome::Refused(6, place);
     }
@@ -43,7 +43,7 @@ fn after_checks(e: Edition, words: &[u32], blocks: usize) -> Outcome
     if let Found::At(place) = broken {
         return Outcome::Refused(3, place);
     }
-    let due = sheet::blocks_due(e, head);
+    let due = sizes::blocks_due(e, head);
     if blocks != due {
         return Outcome::Refused(4, due);
     }

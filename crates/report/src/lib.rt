@@ -6,7 +6,7 @@ use outcome::Verdict;
 ghost use Prim.Native.Nat.{_≤_};
 
 // A verdict as a line: the outcome, its number and place, and the reads.
-pub fn print(v: Verdict) {
+fn print(v: Verdict) {
     send(STDOUT_FILENO, line::of_verdict(v));
 }
 
@@ -25,7 +25,7 @@ fn send(fd: i32, line: Line)
 }
 
 // Judges what a descriptor gives as a file of the edition, at most its first 65,536 bytes. No accepted file is so long.
-pub fn judge(e: Edition, fd: i32) {
+pub fn check(e: Edition, fd: i32) {
     let mut buffer = [0u8; 65536];
     let n = io::read_full(fd, &mut buffer);
     print(verify::verify_in(e, &buffer[..n]));

@@ -2,13 +2,13 @@
 //
 // The caller lends the words: pw, the table of the powers of ω; the table sent; ac and vg, the coefficients by which it is corrected; and k places a coin for
 // the numerators, which become the values, for the denominators, and for the products of those.
-use fractions::Function;
+use fractions::Oracle;
 use inversions::Inverses;
 ghost use mathlib.Core.Path.{_≡_};
 ghost use Prim.Native.Nat.{ℕ, _+_, _*_, _≤_, _<_};
 ghost use lib.ListN.{length, getD};
 ghost use Rattle.definition.specs.Field.{Field, fieldOf};
-ghost use Rattle.domain.specs.Filled.{Filled};
+ghost use Rattle.list_laws.specs.Filled.{Filled};
 ghost use Rattle.polynomial.specs.Inverses.{Nonzero};
 ghost use Rattle.fractions.specs.Fraction.{Fraction};
 ghost use Rattle.fractions.specs.Values.{Fits, Below, Clear, rootIn};
@@ -35,16 +35,16 @@ fn all_fractions(
     table: &[u32],
     ac: &[u32],
     vg: &[u32],
-    how: Function,
+    oracle: Oracle,
     k: usize,
     js: &[u32],
     tops: &mut [u32],
     bottoms: &mut [u32],
 )
-    requires { ⌜ (length (now ac) ≡ 66) × ((length (now vg) ≡ 132) × (Clear field (now pw) (length (now table)) (now vg) how)) ⌝ }
-    requires { ⌜ Fits (length (now pw)) (length (now table)) how k ⌝ }
-    requires { ⌜ (Below (how .step) (now js)) × ((0 < how .words) × ((length (now js) * k ≤ length (now tops)) × (length (now js) * k ≤ length (now bottoms)))) ⌝ }
-    ensures { λ _. ⌜ Placed (λ j m v w. Fraction field (rootIn field (now (pw .entry)) (now (table .entry)) (now (ac .entry)) (now (vg .entry)) how j m) v w) k (now (js .entry)) (now (tops .exit)) (now (bottoms .exit)) (length (now (js .entry))) ⌝ }
+    requires { ⌜ (length (now ac) ≡ 66) × ((length (now vg) ≡ 132) × (Clear field (now pw) (length (now table)) (now vg) oracle)) ⌝ }
+    requires { ⌜ Fits (length (now pw)) (length (now table)) oracle k ⌝ }
+    requires { ⌜ (Below (oracle .step) (now js)) × ((0 < oracle .words) × ((length (now js) * k ≤ length (now tops)) × (length (now js) * k ≤ length (now bottoms)))) ⌝ }
+    ensures { λ _. ⌜ Placed (λ j m v w. Fraction field (rootIn (fieldOf field) (now (pw .entry)) (now (table .entry)) (now (ac .entry)) (now (vg .entry)) oracle j m) v w) k (now (js .entry)) (now (tops .exit)) (now (bottoms .exit)) (length (now (js .entry))) ⌝ }
 {
     let mut coin = 0;
     while coin < js.len() {
@@ -55,7 +55,7 @@ fn all_fractions(
             table,
             ac,
             vg,
-            how,
+            oracle,
             folds::wide(js[coin]),
             &mut tops[at..at + k],
             &mut bottoms[at..at + k],
@@ -97,24 +97,24 @@ pub fn prepare(
     table: &[u32],
     ac: &[u32],
     vg: &[u32],
-    how: Function,
+    oracle: Oracle,
     k: usize,
     js: &[u32],
     tops: &mut [u32],
     bottoms: &mut [u32],
     behind: &mut [u32],
 )
-    requires { ⌜ (length (now ac) ≡ 66) × ((length (now vg) ≡ 132) × (Clear field (now pw) (length (now table)) (now vg) how)) ⌝ }
-    requires { ⌜ Fits (length (now pw)) (length (now table)) how k ⌝ }
-    requires { ⌜ Below (how .step) (now js) ⌝ }
+    requires { ⌜ (length (now ac) ≡ 66) × ((length (now vg) ≡ 132) × (Clear field (now pw) (length (now table)) (now vg) oracle)) ⌝ }
+    requires { ⌜ Fits (length (now pw)) (length (now table)) oracle k ⌝ }
+    requires { ⌜ Below (oracle .step) (now js) ⌝ }
     requires { ⌜ (length (now js) * k ≤ length (now tops)) × ((length (now js) * k ≤ length (now bottoms)) × ((length (now js) * k ≤ length (now behind)) × (length (now js) ≤ 4096))) ⌝ }
-    ensures { λ _. ⌜ Prepared k (rootIn field (now (pw .entry)) (now (table .entry)) (now (ac .entry)) (now (vg .entry)) how) (now (js .entry)) (now (tops .exit)) ⌝ }
+    ensures { λ _. ⌜ Prepared k (rootIn (fieldOf field) (now (pw .entry)) (now (table .entry)) (now (ac .entry)) (now (vg .entry)) oracle) (now (js .entry)) (now (tops .exit)) ⌝ }
 {
-    if how.words == 0 {
-        all_tables(table, how.step, k, js, tops);
+    if oracle.words == 0 {
+        all_tables(table, oracle.step, k, js, tops);
         return;
     }
-    all_fractions(field, pw, table, ac, vg, how, k, js, tops, bottoms);
+    all_fractions(field, pw, table, ac, vg, oracle, k, js, tops, bottoms);
     let n = js.len() * k;
     divide(field, &mut tops[..n], &mut bottoms[..n], behind);
 }

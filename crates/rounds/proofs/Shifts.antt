@@ -9,48 +9,52 @@ use native.Mathlib.Numerals.{add-one}
 use native.Mathlib.Omega.{arith}
 use lib.ListN.{length, drop, getD, drop-of-length-le}
 use lib.Seq.{drop-cons}
-use Rattle.definition.specs.Field.{Field, fieldOf}
+use Rattle.definition.specs.Field.{Field}
 use Rattle.definition.specs.Polynomial.{Sample, pair}
-use Rattle.polynomial.specs.Backwards.{drop-back}
-use Rattle.samples.specs.Samples.{put, sifted, Room}
+use Rattle.algebra.specs.Laws.{FieldLaws}
+use Rattle.algebra.specs.RootsOfUnity.{minusOne}
+use Rattle.list_laws.specs.Backwards.{drop-back}
+use Rattle.samples.specs.Samples.{put, distinctOrClash, Room}
 use Rattle.samples.specs.declared.Gathered.{Gathered}
 use Rattle.samples.specs.declared.Gathered.the-variants.{Clash, From}
-use Rattle.samples.specs.SampleLaws.{put-ok, clash-drop, sifted-nil}
-use Rattle.fractions.specs.declared.Function.{Function}
+use Rattle.samples.specs.SampleLaws.{put-ok, clash-drop, distinct-nil}
+use Rattle.fractions.specs.declared.Oracle.{Oracle}
 use Rattle.folds.specs.Halving.{halving, exponentOf}
 use Rattle.folds.specs.HalvingLaw.{halving-same}
-use Rattle.folds.specs.PointsIn.{backIn, shiftIn}
-use Rattle.root_values.specs.Places.{Prepared}
+use Rattle.folds.specs.PointsIn.{inversePowerIn, shiftIn}
+use Rattle.root_values.specs.Places.{PreparedOver}
 use Rattle.rounds.specs.SamplesIn.{foldBy, numbered, sampleBy, foldIn, sampleIn}
 use Rattle.fractions.specs.Values.{Fits, Below, power-of, rootIn}
 use Rattle.folds.specs.OneHalf.{halfOf}
-use Rattle.rounds.specs.RoundLaws.{Answered, answered}
+use Rattle.rounds.specs.RoundLaws.{AnsweredOver, answered}
 
 -- ---- the fold and the sample at an index
 
 -- as many values as there are roots
-pub fits-as : {points n : ℕ} {how : Function} {k k′ : ℕ} → k′ ≡ k → Fits points n how k → Fits points (k′ * how .step) how k′
-fits-as {points} {n} {how} {k} e h = rw e (subst (λ (n : ℕ). Fits points n how k) (sym (h .roots)) h)
+pub fits-as : {points n : ℕ} {oracle : Oracle} {k k′ : ℕ} → k′ ≡ k → Fits points n oracle k → Fits points (k′ * oracle .step) oracle k′
+fits-as {points} {n} {oracle} {k} e h = rw e (subst (λ (n : ℕ). Fits points n oracle k) (sym (h .roots)) h)
 
-module _ (field : ℕ) (pw roots : List ℕ) (how : Function) where
-  pub folded : (k r i j : ℕ) (values : List ℕ) {points n v : ℕ} → Fits points n how k → length values ≡ k → ((m : ℕ) → m < k → getD values m 0 ≡ getD roots (i * k + 1 * m) 0) →
-      v ≡ halving (fieldOf field) (halfOf field) (backIn pw) (exponentOf (length values)) (1 + how .scale * j) (how .scale * how .step) r (λ m. getD values m 0) →
-      v ≡ foldBy field pw roots how k r i j
+module _ {A : Type 0} (F : Field A) (pw roots : List A) (oracle : Oracle) where
+  open Field F using (𝟘)
+
+  pub folded : (k : ℕ) (r : A) (i j : ℕ) (values : List A) {points n : ℕ} {v : A} → Fits points n oracle k → length values ≡ k → ((m : ℕ) → m < k → getD values m 𝟘 ≡ getD roots (i * k + 1 * m) 𝟘) →
+      v ≡ halving F (halfOf F) (inversePowerIn 𝟘 pw) (exponentOf (length values)) (1 + oracle .scale * j) (oracle .scale * oracle .step) r (λ m. getD values m 𝟘) →
+      v ≡ foldBy F pw roots oracle k r i j
   unfolding foldBy
   folded k r i j values fits long there e =
-      let d = how .scale * how .step in
-      let w : ℕ → ℕ = λ m. getD values m 0 in
-      e ∙ ap (λ (l : ℕ). halving (fieldOf field) (halfOf field) (backIn pw) (exponentOf l) (1 + how .scale * j) d r w) long
-      ∙ halving-same (fieldOf field) (halfOf field) (backIn pw) (exponentOf k) (1 + how .scale * j) d r w (λ m. getD roots (i * k + m) 0)
-      (λ m l. there m (omega (arith, power-of fits)) ∙ ap (λ (n : ℕ). getD roots (i * k + n) 0) (Nat.one-mul m))
+      let d = oracle .scale * oracle .step in
+      let w : ℕ → A = λ m. getD values m 𝟘 in
+      e ∙ ap (λ (l : ℕ). halving F (halfOf F) (inversePowerIn 𝟘 pw) (exponentOf l) (1 + oracle .scale * j) d r w) long
+      ∙ halving-same F (halfOf F) (inversePowerIn 𝟘 pw) (exponentOf k) (1 + oracle .scale * j) d r w (λ m. getD roots (i * k + m) 𝟘)
+      (λ m l. there m (omega (arith, power-of fits)) ∙ ap (λ (n : ℕ). getD roots (i * k + n) 𝟘) (Nat.one-mul m))
 
-  pub sampled : (k r i j : ℕ) {x y : ℕ} → x ≡ shiftIn pw (how .scale) k j → y ≡ foldBy field pw roots how k r i j →
-      record { point = x; value = y } ≡ sampleBy field pw roots how k r i j
+  pub sampled : (k : ℕ) (r : A) (i j : ℕ) {x y : A} → x ≡ shiftIn 𝟘 pw (oracle .scale) k j → y ≡ foldBy F pw roots oracle k r i j →
+      record { point = x; value = y } ≡ sampleBy F pw roots oracle k r i j
   unfolding sampleBy
   sampled k r i j ex ey = λ z. record { point = ex z; value = ey z }
 
-  pub sample-for : (r k i : ℕ) {k′ j j′ : ℕ} {s : Sample ℕ} → s ≡ sampleBy field pw roots how k r i j → k ≡ k′ → j ≡ j′ → s ≡ sampleBy field pw roots how k′ r i j′
-  sample-for r k i e ek ej = e ∙ (λ z. sampleBy field pw roots how (ek z) r i (ej z))
+  pub sample-for : (r : A) (k i : ℕ) {k′ j j′ : ℕ} {s : Sample A} → s ≡ sampleBy F pw roots oracle k r i j → k ≡ k′ → j ≡ j′ → s ≡ sampleBy F pw roots oracle k′ r i j′
+  sample-for r k i e ek ej = e ∙ (λ z. sampleBy F pw roots oracle (ek z) r i (ej z))
 
 -- ---- numbered elements
 
@@ -59,7 +63,7 @@ module _ {A : Type 0} (f : ℕ → ℕ → A) where
   unfolding numbered
   numbered-back js i h l =
       let next : suc (i - 1) ≡ i = omega arith in
-      ap (numbered f (i - 1)) (drop-back js i h l) ∙ ap (λ (n : ℕ). f (i - 1) (getD js (i - 1) 0) ∷ numbered f n (drop i js)) next
+      ap (numbered f (i - 1)) (drop-back js 0 i h l) ∙ ap (λ (n : ℕ). f (i - 1) (getD js (i - 1) 0) ∷ numbered f n (drop i js)) next
 
   pub numbered-front : (js : List ℕ) (i : ℕ) → i < length js → numbered f i (drop i js) ≡ f i (getD js i 0) ∷ numbered f (i + 1) (drop (i + 1) js)
   unfolding numbered
@@ -86,42 +90,45 @@ module _ {A : Type 0} (f : ℕ → ℕ → A) where
   numbered-map g js h = numbered-same g 0 js (λ i l. ap (λ (m : ℕ). f m (getD js i 0)) (Nat.zero-add i) ∙ h i l)
 
 -- the samples by the values at the roots
-module _ (field : ℕ) (pw table ac vg : List ℕ) (how : Function) (k r : ℕ) (js roots : List ℕ) (fits : Fits (length pw) (length table) how k)
-    (ready : Prepared k (rootIn field pw table ac vg how) js roots) where
-  pub sample-same : (i : ℕ) → i < length js → sampleBy field pw roots how k r i (getD js i 0) ≡ sampleIn field pw table ac vg how k r (getD js i 0)
+module _ {A : Type 0} (F : Field A) (pw table ac vg : List A) (oracle : Oracle) (k : ℕ) (r : A) (js : List ℕ) (roots : List A) (fits : Fits (length pw) (length table) oracle k)
+    (ready : PreparedOver (F .𝟘) k (rootIn F pw table ac vg oracle) js roots) where
+  open Field F using (𝟘, 𝟙)
+
+  pub sample-same : (i : ℕ) → i < length js → sampleBy F pw roots oracle k r i (getD js i 0) ≡ sampleIn F pw table ac vg oracle k r (getD js i 0)
   unfolding sampleBy sampleIn foldBy foldIn
   sample-same i l =
       let j = getD js i 0 in
       λ z. record {
-        point = shiftIn pw (how .scale) k j;
-        value = halving-same (fieldOf field) (halfOf field) (backIn pw) (exponentOf k) (1 + how .scale * j) (how .scale * how .step) r
-            (λ m. getD roots (i * k + m) 0) (rootIn field pw table ac vg how j) (λ m h. ready i m l (omega (arith, power-of fits))) z;
+        point = shiftIn 𝟘 pw (oracle .scale) k j;
+        value = halving-same F (halfOf F) (inversePowerIn 𝟘 pw) (exponentOf k) (1 + oracle .scale * j) (oracle .scale * oracle .step) r
+            (λ m. getD roots (i * k + m) 𝟘) (rootIn F pw table ac vg oracle j) (λ m h. ready i m l (omega (arith, power-of fits))) z;
       }
 
-  pub answer-is : (outs replies : List ℕ) {v : Option (List (Sample ℕ))} → Below (how .step) js →
-      v ≡ sifted field (pair outs replies ++ numbered (sampleBy field pw roots how k r) 0 js) → Answered field pw table ac vg how k r js outs replies v
-  answer-is outs replies below e =
-      answered field pw table ac vg how k r fits js outs replies below
-      (e ∙ ap (λ (t : List (Sample ℕ)). sifted field (pair outs replies ++ t)) (numbered-map (sampleBy field pw roots how k r) (sampleIn field pw table ac vg how k r) js sample-same))
+  pub answer-is : FieldLaws F → (minusOne F ≡ 𝟙 → ⊥) → (outs replies : List A) {v : Option (List (Sample A))} → Below (oracle .step) js →
+      v ≡ distinctOrClash F (pair outs replies ++ numbered (sampleBy F pw roots oracle k r) 0 js) → AnsweredOver F pw table ac vg oracle k r js outs replies v
+  answer-is L signs outs replies below e =
+      answered F L signs pw table ac vg oracle k r fits js outs replies below
+      (e ∙ ap (λ (t : List (Sample A)). distinctOrClash F (pair outs replies ++ t)) (numbered-map (sampleBy F pw roots oracle k r) (sampleIn F pw table ac vg oracle k r) js sample-same))
 
 -- ---- putting the samples, from the last index to the first
 
-module _ (field : ℕ) (S : ℕ → ℕ → Sample ℕ) (shifts : List ℕ) where
-  pub shifts-end : (px py : List ℕ) (k : ℕ) → length px ≡ k → some (pair (drop k px) (drop k py)) ≡ sifted field (numbered S (length shifts) (drop (length shifts) shifts))
+module _ {A : Type 0} (F : Field A) (S : ℕ → ℕ → Sample A) (shifts : List ℕ) where
+  pub shifts-end : (px py : List A) (k : ℕ) → length px ≡ k → some (pair (drop k px) (drop k py)) ≡ distinctOrClash F (numbered S (length shifts) (drop (length shifts) shifts))
   unfolding pair zipWith numbered
   shifts-end px py k e =
       let h : length px ≤ k = omega arith in
-      rw (drop-of-length-le px h, drop-of-length-le shifts (le-refl (length shifts))) (sifted-nil field)
+      rw (drop-of-length-le px h, drop-of-length-le shifts (le-refl (length shifts))) (distinct-nil F)
 
-  pub shifts-turn : (i : ℕ) {g : List (Sample ℕ)} {o : Option (List (Sample ℕ))} {s : Sample ℕ} → 0 < i → i ≤ length shifts →
-      some g ≡ sifted field (numbered S i (drop i shifts)) → s ≡ S (i - 1) (getD shifts (i - 1) 0) → o ≡ put s g → o ≡ sifted field (numbered S (i - 1) (drop (i - 1) shifts))
-  shifts-turn i {g} {s = s} h l e es eo =
-      eo ∙ put-ok field s (numbered S i (drop i shifts)) g e
-      ∙ ap (λ (t : Sample ℕ). sifted field (t ∷ numbered S i (drop i shifts))) es
-      ∙ ap (sifted field) (sym (numbered-back S shifts i h l))
+  pub shifts-turn : FieldLaws F → (i : ℕ) {g : List (Sample A)} {o : Option (List (Sample A))} {s : Sample A} → 0 < i → i ≤ length shifts →
+      some g ≡ distinctOrClash F (numbered S i (drop i shifts)) → s ≡ S (i - 1) (getD shifts (i - 1) 0) → o ≡ put (F .equal) s g →
+      o ≡ distinctOrClash F (numbered S (i - 1) (drop (i - 1) shifts))
+  shifts-turn L i {g} {s = s} h l e es eo =
+      eo ∙ put-ok F L s (numbered S i (drop i shifts)) g e
+      ∙ ap (λ (t : Sample A). distinctOrClash F (t ∷ numbered S i (drop i shifts))) es
+      ∙ ap (distinctOrClash F) (sym (numbered-back S shifts i h l))
 
-  pub shifts-clash : (i : ℕ) → none ≡ sifted field (numbered S i (drop i shifts)) → none ≡ sifted field (numbered S 0 shifts)
-  shifts-clash i e = clash-drop field i (numbered S 0 shifts) (e ∙ ap (sifted field) (sym (numbered-drop S i shifts)))
+  pub shifts-clash : (i : ℕ) → none ≡ distinctOrClash F (numbered S i (drop i shifts)) → none ≡ distinctOrClash F (numbered S 0 shifts)
+  shifts-clash i e = clash-drop F i (numbered S 0 shifts) (e ∙ ap (distinctOrClash F) (sym (numbered-drop S i shifts)))
 
 -- samples put in front of samples
 pub room-add : {n k : ℕ} (t u : ℕ) (r : Gathered) → (n ≤ k + t) × (k ≤ n) → Room k u r → Room n (u + t) r

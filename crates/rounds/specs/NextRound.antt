@@ -1,62 +1,64 @@
--- From round to round: the words before round 1, and those that a round leaves, are the words of the definition's next function.
+-- From round to round: the elements before round 1, and those that a round leaves, are those of the definition's next function.
 use Prim.Native.Nat.{ℕ, zero, suc, _*_, _^_, _<_}
 use mathlib.Core.Path.{_≡_, _∙_}
 use mathlib.Core.List.{List}
 use native.Mathlib.Nat.{not-suc-le-zero}
 use lib.ListN.{length, getD}
-use Rattle.definition.specs.Field.{Field, primeField, fieldOf, reciprocal}
+use Rattle.definition.specs.Field.{Field, reciprocal}
 use Rattle.definition.specs.Sheet.{Level, shiftCount}
 use Rattle.definition.specs.Polynomial.{Sample, correctedValue}
 use Rattle.definition.specs.Transcript.{Round}
 use Rattle.definition.specs.Deciding.{tableFunction, nextFunction}
-use Rattle.lists.specs.Correcting.{Correcting}
-use Rattle.fractions.specs.declared.Function.{Function}
+use Rattle.lists.specs.Correcting.{CorrectingOver}
+use Rattle.fractions.specs.declared.Oracle.{Oracle}
 use Rattle.folds.specs.PointsIn.{pointIn, point-in}
-use Rattle.domain.specs.Powers.{Powers}
+use Rattle.domain.specs.Powers.{PowersOver}
 use Rattle.fractions.specs.Values.{correctedIn, valueOf, valueIn, Fits, point-room}
-use Rattle.rounds.specs.RoundLaws.{Serves}
+use Rattle.rounds.specs.RoundLaws.{RepresentsOver}
 
 -- ---- before round 1 there are no samples, and the table itself is the function
 
-pub values-first : (field ω : ℕ) (b : Level) (pw table ac vg : List ℕ) (how : Function) (m : ℕ) → how .words ≡ 0 →
-    valueIn field pw table ac vg how m ≡ tableFunction (fieldOf field) ω b table .value m
-unfolding valueIn valueOf tableFunction fieldOf primeField
-values-first field ω b pw table ac vg how m e = rw e
+module _ {A : Type 0} (F : Field A) (ω : A) where
+  infixl 65 _⊖_
+  infixl 70 _⊗_
+  open Field F using (𝟘, _⊖_, _⊗_)
 
-pub serves-first : (field ω : ℕ) (b : Level) (pw table ac vg : List ℕ) (how : Function) (k : ℕ) → Powers field ω pw → how .scale ≡ 2 ^ b .number →
-    how .step ≡ shiftCount b → k ≡ b .fold → how .words ≡ 0 → Serves field ω b (tableFunction (fieldOf field) ω b table .value) pw table ac vg how k
-serves-first field ω b pw table ac vg how k w scaled spaced folded e = record {
-  powers = w;
-  scale = scaled;
-  step = spaced;
-  fold = folded;
-  values = λ m l. values-first field ω b pw table ac vg how m e;
-}
+  pub values-first : (b : Level) (pw table ac vg : List A) (oracle : Oracle) (m : ℕ) → oracle .words ≡ 0 → valueIn F pw table ac vg oracle m ≡ tableFunction F ω b table .value m
+  unfolding valueIn valueOf tableFunction
+  values-first b pw table ac vg oracle m e = rw e
 
--- ---- after a round
-
--- the value by the coefficients is the definition's corrected value
-value-next : (field n : ℕ) (g : List (Sample ℕ)) (ac vg : List ℕ) (c x y : ℕ) → 0 < n → Correcting field g c n ac vg →
-    valueOf (fieldOf field) n ac vg x y ≡ correctedValue (fieldOf field) g c x y
-unfolding valueOf correctedIn correctedValue
-value-next field zero g ac vg c x y h t = absurd (not-suc-le-zero h)
-value-next field (suc n) g ac vg c x y h t =
-    λ i. fieldOf field ._⊗_ (fieldOf field ._⊗_ (fieldOf field ._⊖_ y (t .value x i)) (reciprocal (fieldOf field) (t .vanish x i))) (t .growth x i)
-
-module _ (field ω : ℕ) (ρ : Round ℕ) (pw ac vg : List ℕ) (how : Function) {g : List (Sample ℕ)} (some : 0 < how .words) (given : Correcting field g (ρ .coins .combination) (how .words) ac vg)
-    (w : Powers field ω pw) (scaled : how .scale ≡ 2 ^ ρ .coins .level .number) where
-  pub values-next : (m : ℕ) → how .scale * m < length pw → valueIn field pw (ρ .table) ac vg how m ≡ nextFunction (fieldOf field) ω g ρ .value m
-  unfolding valueIn nextFunction fieldOf primeField
-  values-next m l =
-      value-next field (how .words) g ac vg (ρ .coins .combination) (pointIn pw (how .scale) m) (getD (ρ .table) m 0) some given
-      ∙ (λ i. correctedValue (fieldOf field) g (ρ .coins .combination) (point-in w (ρ .coins .level) scaled m l i) (getD (ρ .table) m 0))
-
-  pub serves-next : (k : ℕ) → how .step ≡ shiftCount (ρ .coins .level) → k ≡ ρ .coins .level .fold → Fits (length pw) (length (ρ .table)) how k →
-      Serves field ω (ρ .coins .level) (nextFunction (fieldOf field) ω g ρ .value) pw (ρ .table) ac vg how k
-  serves-next k spaced folded fits = record {
+  pub represents-first : (b : Level) (pw table ac vg : List A) (oracle : Oracle) (k : ℕ) → PowersOver F ω pw → oracle .scale ≡ 2 ^ b .number →
+      oracle .step ≡ shiftCount b → k ≡ b .fold → oracle .words ≡ 0 → RepresentsOver F ω b (tableFunction F ω b table .value) pw table ac vg oracle k
+  represents-first b pw table ac vg oracle k w scaled spaced folded e = record {
     powers = w;
     scale = scaled;
     step = spaced;
     fold = folded;
-    values = λ m l. values-next m (point-room fits m l);
+    values = λ m l. values-first b pw table ac vg oracle m e;
   }
+
+  -- ---- after a round
+
+  -- the value by the coefficients is the definition's corrected value
+  value-next : (n : ℕ) (g : List (Sample A)) (ac vg : List A) (c x y : A) → 0 < n → CorrectingOver F g c n ac vg → valueOf F n ac vg x y ≡ correctedValue F g c x y
+  unfolding valueOf correctedIn correctedValue
+  value-next zero g ac vg c x y h t = absurd (not-suc-le-zero h)
+  value-next (suc n) g ac vg c x y h t = λ i. (y ⊖ t .value x i) ⊗ reciprocal F (t .vanish x i) ⊗ t .growth x i
+
+  module _ (ρ : Round A) (pw ac vg : List A) (oracle : Oracle) {g : List (Sample A)} (some : 0 < oracle .words)
+      (given : CorrectingOver F g (ρ .coins .combination) (oracle .words) ac vg) (w : PowersOver F ω pw) (scaled : oracle .scale ≡ 2 ^ ρ .coins .level .number) where
+    pub values-next : (m : ℕ) → oracle .scale * m < length pw → valueIn F pw (ρ .table) ac vg oracle m ≡ nextFunction F ω g ρ .value m
+    unfolding valueIn nextFunction
+    values-next m l =
+        value-next (oracle .words) g ac vg (ρ .coins .combination) (pointIn 𝟘 pw (oracle .scale) m) (getD (ρ .table) m 𝟘) some given
+        ∙ (λ i. correctedValue F g (ρ .coins .combination) (point-in F w (ρ .coins .level) scaled m l i) (getD (ρ .table) m 𝟘))
+
+    pub represents-next : (k : ℕ) → oracle .step ≡ shiftCount (ρ .coins .level) → k ≡ ρ .coins .level .fold → Fits (length pw) (length (ρ .table)) oracle k →
+        RepresentsOver F ω (ρ .coins .level) (nextFunction F ω g ρ .value) pw (ρ .table) ac vg oracle k
+    represents-next k spaced folded fits = record {
+      powers = w;
+      scale = scaled;
+      step = spaced;
+      fold = folded;
+      values = λ m l. values-next m (point-room fits m l);
+    }

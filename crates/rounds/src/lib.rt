@@ -1,16 +1,17 @@
 // The samples of a round: at the out coins and at the shift points, gathered without repeats.
 //
-// The caller lends the words: pw, the table of the powers of ω; the table sent; ac and vg, the coefficients by which it is corrected; `values`, k words of scratch
-// for a fold; and places for the values at the roots of all coins.
-use fractions::Function;
+// The caller lends the words: pw, the table of the powers of ω; the table sent; ac and vg, the coefficients by which it is corrected; and places for the values at
+// the roots of all coins. `values` are k words of scratch for a fold.
+use fractions::Oracle;
 use samples::Gathered;
 ghost use mathlib.Core.Path.{_≡_};
 ghost use mathlib.Core.List.{_++_};
 ghost use Prim.Native.Nat.{ℕ, _+_, _*_, _≤_, _<_};
 ghost use lib.ListN.{length};
+ghost use Rattle.definition.specs.Field.{fieldOf};
 ghost use Rattle.definition.specs.Polynomial.{pair};
 ghost use Rattle.fractions.specs.Values.{Fits, Below, Clear};
-ghost use Rattle.samples.specs.Samples.{kept, sifted, Room};
+ghost use Rattle.samples.specs.Samples.{kept, distinctOrClash, Room};
 ghost use Rattle.rounds.specs.RoundLaws.{Answered};
 ghost use Rattle.rounds.specs.SamplesIn.{foldBy, sampleBy, numbered};
 
@@ -19,32 +20,32 @@ pub fn fold_at(
     field: u32,
     pw: &[u32],
     roots: &[u32],
-    how: Function,
+    oracle: Oracle,
     i: usize,
     j: usize,
     r: u32,
     values: &mut [u32],
 ) -> u32
     requires { ⌜ i * length (now values) + length (now values) ≤ length (now roots) ⌝ }
-    requires { ⌜ Fits (length (now pw)) (length (now values) * how .step) how (length (now values)) ⌝ }
-    requires { ⌜ j < how .step ⌝ }
-    ensures { λ v. ⌜ v ≡ foldBy field (now (pw .entry)) (now (roots .entry)) how (length (now (values .entry))) r i j ⌝ }
+    requires { ⌜ Fits (length (now pw)) (length (now values) * oracle .step) oracle (length (now values)) ⌝ }
+    requires { ⌜ j < oracle .step ⌝ }
+    ensures { λ v. ⌜ v ≡ foldBy (fieldOf field) (now (pw .entry)) (now (roots .entry)) oracle (length (now (values .entry))) r i j ⌝ }
 {
     fractions::gather(roots, 1, i * values.len(), values);
     folds::fold_values(
         field,
         pw,
-        1 + how.scale * j,
-        how.scale * how.step,
+        1 + oracle.scale * j,
+        oracle.scale * oracle.step,
         r,
         values,
     )
 }
 
 // A sample: a point, and the value there.
-pub struct Point {
-    pub x: u32,
-    pub y: u32,
+struct Point {
+    x: u32,
+    y: u32,
 }
 
 // The sample at shift index j, number i of a list: the shift point, and the fold there.
@@ -52,19 +53,19 @@ fn sample_at(
     field: u32,
     pw: &[u32],
     roots: &[u32],
-    how: Function,
+    oracle: Oracle,
     i: usize,
     j: usize,
     r: u32,
     values: &mut [u32],
 ) -> Point
     requires { ⌜ i * length (now values) + length (now values) ≤ length (now roots) ⌝ }
-    requires { ⌜ Fits (length (now pw)) (length (now values) * how .step) how (length (now values)) ⌝ }
-    requires { ⌜ j < how .step ⌝ }
-    ensures { λ v. ⌜ record { point = v .x; value = v .y } ≡ sampleBy field (now (pw .entry)) (now (roots .entry)) how (length (now (values .entry))) r i j ⌝ }
+    requires { ⌜ Fits (length (now pw)) (length (now values) * oracle .step) oracle (length (now values)) ⌝ }
+    requires { ⌜ j < oracle .step ⌝ }
+    ensures { λ v. ⌜ record { point = v .x; value = v .y } ≡ sampleBy (fieldOf field) (now (pw .entry)) (now (roots .entry)) oracle (length (now (values .entry))) r i j ⌝ }
 {
-    let x = folds::shift_point(pw, how.scale, j, values.len());
-    let y = fold_at(field, pw, roots, how, i, j, r, values);
+    let x = folds::shift_point(pw, oracle.scale, j, values.len());
+    let y = fold_at(field, pw, roots, oracle, i, j, r, values);
     Point { x: x, y: y }
 }
 
@@ -73,7 +74,7 @@ fn put_shifts(
     field: u32,
     pw: &[u32],
     roots: &[u32],
-    how: Function,
+    oracle: Oracle,
     r: u32,
     shifts: &[u32],
     values: &mut [u32],
@@ -81,17 +82,26 @@ fn put_shifts(
     py: &mut [u32],
 ) -> Gathered
     requires { ⌜ length (now shifts) * length (now values) ≤ length (now roots) ⌝ }
-    requires { ⌜ Fits (length (now pw)) (length (now values) * how .step) how (length (now values)) ⌝ }
-    requires { ⌜ Below (how .step) (now shifts) ⌝ }
+    requires { ⌜ Fits (length (now pw)) (length (now values) * oracle .step) oracle (length (now values)) ⌝ }
+    requires { ⌜ Below (oracle .step) (now shifts) ⌝ }
     requires { ⌜ (length (now py) ≡ length (now px)) × (length (now shifts) ≤ length (now px)) ⌝ }
-    ensures { λ v. ⌜ kept v (now (px .exit)) (now (py .exit)) ≡ sifted field (numbered (sampleBy field (now (pw .entry)) (now (roots .entry)) how (length (now (values .entry))) r) 0 (now (shifts .entry))) ⌝ }
+    ensures { λ v. ⌜ kept v (now (px .exit)) (now (py .exit)) ≡ distinctOrClash (fieldOf field) (numbered (sampleBy (fieldOf field) (now (pw .entry)) (now (roots .entry)) oracle (length (now (values .entry))) r) 0 (now (shifts .entry))) ⌝ }
     ensures { λ v. ⌜ Room (length (now (px .entry))) (length (now (shifts .entry))) v ⌝ }
 {
     let mut k = px.len();
     let mut i = shifts.len();
     while 0 < i {
         i -= 1;
-        let s = sample_at(field, pw, roots, how, i, folds::wide(shifts[i]), r, values);
+        let s = sample_at(
+            field,
+            pw,
+            roots,
+            oracle,
+            i,
+            folds::wide(shifts[i]),
+            r,
+            values,
+        );
         let f = samples::push(px, py, k, s.x, s.y);
         let Gathered::From(j) = f else {
             return Gathered::Clash;
@@ -102,11 +112,11 @@ fn put_shifts(
 }
 
 // G of a round by the values at the roots: the out coins with their replies, then the shift points with the folds there.
-fn answer_by(
+fn gather_by_roots(
     field: u32,
     pw: &[u32],
     roots: &[u32],
-    how: Function,
+    oracle: Oracle,
     r: u32,
     shifts: &[u32],
     outs: &[u32],
@@ -116,70 +126,71 @@ fn answer_by(
     py: &mut [u32],
 ) -> Gathered
     requires { ⌜ length (now shifts) * length (now values) ≤ length (now roots) ⌝ }
-    requires { ⌜ Fits (length (now pw)) (length (now values) * how .step) how (length (now values)) ⌝ }
-    requires { ⌜ Below (how .step) (now shifts) ⌝ }
+    requires { ⌜ Fits (length (now pw)) (length (now values) * oracle .step) oracle (length (now values)) ⌝ }
+    requires { ⌜ Below (oracle .step) (now shifts) ⌝ }
     requires { ⌜ (length (now py) ≡ length (now px)) × ((length (now replies) ≡ length (now outs)) × (length (now outs) + length (now shifts) ≤ length (now px))) ⌝ }
-    ensures { λ v. ⌜ kept v (now (px .exit)) (now (py .exit)) ≡ sifted field (pair (now (outs .entry)) (now (replies .entry)) ++ numbered (sampleBy field (now (pw .entry)) (now (roots .entry)) how (length (now (values .entry))) r) 0 (now (shifts .entry))) ⌝ }
+    ensures { λ v. ⌜ kept v (now (px .exit)) (now (py .exit)) ≡ distinctOrClash (fieldOf field) (pair (now (outs .entry)) (now (replies .entry)) ++ numbered (sampleBy (fieldOf field) (now (pw .entry)) (now (roots .entry)) oracle (length (now (values .entry))) r) 0 (now (shifts .entry))) ⌝ }
     ensures { λ v. ⌜ Room (length (now (px .entry))) (length (now (outs .entry)) + length (now (shifts .entry))) v ⌝ }
 {
-    let s = put_shifts(field, pw, roots, how, r, shifts, values, px, py);
+    let s = put_shifts(field, pw, roots, oracle, r, shifts, values, px, py);
     let Gathered::From(k) = s else {
         return Gathered::Clash;
     };
     samples::push_all(outs, replies, px, py, k)
 }
 
-// G of a round in the last places of px and py: the out coins with their replies, then the shift points with the folds there.
-pub fn answer(
+// G of a round in the last places of px and py: the out coins with their replies, then the shift points with the folds there. The caller lends places for the
+// fractions.
+pub fn gather_samples(
     field: u32,
     pw: &[u32],
     table: &[u32],
     ac: &[u32],
     vg: &[u32],
-    how: Function,
+    oracle: Oracle,
+    k: usize,
     r: u32,
     shifts: &[u32],
     outs: &[u32],
     replies: &[u32],
-    values: &mut [u32],
     tops: &mut [u32],
     bottoms: &mut [u32],
     behind: &mut [u32],
     px: &mut [u32],
     py: &mut [u32],
 ) -> Gathered
-    requires { ⌜ (length (now ac) ≡ 66) × ((length (now vg) ≡ 132) × (Clear field (now pw) (length (now table)) (now vg) how)) ⌝ }
-    requires { ⌜ Fits (length (now pw)) (length (now table)) how (length (now values)) ⌝ }
-    requires { ⌜ Below (how .step) (now shifts) ⌝ }
+    requires { ⌜ (length (now ac) ≡ 66) × ((length (now vg) ≡ 132) × (Clear field (now pw) (length (now table)) (now vg) oracle)) ⌝ }
+    requires { ⌜ Fits (length (now pw)) (length (now table)) oracle (k) ⌝ }
+    requires { ⌜ Below (oracle .step) (now shifts) ⌝ }
     requires { ⌜ (length (now py) ≡ length (now px)) × ((length (now replies) ≡ length (now outs)) × (length (now outs) + length (now shifts) ≤ length (now px))) ⌝ }
-    requires { ⌜ (length (now shifts) * length (now values) ≤ length (now tops)) × ((length (now shifts) * length (now values) ≤ length (now bottoms)) × ((length (now shifts) * length (now values) ≤ length (now behind)) × (length (now shifts) ≤ 4096))) ⌝ }
-    ensures { λ v. ⌜ Answered field (now (pw .entry)) (now (table .entry)) (now (ac .entry)) (now (vg .entry)) how (length (now (values .entry))) r (now (shifts .entry)) (now (outs .entry)) (now (replies .entry)) (kept v (now (px .exit)) (now (py .exit))) ⌝ }
+    requires { ⌜ (length (now shifts) * k ≤ length (now tops)) × ((length (now shifts) * k ≤ length (now bottoms)) × ((length (now shifts) * k ≤ length (now behind)) × (length (now shifts) ≤ 4096))) ⌝ }
+    ensures { λ v. ⌜ Answered field (now (pw .entry)) (now (table .entry)) (now (ac .entry)) (now (vg .entry)) oracle k r (now (shifts .entry)) (now (outs .entry)) (now (replies .entry)) (kept v (now (px .exit)) (now (py .exit))) ⌝ }
     ensures { λ v. ⌜ Room (length (now (px .entry))) (length (now (outs .entry)) + length (now (shifts .entry))) v ⌝ }
 {
-    let k = values.len();
     root_values::prepare(
         field,
         pw,
         table,
         ac,
         vg,
-        how,
+        oracle,
         k,
         shifts,
         tops,
         bottoms,
         behind,
     );
-    answer_by(
+    let mut values = fractions::roots();
+    gather_by_roots(
         field,
         pw,
         tops,
-        how,
+        oracle,
         r,
         shifts,
         outs,
         replies,
-        values,
+        &mut values[..k],
         px,
         py,
     )

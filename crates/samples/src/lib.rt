@@ -4,29 +4,31 @@ ghost use mathlib.Core.Path.{_≡_};
 ghost use Prim.Native.Nat.{ℕ, _≤_, _<_};
 ghost use mathlib.Core.List.{List, _++_};
 ghost use mathlib.Core.Option.{some};
+ghost use lib.Dec.{eqb};
 ghost use lib.ListN.{length, drop};
+ghost use Rattle.definition.specs.Field.{fieldOf};
 ghost use Rattle.definition.specs.Polynomial.{Sample, pair};
-ghost use Rattle.samples.specs.Samples.{lookup, put, kept, sifted, Room};
+ghost use Rattle.samples.specs.Samples.{lookup, put, foundOf, kept, distinctOrClash, Room};
 
 // What is found at a point: a value, or nothing.
-pub enum Looked {
+enum FoundValue {
     Value(u32),
     Nothing,
 }
 
 // The value at x among the samples from number k on.
-pub fn look(xs: &[u32], ys: &[u32], k: usize, x: u32) -> Looked
+fn find(xs: &[u32], ys: &[u32], k: usize, x: u32) -> FoundValue
     requires { ⌜ (k ≤ length (now xs)) × (length (now ys) ≡ length (now xs)) ⌝ }
-    ensures { λ r. ⌜ r ≡ lookup x (pair (drop k (now (xs .entry))) (drop k (now (ys .entry)))) ⌝ }
+    ensures { λ r. ⌜ foundOf r ≡ lookup eqb x (pair (drop k (now (xs .entry))) (drop k (now (ys .entry)))) ⌝ }
 {
     let mut i = k;
     while i < xs.len() {
         if x == xs[i] {
-            return Looked::Value(ys[i]);
+            return FoundValue::Value(ys[i]);
         }
         i += 1;
     }
-    Looked::Nothing
+    FoundValue::Nothing
 }
 
 // What gathering gives: two equal points have different values, or the samples from this number on have different points.
@@ -38,11 +40,11 @@ pub enum Gathered {
 // Puts a sample in front of those from number k on, unless its point is there.
 pub fn push(xs: &mut [u32], ys: &mut [u32], k: usize, x: u32, y: u32) -> Gathered
     requires { ⌜ (0 < k) × ((k ≤ length (now xs)) × (length (now ys) ≡ length (now xs))) ⌝ }
-    ensures { λ r. ⌜ kept r (now (xs .exit)) (now (ys .exit)) ≡ put (record { point = x; value = y }) (pair (drop k (now (xs .entry))) (drop k (now (ys .entry)))) ⌝ }
+    ensures { λ r. ⌜ kept r (now (xs .exit)) (now (ys .exit)) ≡ put eqb (record { point = x; value = y }) (pair (drop k (now (xs .entry))) (drop k (now (ys .entry)))) ⌝ }
     ensures { λ r. ⌜ Room k 1 r ⌝ }
 {
-    let f = look(xs, ys, k, x);
-    if let Looked::Value(v) = f {
+    let f = find(xs, ys, k, x);
+    if let FoundValue::Value(v) = f {
         if y == v {
             return Gathered::From(k);
         }
@@ -58,7 +60,7 @@ pub fn push(xs: &mut [u32], ys: &mut [u32], k: usize, x: u32, y: u32) -> Gathere
 pub fn push_all(xs: &[u32], ys: &[u32], px: &mut [u32], py: &mut [u32], from: usize) -> Gathered
     requires { ⌜ (length (now ys) ≡ length (now xs)) × (length (now py) ≡ length (now px)) ⌝ }
     requires { ⌜ (from ≤ length (now px)) × (length (now xs) ≤ from) ⌝ }
-    ensures { λ r. ⌜ ((field : ℕ) (samples : List (Sample ℕ)) → some (pair (drop from (now (px .entry))) (drop from (now (py .entry)))) ≡ sifted field samples → kept r (now (px .exit)) (now (py .exit)) ≡ sifted field (pair (now (xs .entry)) (now (ys .entry)) ++ samples)) ⌝ }
+    ensures { λ r. ⌜ ((field : ℕ) (samples : List (Sample ℕ)) → some (pair (drop from (now (px .entry))) (drop from (now (py .entry)))) ≡ distinctOrClash (fieldOf field) samples → kept r (now (px .exit)) (now (py .exit)) ≡ distinctOrClash (fieldOf field) (pair (now (xs .entry)) (now (ys .entry)) ++ samples)) ⌝ }
     ensures { λ r. ⌜ Room from (length (now (xs .entry))) r ⌝ }
 {
     let mut k = from;

@@ -14,12 +14,12 @@ use Rattle.definition.specs.Verdict.{Verdict, accepted}
 use Rattle.definition.specs.Verify.{verifyIn}
 use Rattle.completeness.specs.Numbered.{readsDue}
 use Rattle.completeness.specs.ProveAccepted.{done-allowed, prove-accepted}
-use Rattle.completeness.specs.Tests.{if-passes}
-use Rattle.selfcheck.specs.Written.{blocksOf}
+use Rattle.layouts.specs.Tests.{if-passes}
+use Rattle.selfcheck.specs.Written.{blocksWritten}
 
 module _ (ed : Edition) (w f coins output : List ℕ) where
-  inside-by : (a : Answer) → proveIn ed w f coins output .answer ≡ a → 512 * blocksOf a ≤ length output
-  unfolding blocksOf outputTest
+  inside-by : (a : Answer) → proveIn ed w f coins output .answer ≡ a → 512 * blocksWritten a ≤ length output
+  unfolding blocksWritten outputTest
   inside-by (refusal number place) e = omega arith
   inside-by (done count) e =
       let r = done-allowed ed w f coins output count e in
@@ -27,13 +27,13 @@ module _ (ed : Edition) (w f coins output : List ℕ) where
       let room : 512 * blocks ≤ length output = ltb-false (length output) (512 * blocks) (if-passes 11 blocks (ltb (length output) (512 * blocks)) (r .1)) in
       omega (arith, r .2)
 
-  pub inside : {count : ℕ} → count ≡ blocksOf (proveIn ed w f coins output .answer) → 512 * count ≤ length output
+  pub inside : {count : ℕ} → count ≡ blocksWritten (proveIn ed w f coins output .answer) → 512 * count ≤ length output
   inside {count} e = subst (λ (n : ℕ). 512 * n ≤ length output) (sym e) (inside-by (proveIn ed w f coins output .answer) refl)
 
   -- where prove answers done, the verdict on the blocks written is accepted with the due reads
-  pub accepted-by : (a : Answer) {v : Verdict} → a ≡ proveIn ed w f coins output .answer → v ≡ verifyIn ed (take (512 * blocksOf a) (proveIn ed w f coins output .output)) →
+  pub accepted-by : (a : Answer) {v : Verdict} → a ≡ proveIn ed w f coins output .answer → v ≡ verifyIn ed (take (512 * blocksWritten a) (proveIn ed w f coins output .output)) →
       (count : ℕ) → a ≡ done count → v ≡ record { outcome = accepted; reads = readsDue (sheetOf ed w) coins }
-  unfolding blocksOf
+  unfolding blocksWritten
   accepted-by a e q count d =
-      q ∙ ap (λ (b : Answer). verifyIn ed (take (512 * blocksOf b) (proveIn ed w f coins output .output))) d
+      q ∙ ap (λ (b : Answer). verifyIn ed (take (512 * blocksWritten b) (proveIn ed w f coins output .output))) d
       ∙ prove-accepted ed w f coins output count (sym e ∙ d)

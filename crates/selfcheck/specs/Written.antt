@@ -2,6 +2,6 @@
 use Prim.Native.Nat.{ℕ}
 use Rattle.definition.specs.Prove.{Answer, done, refusal}
 
-unfoldable pub blocksOf : Answer → ℕ
-blocksOf (done count) = count
-blocksOf (refusal number place) = 0
+unfoldable pub blocksWritten : Answer → ℕ
+blocksWritten (done count) = count
+blocksWritten (refusal number place) = 0

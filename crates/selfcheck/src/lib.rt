@@ -12,7 +12,7 @@ ghost use Rattle.definition.specs.Verify.{verify, verifyIn};
 ghost use Rattle.completeness.specs.Numbered.{readsDue};
 ghost use Rattle.edition.specs.Meaning.{editionOf};
 ghost use Rattle.outcome.specs.Meaning.{answerOf, verdictOf};
-ghost use Rattle.selfcheck.specs.Written.{blocksOf};
+ghost use Rattle.selfcheck.specs.Written.{blocksWritten};
 
 // The prover's answer, and the verdict on what it wrote.
 pub struct Checked {
@@ -22,7 +22,7 @@ pub struct Checked {
 
 // The number of blocks written.
 fn blocks(answer: Answer) -> usize
-    ensures { λ r. ⌜ r ≡ blocksOf (answerOf answer) ⌝ }
+    ensures { λ r. ⌜ r ≡ blocksWritten (answerOf answer) ⌝ }
 {
     match answer {
         Answer::Done(count) => count,
@@ -41,7 +41,7 @@ fn prove_then_verify_in(
 ) -> Checked
     ensures { λ r. ⌜ answerOf (r .answer) ≡ proveIn (editionOf e) (now (sheet .entry)) (now (coefficients .entry)) (now (coins .entry)) (now (output .entry)) .answer ⌝ }
     ensures { λ r. ⌜ now (output .exit) ≡ proveIn (editionOf e) (now (sheet .entry)) (now (coefficients .entry)) (now (coins .entry)) (now (output .entry)) .output ⌝ }
-    ensures { λ r. ⌜ verdictOf (r .verdict) ≡ verifyIn (editionOf e) (take (512 * blocksOf (answerOf (r .answer))) (now (output .exit))) ⌝ }
+    ensures { λ r. ⌜ verdictOf (r .verdict) ≡ verifyIn (editionOf e) (take (512 * blocksWritten (answerOf (r .answer))) (now (output .exit))) ⌝ }
     ensures { λ r. ⌜ ((count : ℕ) → answerOf (r .answer) ≡ done count → verdictOf (r .verdict) ≡ record { outcome = accepted; reads = readsDue (sheetOf (editionOf e) (now (sheet .entry))) (now (coins .entry)) }) ⌝ }
 {
     let answer = prove::prove_in(e, sheet, coefficients, coins, output);
@@ -62,7 +62,7 @@ pub fn prove_then_verify(
 ) -> Checked
     ensures { λ r. ⌜ answerOf (r .answer) ≡ prove (now (sheet .entry)) (now (coefficients .entry)) (now (coins .entry)) (now (output .entry)) .answer ⌝ }
     ensures { λ r. ⌜ now (output .exit) ≡ prove (now (sheet .entry)) (now (coefficients .entry)) (now (coins .entry)) (now (output .entry)) .output ⌝ }
-    ensures { λ r. ⌜ verdictOf (r .verdict) ≡ verify (take (512 * blocksOf (answerOf (r .answer))) (now (output .exit))) ⌝ }
+    ensures { λ r. ⌜ verdictOf (r .verdict) ≡ verify (take (512 * blocksWritten (answerOf (r .answer))) (now (output .exit))) ⌝ }
     ensures { λ r. ⌜ ((count : ℕ) → answerOf (r .answer) ≡ done count → verdictOf (r .verdict) ≡ record { outcome = accepted; reads = readsDue (sheetOf edition1 (now (sheet .entry))) (now (coins .entry)) }) ⌝ }
 {
     prove_then_verify_in(Edition::One, sheet, coefficients, coins, output)
@@ -77,7 +77,7 @@ pub fn prove_then_verify_2(
 ) -> Checked
     ensures { λ r. ⌜ answerOf (r .answer) ≡ proveIn edition2 (now (sheet .entry)) (now (coefficients .entry)) (now (coins .entry)) (now (output .entry)) .answer ⌝ }
     ensures { λ r. ⌜ now (output .exit) ≡ proveIn edition2 (now (sheet .entry)) (now (coefficients .entry)) (now (coins .entry)) (now (output .entry)) .output ⌝ }
-    ensures { λ r. ⌜ verdictOf (r .verdict) ≡ verifyIn edition2 (take (512 * blocksOf (answerOf (r .answer))) (now (output .exit))) ⌝ }
+    ensures { λ r. ⌜ verdictOf (r .verdict) ≡ verifyIn edition2 (take (512 * blocksWritten (answerOf (r .answer))) (now (output .exit))) ⌝ }
     ensures { λ r. ⌜ ((count : ℕ) → answerOf (r .answer) ≡ done count → verdictOf (r .verdict) ≡ record { outcome = accepted; reads = readsDue (sheetOf edition2 (now (sheet .entry))) (now (coins .entry)) }) ⌝ }
 {
     prove_then_verify_in(Edition::Two, sheet, coefficients, coins, output)

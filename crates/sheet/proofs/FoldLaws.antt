@@ -1,5 +1,5 @@
--- The folding numbers and the degree bounds, level by level, as the code tests and counts them. Assumes nothing.
-use Prim.Native.Nat.{ℕ, zero, suc, _+_, _*_, _/_, _^_, _≤_, _<_}
+-- The folding numbers, level by level, as the code tests them. Assumes nothing.
+use Prim.Native.Nat.{ℕ, zero, suc, _+_, _*_, _/_, _≤_, _<_}
 use native.Mathlib.Nat.{div-lt-iff-lt-mul, le-div-iff-mul-le, mul-comm}
 use native.Mathlib.Decide.{decLt}
 use native.Mathlib.Omega.{arith}
@@ -11,18 +11,17 @@ use lib.Dec.{eqb, leb}
 use lib.ListN.{getD, take}
 use lib.Pow.{pow-pos}
 use borrow.Author.Tests.{le-leb, leb-false, leb-true, lt-leb, not-false}
-use Rattle.algebra.specs.ListFacts.{All, all-in-map, all-map}
-use Rattle.completeness.specs.LevelsByNumber.{product-next}
-use Rattle.completeness.specs.Numbered.{total}
-use Rattle.completeness.specs.PlainSheet.{first-word, fold-one, later-word}
-use Rattle.completeness.specs.SheetRules.{fold-count, fold-words, later-fold, logs, product-powers}
-use Rattle.completeness.specs.Tests.{and-true, at-none, none-of}
+use Rattle.list_laws.specs.All.{All, all-in-map, all-map}
+use Rattle.layouts.specs.LevelsByNumber.{product-next}
+use Rattle.layouts.specs.Levels.{total}
+use Rattle.layouts.specs.PlainSheet.{first-word, fold-one, later-word}
+use Rattle.layouts.specs.SheetRules.{fold-count, later-fold, logs, product-powers}
+use Rattle.layouts.specs.Tests.{at-none, none-of}
+use Rattle.list_laws.specs.Booleans.{and-true}
 use Rattle.definition.specs.Lists.{firstOf, productOf, range}
-use Rattle.definition.specs.Reading.{sheetTest}
 use Rattle.definition.specs.Sheet.{Edition, edition1, edition2, foldRule, foldWords, foldingNumber, laterFoldRule, laterRules}
-use Rattle.definition.specs.Verdict.{accepted}
-use Rattle.edition.specs.Places.{degree-next, degree-none}
-use Rattle.sheet.specs.Rules.{DegreeAt, Folds, Shape, frontRules, laterWords}
+use Rattle.sizes.specs.Degrees.{DegreeAt, Folds}
+use Rattle.sheet.specs.Rules.{Shape, frontRules, laterWords}
 use Rattle.sheet.proofs.FirstBroken.{brokenFrom, later-count}
 
 -- k_1 to k_(i-1) of edition 2 are tested, and d is d_i
@@ -87,26 +86,6 @@ by-edition edition2 w h e (suc j) l m =
 pub all-folds : {ed : Edition} {w : List ℕ} → Shape ed w → none ≡ firstOf (laterWords ed) (map not (laterRules ed w)) → Folds ed w 6
 unfolding foldRule
 all-folds {ed} {w} s e = record { folding = by-edition ed w (rules-later ed w e) (s .fold) }
-
-pub passed-folds : (ed : Edition) (w : List ℕ) → sheetTest ed w ≡ accepted → Folds ed w 6
-passed-folds ed w passed = record { folding = λ j l m. fold-words ed w passed j m }
-
-pub fewer-folds : {ed : Edition} {w : List ℕ} {i : ℕ} (j : ℕ) → j ≤ i → Folds ed w i → Folds ed w j
-fewer-folds j l f = record { folding = λ n u m. f .folding n (omega arith) m }
-
-pub folding : {ed : Edition} {w : List ℕ} {i k : ℕ} → Folds ed w (i + 1) → i ≤ getD w 4 0 → k ≡ getD (foldWords ed w) i 0 → foldingNumber w k ≡ true
-folding {ed} {w} {i} f l e = subst (λ (k : ℕ). foldingNumber w k ≡ true) (sym e) (f .folding i (omega arith) l)
-
--- ---- the degree bounds
-
-pub degree-first : (ed : Edition) (w : List ℕ) → DegreeAt ed w 0 (getD w 2 0)
-degree-first ed w = record { degree = λ l. degree-none ed w }
-
-pub degree-past : {ed : Edition} {w : List ℕ} {i d : ℕ} → getD w 4 0 < i → DegreeAt ed w (i + 1) d
-degree-past h = record { degree = λ l. absurd (omega arith) }
-
-pub degree-moved : {ed : Edition} {w : List ℕ} {i d k : ℕ} (a : ℕ) → i < 6 → DegreeAt ed w i d → k ≡ getD (foldWords ed w) i 0 → k ≡ 2 ^ a → DegreeAt ed w (i + 1) (d / 2 ^ a)
-degree-moved {ed} {w} {i} a few d ek ea = record { degree = λ l. degree-next ed w i few (d .degree (omega arith)) (sym ea ∙ ek) }
 
 -- ---- the rule of k_i, i from 1 on
 

@@ -1,4 +1,3 @@
 pub mod RuleLaws
 pub mod FirstBroken
 pub mod FoldLaws
-pub mod SizeLaws

@@ -2,7 +2,7 @@
 use Prim.Native.Nat.{ℕ, zero, suc, _+_, _-_, _*_, _/_, _^_, _≤_, _<_}
 use native.Mathlib.Numerals.{add-one}
 use native.Mathlib.Omega.{arith}
-use mathlib.Core.Path.{_≡_, refl, sym, ap, _∙_, subst}
+use mathlib.Core.Path.{_≡_, refl, sym, ap, _∙_}
 use mathlib.Core.Bool.{Bool, true, false, not, cond, _&&_}
 use mathlib.Core.List.{List}
 use lib.Count.{ones}
@@ -11,16 +11,16 @@ use lib.ListN.{getD, take}
 use lib.Pow.{pow-mono, pow-lt}
 use borrow.Author.Tests.{leb-true, leb-false, ltb-false, le-leb, lt-leb, lt-ltb, le-ltb, eq-eqb, ne-eqb, not-true, not-false}
 use Rattle.algebra.specs.ModularArithmetic.{pow-pow}
-use Rattle.completeness.specs.Tests.{and-true}
-use Rattle.completeness.specs.SheetRules.{between-true, pow-most}
+use Rattle.list_laws.specs.Booleans.{and-true}
+use Rattle.layouts.specs.SheetRules.{between-true}
 use Rattle.definition.specs.Field.{primeOf}
 use Rattle.definition.specs.Lists.{productOf}
-use Rattle.definition.specs.Sheet.{Edition, between, degreeRule, edition1, edition2, foldWords, foldingNumber, outCoinsRule, powerOfTwo, repetitionsRule, roundsRule}
+use Rattle.definition.specs.Sheet.{Edition, between, degreeRule, edition1, edition2, foldWords, outCoinsRule, powerOfTwo, repetitionsRule, roundsRule}
 use Rattle.edition.specs.declared.Edition as code
 use Rattle.edition.specs.declared.Edition.the-variants.{One, Two}
 use Rattle.edition.specs.Meaning.{editionOf}
-use Rattle.sheet.specs.OneBit.{power-one-bit}
-use Rattle.sheet.specs.Rules.{DegreeAt}
+use Rattle.sizes.specs.OneBit.{power-one-bit}
+use Rattle.sizes.specs.Degrees.{DegreeAt}
 
 -- what a call's answer b says of the test t that it stands for, where the code asks for `not b`
 pub failed : {b t : Bool} → b ≡ t → not b ≡ true → t ≡ false
@@ -36,11 +36,7 @@ other-prime zero h k = absurd (h refl)
 other-prime (suc zero) h k = absurd (k refl)
 other-prime (suc (suc field)) h k = refl
 
--- what the rules of a folding number, d0 and s leave
-pub fold-one-bit : (w : List ℕ) (k : ℕ) → foldingNumber w k ≡ true → ones k ≡ 1
-unfolding foldingNumber
-fold-one-bit w k e = power-one-bit k (and-true (powerOfTwo k) _ (and-true (powerOfTwo k && between 2 16 k) _ e .0) .0)
-
+-- what the rules of d0 and s leave
 pub degree-one-bit : (w : List ℕ) → degreeRule w ≡ true → ones (getD w 2 0) ≡ 1
 unfolding degreeRule
 degree-one-bit w e = power-one-bit (getD w 2 0) (and-true (powerOfTwo (getD w 2 0)) _ e .0)
@@ -48,10 +44,6 @@ degree-one-bit w e = power-one-bit (getD w 2 0) (and-true (powerOfTwo (getD w 2 
 pub out-coins-small : (w : List ℕ) → outCoinsRule w ≡ true → getD w 5 0 ≤ 2
 unfolding outCoinsRule
 out-coins-small w e = between-true 1 2 (getD w 5 0) e .1
-
--- a logarithm of k is at most 4
-pub log-small : (k a : ℕ) → k ≡ 2 ^ a → k ≤ 16 → a ≤ 4
-log-small k a e h = pow-most a 4 (subst (λ (x : ℕ). x ≤ 16) e h)
 
 -- powers are compared by their logarithms
 compare-logs : (x y : ℕ) → leb x y ≡ leb (2 ^ x) (2 ^ y)

@@ -4,8 +4,8 @@ use mathlib.Core.List.{List}
 use mathlib.Core.Path.{_≡_, sym, ap, _∙_}
 use lib.ListN.{length, take, drop, take-append-drop}
 use lib.Seq.{length-take-le}
-use Rattle.completeness.specs.SheetLevels
-use Rattle.completeness.specs.SheetLevels.{rules-same}
+use Rattle.layouts.specs.SheetLevels
+use Rattle.layouts.specs.SheetLevels.{rules-same}
 use Rattle.definition.specs.Reading.{sheetTest}
 use Rattle.definition.specs.Sheet.{Edition, sheetLength, sheetOf}
 use Rattle.definition.specs.Verdict.{accepted}

@@ -1,4 +1,2 @@
 pub mod Rules
-pub mod OneBit
-pub mod Sizes
 pub mod Front

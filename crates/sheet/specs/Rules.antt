@@ -1,14 +1,13 @@
 -- The rules of the sheet as the code meets them, in three parts: words 0 to 5, those past word 11, words 6 to 11. What it has when it comes to each part, and
 -- what its answer says of refusal 3.
-use Prim.Native.Nat.{ℕ, suc, _/_, _≤_, _<_}
+use Prim.Native.Nat.{ℕ}
 use mathlib.Core.Bool.{Bool, true, not}
 use mathlib.Core.List.{List, [], _∷_, map}
 use mathlib.Core.Option.{Option, none}
 use mathlib.Core.Path.{_≡_, sym, ap}
-use lib.ListN.{getD, take}
-use Rattle.definition.specs.Lists.{firstOf, productOf, range}
+use Rattle.definition.specs.Lists.{firstOf, range}
 use Rattle.definition.specs.Reading.{sheetTest}
-use Rattle.definition.specs.Sheet.{Edition, degreeRule, edition1, edition2, fieldRule, foldRule, foldWords, foldingNumber, outCoinsRule, roundsRule, sheetRules, sizeRule, testOrder}
+use Rattle.definition.specs.Sheet.{Edition, degreeRule, edition1, edition2, fieldRule, foldRule, outCoinsRule, roundsRule, sheetRules, sizeRule, testOrder}
 use Rattle.definition.specs.Verdict.{accepted, refuseAt}
 
 -- the rules of words 0 to 5
@@ -26,14 +25,6 @@ pub record Shape (ed : Edition) (w : List ℕ) : Type 0 where
   pub fold : foldRule w ≡ true
   pub rounds : roundsRule ed w ≡ true
   pub outCoins : outCoinsRule w ≡ true
-
--- k_0 to k_(i-1) are folding numbers, as far as M
-pub record Folds (ed : Edition) (w : List ℕ) (i : ℕ) : Type 0 where
-  pub folding : (j : ℕ) → j < i → j ≤ getD w 4 0 → foldingNumber w (getD (foldWords ed w) j 0) ≡ true
-
--- d is d_i, where i is at most M + 1
-pub record DegreeAt (ed : Edition) (w : List ℕ) (i d : ℕ) : Type 0 where
-  pub degree : i ≤ suc (getD w 4 0) → d ≡ getD w 2 0 / productOf (take i (foldWords ed w))
 
 -- The place of the first broken word is that of refusal 3.
 pub refusal-of : (ed : Edition) (w : List ℕ) (place : Option ℕ) → place ≡ firstOf (testOrder ed) (map not (sheetRules ed w)) → refuseAt 3 place ≡ sheetTest ed w

@@ -1,32 +1,19 @@
-// The sheet of either edition: the first of its words that breaks its rule, and the number of words, blocks and coins that it makes due where none does.
+// The sheet of either edition: the first of its words that breaks its rule.
 // Each rule is a function of its own. It reads only words whose rules held before, so that no power, shift or product is made of a word not yet accepted.
 use edition::Edition;
 use outcome::Found;
 ghost use mathlib.Core.Path.{_≡_};
 ghost use mathlib.Core.Bool.{true, not};
 ghost use mathlib.Core.List.{map};
-ghost use Prim.Native.Nat.{_+_, _-_, _^_, _≤_, _<_};
-ghost use lib.Count.{ones};
-ghost use lib.ListN.{length, getD};
-ghost use Rattle.definition.specs.Block.{blockCount};
+ghost use Prim.Native.Nat.{_+_, _-_, _≤_, _<_};
+ghost use lib.ListN.{length};
 ghost use Rattle.definition.specs.Field.{primeOf};
-ghost use Rattle.definition.specs.Layout.{coinKinds, layout, wordsDue};
 ghost use Rattle.definition.specs.Lists.{firstOf, range};
-ghost use Rattle.definition.specs.Reading.{sheetTest};
-ghost use Rattle.definition.specs.Sheet.{between as betweenIn, powerOfTwo, degreeRule, edition2, fieldRule, foldRule, foldingNumber, laterFoldRule, laterRules, outCoinsRule, repetitionsRule, roundsRule, sheetLength, sheetOf, sheetRules, sizeRule, testOrder};
-ghost use Rattle.definition.specs.Verdict.{accepted};
+ghost use Rattle.definition.specs.Sheet.{between as betweenIn, powerOfTwo, degreeRule, edition2, fieldRule, foldRule, foldingNumber, laterFoldRule, laterRules, outCoinsRule, repetitionsRule, roundsRule, sheetLength, sheetRules, sizeRule, testOrder};
 ghost use Rattle.edition.specs.Meaning.{editionOf};
 ghost use Rattle.outcome.specs.Meaning.{placeOf};
-ghost use Rattle.sheet.specs.Rules.{DegreeAt, Folds, Shape, frontRules, laterWords};
-ghost use Rattle.sheet.specs.Sizes.{roundWords};
-
-// The logarithm of a power of two, read off its single one bit.
-pub fn log2(x: u32) -> u32
-    requires { ⌜ ones x ≡ 1 ⌝ }
-    ensures { λ r. ⌜ x ≡ 2 ^ r ⌝ }
-{
-    u32::trailing_zeros(x)
-}
+ghost use Rattle.sheet.specs.Rules.{Shape, frontRules, laterWords};
+ghost use Rattle.sizes.specs.Degrees.{DegreeAt, Folds};
 
 // Is x one of 1, 2, 4, .., 4096: a single one bit, and not too high?
 fn is_power(x: u32) -> bool
@@ -117,7 +104,7 @@ fn rounds_rule(e: Edition, w: &[u32]) -> bool
         return false;
     }
     match e {
-        Edition::One => log2(w[3]) * (m + 1) <= log2(w[2]),
+        Edition::One => sizes::log2(w[3]) * (m + 1) <= sizes::log2(w[2]),
         Edition::Two => true,
     }
 }
@@ -156,18 +143,6 @@ fn broken_front(e: Edition, w: &[u32]) -> Found
     Found::Nothing
 }
 
-// d_(i+1) from d_i, for i up to M: k_i is a power of two, so the bits of d_i move down. Past M there is none.
-fn next_degree(e: Edition, w: &[u32], i: usize, d: u32) -> u32
-    requires { ⌜ (sheetLength (editionOf e) ≤ length (now w)) × (i < 6) ⌝ }
-    requires { ⌜ (Folds (editionOf e) (now w) (i + 1)) × (DegreeAt (editionOf e) (now w) i d) ⌝ }
-    ensures { λ r. ⌜ DegreeAt (editionOf e) (now (w .entry)) (i + 1) r ⌝ }
-{
-    if (w[4] as usize) < i {
-        return d;
-    }
-    d >> log2(edition::fold(e, w, i) as u32)
-}
-
 // Word 11 + i of edition 2, k_i, with d for d_i: a folding number for i up to M, with k_0·..·k_i at most d0, which is k_i at most d_i; past k_M zero.
 fn later_fold_rule(w: &[u32], i: usize, d: u32) -> bool
     requires { ⌜ (18 ≤ length (now w)) × ((1 ≤ i) × (i < 6)) ⌝ }
@@ -189,13 +164,13 @@ fn broken_folds(w: &[u32]) -> Found
     requires { ⌜ (18 ≤ length (now w)) × (Shape edition2 (now w)) ⌝ }
     ensures { λ r. ⌜ placeOf r ≡ firstOf (range 12 5) (map not (map (laterFoldRule (now (w .entry))) (range 1 5))) ⌝ }
 {
-    let mut d = next_degree(Edition::Two, w, 0, w[2]);
+    let mut d = sizes::next_degree(Edition::Two, w, 0, w[2]);
     let mut i = 1;
     while i < 6 {
         if !later_fold_rule(w, i, d) {
             return Found::At(11 + i);
         }
-        d = next_degree(Edition::Two, w, i, d);
+        d = sizes::next_degree(Edition::Two, w, i, d);
         i += 1;
     }
     Found::Nothing
@@ -256,7 +231,7 @@ fn broken_repetitions(e: Edition, w: &[u32]) -> Found
     let mut d = w[2];
     let mut i = 0;
     while i < 6 {
-        d = next_degree(e, w, i, d);
+        d = sizes::next_degree(e, w, i, d);
         if !repetitions_rule(e, w, i, d) {
             return Found::At(6 + i);
         }
@@ -279,76 +254,4 @@ pub fn broken(e: Edition, w: &[u32]) -> Found
         return Found::At(place);
     }
     broken_repetitions(e, w)
-}
-
-// The words of a round whose table has n words, after a level with t repetitions: table, out coins, replies, combination coin, fold coin, shift indices.
-fn round_words(n: usize, s: usize, t: usize) -> usize
-    requires { ⌜ roundWords n s t ≤ 8509 ⌝ }
-    ensures { λ r. ⌜ r ≡ roundWords n s t ⌝ }
-{
-    n + 2 * s + 2 + t
-}
-
-// The logarithm of n0, read off its single one bit.
-fn size_log(e: Edition, w: &[u32]) -> usize
-    requires { ⌜ (sheetLength (editionOf e) ≤ length (now w)) × (sheetTest (editionOf e) (now w) ≡ accepted) ⌝ }
-    ensures { λ r. ⌜ getD (now (w .entry)) 1 0 ≡ 2 ^ r ⌝ }
-{
-    log2(w[1]) as usize
-}
-
-// The size of domain i, n0/2^i, for n0 of this logarithm: a single one bit, i places below that of n0.
-fn domain_size(log: usize, i: usize) -> usize
-    requires { ⌜ (i ≤ log) × (log ≤ 12) ⌝ }
-    ensures { λ r. ⌜ r ≡ 2 ^ (log - i) ⌝ }
-{
-    1 << (log - i)
-}
-
-// The number of words that a sheet makes due, its own included.
-pub fn words_due(e: Edition, w: &[u32]) -> usize
-    requires { ⌜ (sheetLength (editionOf e) ≤ length (now w)) × (sheetTest (editionOf e) (now w) ≡ accepted) ⌝ }
-    ensures { λ r. ⌜ (r ≡ wordsDue (editionOf e) (sheetOf (editionOf e) (now (w .entry)))) × (r ≤ 8509) ⌝ }
-{
-    let rounds = w[4] as usize;
-    let s = w[5] as usize;
-    let log = size_log(e, w);
-    // the sheet, table 0 and fold coin 0
-    let mut due = edition::sheet_words(e) + domain_size(log, 0) + 1;
-    let mut d = w[2];
-    let mut i = 0;
-    while i < rounds {
-        due += round_words(domain_size(log, i + 1), s, w[6 + i] as usize);
-        d = next_degree(e, w, i, d);
-        i += 1;
-    }
-    // the final coefficients and the final indices
-    due + next_degree(e, w, i, d) as usize + w[6 + i] as usize
-}
-
-// The number of blocks of 127 words that they fill.
-pub fn blocks_due(e: Edition, w: &[u32]) -> usize
-    requires { ⌜ (sheetLength (editionOf e) ≤ length (now w)) × (sheetTest (editionOf e) (now w) ≡ accepted) ⌝ }
-    ensures { λ r. ⌜ (r ≡ blockCount (wordsDue (editionOf e) (sheetOf (editionOf e) (now (w .entry))))) × ((1 ≤ r) × (r ≤ 67)) ⌝ }
-{
-    (words_due(e, w) + 126) / 127
-}
-
-// The number of coins that a sheet makes due.
-pub fn coins_due(e: Edition, w: &[u32]) -> usize
-    requires { ⌜ (sheetLength (editionOf e) ≤ length (now w)) × (sheetTest (editionOf e) (now w) ≡ accepted) ⌝ }
-    ensures { λ r. ⌜ r ≡ length (coinKinds (layout (sheetOf (editionOf e) (now (w .entry))))) ⌝ }
-{
-    let rounds = w[4] as usize;
-    let s = w[5] as usize;
-    // fold coin 0
-    let mut due = 1;
-    let mut i = 0;
-    while i < rounds {
-        // out coins, combination coin, fold coin, shift indices
-        due += s + 2 + w[6 + i] as usize;
-        i += 1;
-    }
-    // the final indices
-    due + w[6 + i] as usize
 }

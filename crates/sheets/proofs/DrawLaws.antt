@@ -10,8 +10,8 @@ use lib.Dec.{eqb}
 use lib.ListN.{length, getD, take, set, drop-of-length-le, length-set}
 use lib.Seq.{getD-take, length-take-le, sets-eq, take-all, take-suc-set}
 use borrow.Author.Tests.{eq-eqb, ne-eqb}
-use Rattle.completeness.specs.ByPlace.{at-place}
-use Rattle.completeness.specs.LoadAllowed.{Kept, keep-all, kept-more, rule-kept}
+use Rattle.list_laws.specs.All.{at-place}
+use Rattle.layouts.specs.SheetByWord.{Kept, keep-all, kept-more, rule-kept}
 use Rattle.definition.specs.Load.{Drawn, step, drawBelow, candidates, permits, permitted, workedSheet, drawWords, drawSheet}
 
 pub worked-words : (w : List ℕ) → length w ≡ 12 →

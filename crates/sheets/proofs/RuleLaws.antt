@@ -12,23 +12,17 @@ use lib.ListN.{length, getD, take, drop, set, drop-of-length-le, length-append, 
 use lib.Pow.{pow-add, pow-mono}
 use lib.Seq.{append-snoc, drop-cons, getD-append-add, length-take-le, set-split, take-set-le, take-suc-set}
 use borrow.Author.Tests.{eqb-true, eqb-false}
-use Rattle.completeness.specs.ListLaws.{getD-map-range, range-length}
-use Rattle.completeness.specs.LoadAllowed.{Kept, rule-front}
+use Rattle.list_laws.specs.Lists.{getD-map-range, getD-range, range-length}
+use Rattle.layouts.specs.SheetByWord.{Kept, rule-front}
 use Rattle.definition.specs.Lists.{firstOf, range}
 use Rattle.definition.specs.Load.{candidates, keep, permits, permitted}
 use Rattle.definition.specs.Sheet.{edition1, laterRules, sheetRules, testOrder}
 
 -- ---- the candidates
 
-at-range : (from n j : ℕ) → j < n → getD (range from n) j 0 ≡ from + j
-unfolding range
-at-range from zero j h = absurd (omega arith)
-at-range from (suc n) zero h = sym (add-zero from)
-at-range from (suc n) (suc j) h = at-range (suc from) n j (omega arith) ∙ omega arith
-
 pub small-candidate : (i : ℕ) → i < 49 → i ≡ getD candidates i 0
 unfolding candidates
-small-candidate i h = sym (List·getD-append (range 0 49) (map (λ a. 2 ^ a) (range 6 7)) 0 i (omega (arith, range-length 0 49)) ∙ at-range 0 49 i h ∙ zero-add i)
+small-candidate i h = sym (List·getD-append (range 0 49) (map (λ a. 2 ^ a) (range 6 7)) 0 i (omega (arith, range-length 0 49)) ∙ getD-range 0 49 i h ∙ zero-add i)
 
 pub large-candidate : (i : ℕ) → 49 ≤ i → i < 56 → 64 * 2 ^ (i - 49) % 4294967296 ≡ getD candidates i 0
 unfolding candidates

@@ -5,7 +5,7 @@ use outcome::Found;
 ghost use mathlib.Core.Path.{_≡_};
 ghost use Prim.Native.Nat.{_≤_, _<_};
 ghost use lib.ListN.{length, getD, take, set};
-ghost use Rattle.completeness.specs.LoadAllowed.{Kept};
+ghost use Rattle.layouts.specs.SheetByWord.{Kept};
 ghost use Rattle.definition.specs.Load.{candidates, permits as permitsIn, permitted as permittedIn, workedSheet, drawSheet};
 
 // 0 to 48, then 64, 128, .., 4096: no rule of a sheet word permits another value.

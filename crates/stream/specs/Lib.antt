@@ -1,7 +1,4 @@
--- The blocks and words of a file: laws over plain lists, and what a loaded file's words are.
-pub mod Overwriting
-pub mod Chunks
-pub mod FileWords
+-- The blocks of a file as the loops go through them: their checks, what loading leaves, and sealing.
 pub mod Checks
 pub mod Loaded
-pub mod Sealing
+pub mod WrittenBlocks

@@ -10,7 +10,7 @@ use Rattle.outcome.specs.declared.Found.the-variants.{Nothing}
 use Rattle.outcome.specs.Meaning.{placeOf}
 use Rattle.definition.specs.Lists.{firstTrue}
 use Rattle.definition.specs.Block.{fileBlocks, streamOf, wrongChecks}
-use Rattle.stream.specs.FileWords.{stream-length}
+use Rattle.layouts.specs.FileWords.{stream-length}
 
 -- where the first wrong check is; and where there is none, the words of the file's blocks, up to 67 of them
 pub record Loaded (file : List ℕ) (found : Found) (words : List ℕ) : Type 0 where

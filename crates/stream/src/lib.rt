@@ -4,11 +4,11 @@ ghost use mathlib.Core.List.{[], _++_};
 ghost use Prim.Native.Nat.{_+_, _*_, _/_, _≤_, _<_, min};
 ghost use lib.ListN.{length, getD, take, drop};
 ghost use Rattle.definition.specs.Block.{fileBlocks, blockCount, bytesOf, fileOf};
-ghost use Rattle.stream.specs.Overwriting.{overwrite};
-ghost use Rattle.stream.specs.FileWords.{wordAt, blockWords};
+ghost use Rattle.list_laws.specs.Overwriting.{overwrite};
+ghost use Rattle.layouts.specs.FileWords.{wordAt, blockWords};
 ghost use Rattle.stream.specs.Checks.{rightCheck};
 ghost use Rattle.stream.specs.Loaded.{Loaded};
-ghost use Rattle.stream.specs.Sealing.{sealedBlock, blockOf};
+ghost use Rattle.stream.specs.WrittenBlocks.{checkedBlock, blockOf};
 use outcome::Found;
 
 fn wide(b: u8) -> u32
@@ -77,7 +77,7 @@ pub fn load(file: &[u8], words: &mut [u32]) -> Found
 }
 
 // Stores a word in the four bytes from number `at` on, the least significant first.
-pub fn put_word(out: &mut [u8], at: usize, w: u32)
+fn put_word(out: &mut [u8], at: usize, w: u32)
     requires { ⌜ at + 4 ≤ length (now out) ⌝ }
     ensures { λ _. ⌜ now (out .exit) ≡ overwrite (now (out .entry)) at (bytesOf w) ⌝ }
 {
@@ -96,9 +96,9 @@ fn filled(words: &[u32], count: usize, n: usize) -> u32
 }
 
 // Writes block b of the file of the first `count` words, with its fill and its check word.
-fn seal_block(words: &[u32], count: usize, b: usize, out: &mut [u8])
+fn write_block(words: &[u32], count: usize, b: usize, out: &mut [u8])
     requires { ⌜ (count ≤ length (now words)) × ((b < blockCount count) × (512 * b + 512 ≤ length (now out))) ⌝ }
-    ensures { λ _. ⌜ now (out .exit) ≡ overwrite (now (out .entry)) (512 * b) (sealedBlock b (blockOf (take count (now (words .entry))) b)) ⌝ }
+    ensures { λ _. ⌜ now (out .exit) ≡ overwrite (now (out .entry)) (512 * b) (checkedBlock b (blockOf (take count (now (words .entry))) b)) ⌝ }
 {
     let from = 512 * b;
     let mut total = b as u64 + 1;
@@ -113,14 +113,14 @@ fn seal_block(words: &[u32], count: usize, b: usize, out: &mut [u8])
 }
 
 // Writes the file of the first `count` words at the front of `out`; the bytes behind it stay.
-pub fn seal(words: &[u32], count: usize, out: &mut [u8])
+pub fn write_file(words: &[u32], count: usize, out: &mut [u8])
     requires { ⌜ (count ≤ length (now words)) × (512 * blockCount count ≤ length (now out)) ⌝ }
     ensures { λ _. ⌜ now (out .exit) ≡ fileOf (take count (now (words .entry))) ++ drop (length (fileOf (take count (now (words .entry))))) (now (out .entry)) ⌝ }
 {
     let blocks = (count + 126) / 127;
     let mut k = 0;
     while k < blocks {
-        seal_block(words, count, k, out);
+        write_block(words, count, k, out);
         k += 1;
     }
 }

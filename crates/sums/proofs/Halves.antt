@@ -1,14 +1,14 @@
 -- Sums of products whose high and low halves are kept apart. Assumes nothing.
-use Prim.Native.Nat.{ℕ, zero, suc, _+_, _-_, _*_, _/_, _%_, _^_, _≤_, _<_}
+use Prim.Native.Nat.{ℕ, suc, _+_, _-_, _*_, _/_, _%_, _≤_, _<_}
 use native.Mathlib.Nat.{mod-lt, mod-add-mod, mul-le-mul, mul-le-mul-left, mul-suc}
 use native.Mathlib.Omega.{arith}
 use mathlib.Core.Path.{_≡_, refl, sym, ap, _∙_}
-use mathlib.Core.List.{List, [], _∷_}
+use mathlib.Core.List.{List, _∷_}
 use lib.ListN.{length, drop, getD}
 use lib.Seq.{drop-length}
 use Rattle.definition.specs.Field.{primeField, primeOf, fieldOf}
 use Rattle.algebra.specs.ModularArithmetic.{mod-mul, mul-mod}
-use Rattle.polynomial.specs.Backwards.{drop-back}
+use Rattle.list_laws.specs.Backwards.{drop-back}
 use Rattle.sums.specs.Sums.{products, productsOf, products-remainder}
 use Rattle.sums.specs.Primes.{prime-small, prime-some}
 use Rattle.sums.specs.AtRoots.{everyNth, every-number, every-length}
@@ -50,7 +50,7 @@ summed-turn xs ys i high low {h} {l} {h'} {l'} some hx hy s eh el eh' el' =
       (
         more (length xs) i low l l' some hx (s .1 .0) (el .1) el',
         turned high low p (productsOf (drop i xs) (drop i ys)) h l h' l' (s .1 .1) (eh .0) (el .0) eh' el'
-            ∙ sym (rw (drop-back xs i some hx, drop-back ys i some hy, products-cons (getD xs (i - 1) 0) (getD ys (i - 1) 0) (drop i xs) (drop i ys))),
+            ∙ sym (rw (drop-back xs 0 i some hx, drop-back ys 0 i some hy, products-cons (getD xs (i - 1) 0) (getD ys (i - 1) 0) (drop i xs) (drop i ys))),
       ),
     )
   where

@@ -1,15 +1,15 @@
 -- The powers of x, stored one after the other. Assumes nothing.
-use Prim.Native.Nat.{ℕ, zero, suc, _+_, _-_, _*_, _/_, _%_, _≤_, _<_}
+use Prim.Native.Nat.{ℕ, suc, _+_, _-_, _*_, _/_, _%_, _≤_, _<_}
 use native.Mathlib.Nat
 use native.Mathlib.Omega.{arith}
 use mathlib.Core.Path.{_≡_, refl, sym, ap, ap₂, _∙_, subst}
-use mathlib.Core.List.{List, [], _∷_, map}
+use mathlib.Core.List.{List}
 use native.Mathlib.Decide.{ℕ-discrete}
 use lib.ListN.{length, getD, set, length-set}
 use lib.Seq.{getD-set-same, getD-set-other}
-use Rattle.definition.specs.Lists.{range}
-use Rattle.definition.specs.Field.{Field, primeField, primeOf, fieldOf, power}
+use Rattle.definition.specs.Field.{primeField, primeOf, fieldOf, power}
 use Rattle.definition.specs.Polynomial.{geometric}
+use Rattle.list_laws.specs.Lists.{by-number}
 use Rattle.algebra.specs.Lengths.{length-geometric}
 use native.Mathlib.Numerals.{add-one}
 use Rattle.algebra.specs.PrimeField.{laws}
@@ -18,7 +18,6 @@ use Rattle.algebra.specs.RootsOfUnity.{power-mul}
 use Rattle.domain.specs.Powers.{Powers}
 use Rattle.domain.specs.Roots.{around}
 use Rattle.sums.specs.Sums.{geometric-power, power-of-two, PowersTo}
-use Rattle.sums.specs.AtRoots.{by-number}
 
 pub powers-store : (field x : ℕ) (out : List ℕ) (i r : ℕ) → i < length out → PowersTo field x out i → r ≡ power (fieldOf field) x i → PowersTo field x (set out i r) (suc i)
 powers-store field x out i r l h e m u = go (ℕ-discrete m i)
@@ -87,6 +86,7 @@ turning-first pw s out h = record {
 
 pub turning-next : (pw : List ℕ) (s : ℕ) (out : List ℕ) (place i : ℕ) {v r : ℕ} → i < length out → Turning pw s out place i → v ≡ getD pw place 0 →
     (r ≡ (place + s) % length pw) × (r < length pw) → Turning pw s (set out i v) r (i + 1)
+unfolding fieldOf primeField
 turning-next pw s out place i {v} {r} l t ev er = record {
   inside = er .1;
   next = λ field ω w.

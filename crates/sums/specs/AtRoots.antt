@@ -1,18 +1,19 @@
 -- What a walk over every k-th coefficient gives is a residue, so that k such words are a polynomial with the list's values at the k roots.
-use Prim.Native.Nat.{ℕ, zero, suc, _+_, _*_, _≤_, _<_, zero-le}
+use Prim.Native.Nat.{ℕ, zero, suc, _+_, _*_, _≤_, _<_}
 use native.Mathlib.Nat
-use native.Mathlib.Nat.{not-suc-le-zero, le-of-suc-le-suc, suc-add, add-suc}
+use native.Mathlib.Nat.{not-suc-le-zero, le-of-suc-le-suc}
 use native.Mathlib.Omega.{arith}
-use mathlib.Core.Path.{_≡_, refl, sym, ap, ap₂, _∙_}
-use mathlib.Core.List.{List, [], _∷_, map}
-use lib.ListN.{length, getD, take, drop, List·getD-eq-default}
+use mathlib.Core.Path.{_≡_, refl, sym, ap, _∙_}
+use mathlib.Core.List.{List, [], _∷_}
+use lib.ListN.{length, getD, drop, List·getD-eq-default}
 use lib.Seq.{getD-drop, getD-take}
 use Rattle.definition.specs.Field.{Field, power}
-use Rattle.definition.specs.Lists.{range, chunks}
+use Rattle.definition.specs.Lists.{chunks}
 use Rattle.definition.specs.Polynomial.{evaluate, geometric}
+use Rattle.list_laws.specs.Lists.{by-number}
 use Rattle.algebra.specs.Laws.{FieldLaws}
 use Rattle.sums.specs.Sums.{products, products-powers}
-use Rattle.sums.specs.Residues.{column, residues, residues-at, map-range-suc}
+use Rattle.sums.specs.Residues.{column, residues, residues-at}
 
 module _ {A : Type 0} (F : Field A) where
   open Field F using (𝟘)
@@ -21,15 +22,6 @@ module _ {A : Type 0} (F : Field A) where
   unfoldable pub everyNth : List A → ℕ → ℕ → ℕ → List A
   everyNth f from stride zero = []
   everyNth f from stride (suc count) = getD f from 𝟘 ∷ everyNth f (from + stride) stride count
-
--- a list is its elements by number
-pub by-number : {A : Type 0} (d : A) (l : List A) (g : ℕ → A) (k : ℕ) → length l ≡ k → ((m : ℕ) → m < k → getD l m d ≡ g m) → l ≡ map g (range 0 k)
-unfolding range
-by-number d [] g zero e h = refl
-by-number d [] g (suc k) e h = absurd (omega arith)
-by-number d (x ∷ l) g zero e h = absurd (omega arith)
-by-number d (x ∷ l) g (suc k) e h =
-    ap₂ {C = List _} (λ a r. a ∷ r) (h 0 (omega arith)) (by-number d l (λ m. g (suc m)) k (omega arith) (λ m n. h (suc m) (omega arith)) ∙ sym (map-range-suc g 0 k))
 
 module _ {A : Type 0} (F : Field A) (L : FieldLaws F) where
   open Field F using (𝟘)

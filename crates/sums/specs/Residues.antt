@@ -1,22 +1,23 @@
 -- A polynomial at the k roots of one point y: its coefficients with exponents m, m + k, .. make a polynomial of its own, whose value at y is coefficient
 -- m of a polynomial with k coefficients; and at every x with x^k = y that one has the value of the first.
-use Prim.Native.Nat.{ℕ, zero, suc, _+_, _*_, _≤_, _<_, zero-le}
+use Prim.Native.Nat.{ℕ, zero, suc, _+_, _*_, _≤_}
 use native.Mathlib.Nat
-use native.Mathlib.Nat.{suc-add, not-suc-le-zero, min-le-left}
+use native.Mathlib.Nat.{not-suc-le-zero, min-le-left}
 use native.Mathlib.Omega.{arith}
-use mathlib.Core.Path.{_≡_, refl, sym, ap, _∙_}
+use mathlib.Core.Path.{_≡_, sym, ap, _∙_}
 use mathlib.Core.List.{List, [], _∷_, map}
-use lib.ListN.{length, getD, take, drop, length-take}
+use lib.ListN.{length, getD, drop, length-take}
 use Rattle.definition.specs.Field.{Field, power}
 use Rattle.definition.specs.Lists.{range, chunks}
 use Rattle.definition.specs.Polynomial.{evaluate}
+use Rattle.list_laws.specs.Lists.{map-range-suc}
 use Rattle.algebra.specs.Laws.{FieldLaws}
-use Rattle.algebra.specs.ListFacts.{All}
+use Rattle.list_laws.specs.All.{All}
 use Rattle.algebra.specs.RingLaws.{power-add, reduce-power}
 use Rattle.algebra.specs.RootsOfUnity.{power-mul, power-one}
-use Rattle.algebra.specs.Evaluation.{evaluate-nil, evaluate-cons, reduce-evaluate, evaluate-add, evaluate-scale}
+use Rattle.algebra.specs.Evaluation.{evaluate-nil, evaluate-cons, evaluate-add, evaluate-scale}
 use Rattle.algebra.specs.Folding.{collapse, collapse-chunks}
-use Rattle.algebra.specs.Solver.{:0, _:+_, _:*_, _:=_, solve₁, solve₂, solve₆}
+use Rattle.algebra.specs.Solver.{:0, _:+_, _:*_, _:=_, solve₁, solve₆}
 
 module _ {A : Type 0} (F : Field A) where
   open Field F using (𝟘)
@@ -28,11 +29,6 @@ module _ {A : Type 0} (F : Field A) where
   -- the values at y of the first k columns
   unfoldable pub residues : ℕ → A → List (List A) → List A
   residues k y cs = map (λ m. evaluate F (column m cs) y) (range 0 k)
-
-pub map-range-suc : {A : Type 0} (f : ℕ → A) (from n : ℕ) → map f (range (suc from) n) ≡ map (λ m. f (suc m)) (range from n)
-unfolding range
-map-range-suc f from zero = refl
-map-range-suc f from (suc n) = ap {B = List _} (λ r. f (suc from) ∷ r) (map-range-suc f (suc from) n)
 
 module _ {A : Type 0} (F : Field A) (L : FieldLaws F) where
   infixl 65 _⊕_

@@ -4,13 +4,13 @@ use native.Mathlib.Nat.{add-mod, zero-mod}
 use native.Mathlib.Omega.{arith}
 use mathlib.Core.Path.{_≡_, refl, sym, ap, _∙_}
 use mathlib.Core.List.{List, [], _∷_}
-use lib.ListN.{length, getD}
+use lib.ListN.{getD}
 use Rattle.definition.specs.Field.{Field, primeField, primeOf, fieldOf, power}
 use Rattle.definition.specs.Polynomial.{evaluate, scale, geometric}
 use Rattle.algebra.specs.Laws.{FieldLaws}
 use Rattle.algebra.specs.RingLaws.{power-add}
 use Rattle.sums.specs.ZeroPadding.{zeros-at}
-use Rattle.algebra.specs.Solver.{:0, :1, _:+_, _:*_, _:=_, solve₁, solve₂, solve₃, solve₄}
+use Rattle.algebra.specs.Solver.{:0, :1, _:+_, _:*_, _:=_, solve₂, solve₃, solve₄}
 
 module _ {A : Type 0} (F : Field A) where
   infixl 65 _⊕_

@@ -56,7 +56,7 @@ pub fn every(f: &[u32], from: usize, stride: usize, i: usize) -> u32
 }
 
 // The same over every stride-th word of f from number `from` on, as far as b goes: with the powers of y a residue of f.
-pub fn sum_every(field: u32, f: &[u32], from: usize, stride: usize, b: &[u32]) -> u32
+fn sum_every(field: u32, f: &[u32], from: usize, stride: usize, b: &[u32]) -> u32
     requires { ⌜ (from < stride) × ((stride * length (now b) ≤ length (now f)) × (length (now b) ≤ 65536)) ⌝ }
     ensures { λ r. ⌜ r ≡ products (fieldOf field) (everyNth (fieldOf field) (now (f .entry)) from stride (length (now (b .entry)))) (now (b .entry)) ⌝ }
 {

@@ -5,7 +5,7 @@ ghost use mathlib.Core.Path.{_≡_};
 ghost use Prim.Native.Nat.{_+_, _*_, _%_, _≤_, _<_};
 ghost use lib.ListN.{length, replicate};
 ghost use Rattle.definition.specs.Field.{Field, primeOf, fieldOf};
-ghost use Rattle.domain.specs.Filled.{Filled};
+ghost use Rattle.list_laws.specs.Filled.{Filled};
 ghost use Rattle.tables.specs.Halving.{strided, Halves, Spaced, pointAt, Table, turned, Joined};
 ghost use Rattle.tables.specs.OnDomain.{DomainTable};
 

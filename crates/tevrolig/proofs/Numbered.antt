@@ -18,18 +18,18 @@ use Rattle.numbers.specs.Numbers.{AnswerNumbers, ElementNumbers, InverseNumbers
 pub read-numbers : {o d : Outcome} {number place : ℕ} → OutcomeNumbers o number place → o ≡ d → OutcomeNumbers d number place
 read-numbers n e = (n .0 ∙ ap numberOf e, n .1 ∙ ap placeIn e)
 
-pub judged-numbers : {v d : Verdict} {number place reads : ℕ} → VerdictNumbers v number place reads → v ≡ d → VerdictNumbers d number place reads
-judged-numbers n e = (
+pub verdict-numbers : {v d : Verdict} {number place reads : ℕ} → VerdictNumbers v number place reads → v ≡ d → VerdictNumbers d number place reads
+verdict-numbers n e = (
   n .0 ∙ ap (λ (x : Verdict). numberOf (x .outcome)) e,
   (n .1 .0 ∙ ap (λ (x : Verdict). placeIn (x .outcome)) e, n .1 .1 ∙ ap (λ (x : Verdict). x .reads) e),
 )
 
 -- an answer, and beside it the whole output
-abbrev pub OrderNumbers : prove.Result → ℕ → ℕ → List ℕ → Type 0
-OrderNumbers d number value output = (number ≡ refusalOf (d .answer)) × ((value ≡ valueOf (d .answer)) × (output ≡ d .output))
+abbrev pub ResultNumbers : prove.Result → ℕ → ℕ → List ℕ → Type 0
+ResultNumbers d number value output = (number ≡ refusalOf (d .answer)) × ((value ≡ valueOf (d .answer)) × (output ≡ d .output))
 
-pub order-written : {a : prove.Answer} {d : prove.Result} {number value : ℕ} {output : List ℕ} → AnswerNumbers a number value → (a ≡ d .answer) × (output ≡ d .output) → OrderNumbers d number value output
-order-written n e = (n .0 ∙ ap refusalOf (e .0), (n .1 ∙ ap valueOf (e .0), e .1))
+pub answer-written : {a : prove.Answer} {d : prove.Result} {number value : ℕ} {output : List ℕ} → AnswerNumbers a number value → (a ≡ d .answer) × (output ≡ d .output) → ResultNumbers d number value output
+answer-written n e = (n .0 ∙ ap refusalOf (e .0), (n .1 ∙ ap valueOf (e .0), e .1))
 
 -- or the number of an answer alone
 pub output-written : {a : prove.Answer} {d : prove.Result} {number : ℕ} {output : List ℕ} → number ≡ refusalOf a → (a ≡ d .answer) × (output ≡ d .output) → (number ≡ refusalOf (d .answer)) × (output ≡ d .output)

@@ -52,7 +52,7 @@ pub fn read_in(e: Edition, file: &[u8]) -> Outcome
 }
 
 // The verdict on a file of the edition, by way of the places lent.
-fn judge(e: Edition, file: &[u8], words: &mut [u32]) -> Verdict
+fn verify_with(e: Edition, file: &[u8], words: &mut [u32]) -> Verdict
     requires { ⌜ 127 * min (length (now file) / 512) 68 ≤ length (now words) ⌝ }
     ensures { λ r. ⌜ verdictOf r ≡ verifyIn (editionOf e) (now (file .entry)) ⌝ }
 {
@@ -72,7 +72,7 @@ fn judge_block(e: Edition, file: &[u8]) -> Verdict
     ensures { λ r. ⌜ verdictOf r ≡ verifyIn (editionOf e) (now (file .entry)) ⌝ }
 {
     let mut words = block_room();
-    judge(e, file, &mut words)
+    verify_with(e, file, &mut words)
 }
 
 // The same of up to 8 blocks.
@@ -81,7 +81,7 @@ fn judge_small(e: Edition, file: &[u8]) -> Verdict
     ensures { λ r. ⌜ verdictOf r ≡ verifyIn (editionOf e) (now (file .entry)) ⌝ }
 {
     let mut words = small_room();
-    judge(e, file, &mut words)
+    verify_with(e, file, &mut words)
 }
 
 // The same of up to 32 blocks.
@@ -90,7 +90,7 @@ fn judge_middle(e: Edition, file: &[u8]) -> Verdict
     ensures { λ r. ⌜ verdictOf r ≡ verifyIn (editionOf e) (now (file .entry)) ⌝ }
 {
     let mut words = middle_room();
-    judge(e, file, &mut words)
+    verify_with(e, file, &mut words)
 }
 
 // The same of any file.
@@ -98,7 +98,7 @@ fn judge_any(e: Edition, file: &[u8]) -> Verdict
     ensures { λ r. ⌜ verdictOf r ≡ verifyIn (editionOf e) (now (file .entry)) ⌝ }
 {
     let mut words = room();
-    judge(e, file, &mut words)
+    verify_with(e, file, &mut words)
 }
 
 // The verdict on a file of the edition. It is only read. A short one is spared the clearing of many places.

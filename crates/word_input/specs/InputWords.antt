@@ -8,7 +8,7 @@ use lib.Seq.{take-append-seam}
 use borrow.Author.Tests.{eq-eqb, ne-eqb}
 use Rattle.definition.specs.Verdict.{Outcome, accepted, refused, refuseIf}
 use Rattle.definition.specs.Prove.{Answer, Result, done, refusal, finish}
-use Rattle.stream.specs.Overwriting.{overwrite}
+use Rattle.list_laws.specs.Overwriting.{overwrite}
 use Rattle.word_input.specs.WordLaws.{words-length}
 use Rattle.word_input.specs.Input.{taken, wholeWordsTest, wordsOf, takeWords, afterTest}
 
@@ -17,9 +17,9 @@ module _ (bytes : List ℕ) where
   unfolding wholeWordsTest refuseIf
   whole h = rw (eq-eqb (length bytes % 4) 0 h)
 
-  ragged : (length bytes % 4 ≡ 0 → ⊥) → wholeWordsTest bytes ≡ refused 10 0
+  partial : (length bytes % 4 ≡ 0 → ⊥) → wholeWordsTest bytes ≡ refused 10 0
   unfolding wholeWordsTest refuseIf
-  ragged h = rw (ne-eqb (length bytes % 4) 0 h)
+  partial h = rw (ne-eqb (length bytes % 4) 0 h)
 
 -- an answer and an output are those of a result
 pub record Made (r : Result) (answer : Answer) (output : List ℕ) : Type 0 where
@@ -37,7 +37,7 @@ declined t n p q w output e = rw e (record { answered = refl; written = refl })
 module _ (bytes output : List ℕ) where
   pub words-refused : (b : List ℕ) → b ≡ taken bytes → (length b % 4 ≡ 0 → ⊥) → Made (takeWords bytes output) (refusal 10 0) output
   unfolding takeWords
-  words-refused b e h = declined (wholeWordsTest (taken bytes)) 10 0 _ _ output (ragged (taken bytes) (rw e at h))
+  words-refused b e h = declined (wholeWordsTest (taken bytes)) 10 0 _ _ output (partial (taken bytes) (rw e at h))
 
   pub words-done : (b o : List ℕ) → b ≡ taken bytes → length b % 4 ≡ 0 → o ≡ overwrite output 0 (wordsOf b) → Made (takeWords bytes output) (done (length b / 4)) o
   unfolding takeWords overwrite
@@ -68,9 +68,9 @@ module _ (bytes room : List ℕ) where
   unfolding takeWords
   words-taken m = split (wholeWordsTest (taken bytes)) _ _ room refl m
 
-  pub words-ragged : {a b : ℕ} → refusal a b ≡ takeWords bytes room .answer → wholeWordsTest (taken bytes) ≡ refused a b
+  pub words-partial : {a b : ℕ} → refusal a b ≡ takeWords bytes room .answer → wholeWordsTest (taken bytes) ≡ refused a b
   unfolding takeWords
-  words-ragged e = stopped (wholeWordsTest (taken bytes)) _ _ _ _ room e
+  words-partial e = stopped (wholeWordsTest (taken bytes)) _ _ _ _ room e
 
 passed : (t : Outcome) (r : Result) (output : List ℕ) → t ≡ accepted → r ≡ afterTest t r output
 unfolding afterTest
@@ -91,4 +91,4 @@ module _ (bytes room : List ℕ) (run : List ℕ → List ℕ → Result) (outpu
       subst (λ (r : Result). Made r a p) (passed (wholeWordsTest (taken bytes)) _ output (s .0)) (rw (s .1) at made)
 
   pub refused-words : (a b : ℕ) → refusal a b ≡ takeWords bytes room .answer → Made ran (refusal a b) output
-  refused-words a b e = failed (wholeWordsTest (taken bytes)) _ output a b (words-ragged bytes room e)
+  refused-words a b e = failed (wholeWordsTest (taken bytes)) _ output a b (words-partial bytes room e)

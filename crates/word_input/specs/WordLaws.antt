@@ -5,8 +5,8 @@ use mathlib.Core.List.{List, []}
 use lib.ListN.{length, getD, length-map, List·getD-map}
 use Rattle.definition.specs.Lists.{chunks}
 use Rattle.definition.specs.Block.{wordOf}
-use Rattle.stream.specs.Chunks.{chunks-at, chunks-length}
-use Rattle.stream.specs.FileWords.{wordAt}
+use Rattle.list_laws.specs.Chunks.{chunks-at, chunks-length}
+use Rattle.layouts.specs.FileWords.{wordAt}
 use Rattle.word_input.specs.Input.{wordsOf}
 
 module _ (bytes : List ℕ) where

@@ -7,7 +7,7 @@ ghost use lib.ListN.{length, getD, take, drop};
 ghost use Rattle.definition.specs.Sheet.{sheetLength};
 ghost use Rattle.edition.specs.Meaning.{editionOf};
 ghost use Rattle.outcome.specs.Meaning.{answerOf};
-ghost use Rattle.stream.specs.Overwriting.{overwrite};
+ghost use Rattle.list_laws.specs.Overwriting.{overwrite};
 ghost use Rattle.word_input.specs.Input.{taken as takenOf, wordsOf, takeWords, sheetPart, coefficientsPart, coinsPart};
 
 // The bytes that count: the first 16,384, or all.

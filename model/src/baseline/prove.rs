@@ -1,4 +1,4 @@
-//! Encode and prove, for orders that pass their tests; of others they only say so. The rules of the sheet are the model's.
+//! Encode and prove, for inputs that pass their tests; of others they only say so. The rules of the sheet are the model's.
 
 use super::{points, Prime, CHECK_MODULUS};
 use crate::sheet::{Edition, Sheet};
@@ -92,7 +92,7 @@ fn encode_in<const P: u64, const TUNED: bool>(sheet: &Sheet, f: &[u32], out: &mu
     prime.table(f, 1, &powers, 0, 1, out);
 }
 
-/// The sheet of an order to encode that passes its tests.
+/// The sheet of an input to encode that passes its tests.
 fn encode_tests(edition: Edition, sheet: &[u32], f: &[u32], room: usize) -> Option<Sheet> {
     let sheet = Sheet::read_in(edition, sheet)?.ok()?;
     let passes =

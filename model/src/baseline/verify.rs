@@ -116,7 +116,7 @@ pub trait Correction<const P: u64, const TUNED: bool>: Sized {
     }
 }
 
-/// Judges a file.
+/// Verifies a file.
 pub fn verify<C, const TUNED: bool>(edition: Edition, file: &[u8]) -> Verdict
 where
     C: Correction<17, TUNED> + Correction<65537, TUNED> + Correction<2013265921, TUNED>,

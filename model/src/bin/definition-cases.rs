@@ -8,7 +8,7 @@
 //! - `convert`: the edition to convert to, the file's bytes, the output's length,
 //!   `done 0 BLOCKS` or `refused NUMBER PLACE`, and the output's bytes afterwards,
 //!   all of which were 165 before;
-//! - `orders`: a state of the load's generator, the state after one run, and the
+//! - `inputs`: a state of the load's generator, the state after one run, and the
 //!   run's sheet, coefficients and coins, with bars between them.
 
 use std::env;
@@ -32,15 +32,15 @@ fn main() -> ExitCode {
     let arguments: Vec<String> = env::args().skip(1).collect();
     let number = |at: usize| arguments.get(at).and_then(|text| text.parse::<u64>().ok());
     let draw: Option<fn(&mut Rng, u64) -> String> = match arguments.get(2).map(String::as_str) {
-        None => Some(|rng, case| judged(Edition::One, rng, case)),
-        Some("edition2") => Some(|rng, case| judged(Edition::Two, rng, case)),
+        None => Some(|rng, case| verified(Edition::One, rng, case)),
+        Some("edition2") => Some(|rng, case| verified(Edition::Two, rng, case)),
         Some("steps") => Some(in_one_step),
         Some("convert") => Some(converted),
-        Some("orders") => Some(drawn_order),
+        Some("inputs") => Some(drawn_input),
         Some(_) => None,
     };
     let (Some(seed), Some(count), Some(draw)) = (number(0), number(1), draw) else {
-        eprintln!("usage: definition-cases SEED COUNT [edition2 | steps | convert | orders]");
+        eprintln!("usage: definition-cases SEED COUNT [edition2 | steps | convert | inputs]");
         return ExitCode::FAILURE;
     };
 
@@ -62,7 +62,7 @@ fn hexadecimal(bytes: &[u8]) -> String {
 }
 
 /// A file with its verdict; the first is empty.
-fn judged(edition: Edition, rng: &mut Rng, case: u64) -> String {
+fn verified(edition: Edition, rng: &mut Rng, case: u64) -> String {
     let file = match case {
         0 => Vec::new(),
         _ => small(edition, rng, case as usize),
@@ -113,7 +113,7 @@ fn converted(rng: &mut Rng, case: u64) -> String {
 /// A run of the load that is short to compute: half of them have rounds, and so out
 /// coins, one in eight falls back to the worked sheet, and in one of eight an out coin
 /// is drawn that equals the one before it.
-fn drawn_order(rng: &mut Rng, case: u64) -> String {
+fn drawn_input(rng: &mut Rng, case: u64) -> String {
     loop {
         let before = Generator { v: rng.word() };
         // Elsewhere equal coins are too rare to wait for.
@@ -121,17 +121,17 @@ fn drawn_order(rng: &mut Rng, case: u64) -> String {
             continue;
         }
         let mut after = before.clone();
-        let order = after.order();
-        let words = order.coefficients.len() + order.coins.len();
+        let input = after.draw_input();
+        let words = input.coefficients.len() + input.coins.len();
         let wanted = match case % 8 {
-            0 => order.sheet == WORKED_SHEET,
-            1..=4 => order.sheet[4] > 0 && order.sheet != WORKED_SHEET,
-            5 => equal_coin_drawn(&before, &order),
+            0 => input.sheet == WORKED_SHEET,
+            1..=4 => input.sheet[4] > 0 && input.sheet != WORKED_SHEET,
+            5 => equal_coin_drawn(&before, &input),
             _ => true,
         };
-        let small = order.sheet[1] <= 128 || order.sheet[4] == 0;
+        let small = input.sheet[1] <= 128 || input.sheet[4] == 0;
         if wanted && words <= 100 && small {
-            return format!("{} | {} | {order}", before.v, after.v);
+            return format!("{} | {} | {input}", before.v, after.v);
         }
     }
 }

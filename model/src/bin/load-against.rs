@@ -1,13 +1,14 @@
 //! Runs the program given as the first argument on many inputs and compares what
 //! it prints with the load of the model, byte by byte. The second argument is the
-//! number of seeds. For one seed in sixteen the model proves and judges every file;
-//! for the others it draws every order and says what an honest file is promised.
+//! number of seeds. For one seed in sixteen the model proves and verifies every file;
+//! for the others it draws every input of the prover and says what an honest file is
+//! promised.
 
 use std::env;
 use std::io::{self, Write};
 use std::process::{Command, ExitCode, Stdio};
 use tevrolig_model::generate::Rng;
-use tevrolig_model::load::{lines, lines_by, seed, Order};
+use tevrolig_model::load::{lines, lines_by, seed, ProverInput};
 
 fn main() -> ExitCode {
     let arguments: Vec<String> = env::args().skip(1).collect();
@@ -69,7 +70,7 @@ fn agree(program: &str, input: &[u8], whole: bool) -> io::Result<bool> {
     let expected = if whole {
         lines(seed)
     } else {
-        lines_by(seed, Order::promised)
+        lines_by(seed, ProverInput::promised)
     };
     let printed = running.wait_with_output()?;
     let expected = expected.join("\n") + "\n";

@@ -1,4 +1,4 @@
-//! Judges standard input, at most its first 65,536 bytes, and prints the verdict; with the argument 2, as a file of edition 2. After the edition, `read` and
+//! Verifies standard input, at most its first 65,536 bytes, and prints the verdict; with the argument 2, as a file of edition 2. After the edition, `read` and
 //! `decide` are for the steps of verify; reading is printed with no reads.
 
 use std::io::{self, Read};

@@ -1,16 +1,16 @@
-//! Equal out coins made on purpose (document 02, CR 6), in an order and in a file,
-//! with the refusal that they are made for.
+//! Equal out coins made on purpose (document 02, CR 6), in the prover's input and
+//! in a file, with the refusal that they are made for.
 
 use super::{aim, coefficients, coins, honest_file, rewrite_checks, sheet_up_to, Rng};
 use crate::domain::Subgroup;
 use crate::field::Field;
 use crate::layout::{Layout, Part};
-use crate::load::{Generator, Order};
+use crate::load::{Generator, ProverInput};
 use crate::sheet::{Edition, Sheet};
 use crate::stream::{read_word, to_blocks, write_word};
 
-/// An order and a file with the same out coins, of which those of a round or more are
-/// equal.
+/// An input of the prover and a file with the same out coins, of which those of a round
+/// or more are equal.
 #[derive(Debug, Clone)]
 pub struct Case {
     pub sheet: Vec<u32>,
@@ -170,12 +170,12 @@ fn pair(layout: &Layout, i: usize) -> [usize; 2] {
 
 /// Whether a run of the load, whose first round has two out coins, draws the first of
 /// them again for the second: the state before the run, and what it drew.
-pub fn equal_coin_drawn(before: &Generator, order: &Order) -> bool {
-    let [first, second] = [order.coins[1], order.coins[2]];
-    let p = Field::numbered(order.sheet[0]).map_or(1, |field| field.p);
+pub fn equal_coin_drawn(before: &Generator, input: &ProverInput) -> bool {
+    let [first, second] = [input.coins[1], input.coins[2]];
+    let p = Field::numbered(input.sheet[0]).map_or(1, |field| field.p);
     let mut generator = before.clone();
     generator.sheet();
-    for _ in 0..order.coefficients.len() + 1 {
+    for _ in 0..input.coefficients.len() + 1 {
         generator.step();
     }
     while generator.below(p) != first {}

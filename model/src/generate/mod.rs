@@ -140,11 +140,11 @@ impl Draw {
 
 /// The prover's file; empty if the prover refuses.
 pub fn honest_file(sheet: &[u32], coefficients: &[u32], coins: &[u32]) -> Vec<u8> {
-    let Some(judged) = known(sheet) else {
+    let Some(known) = known(sheet) else {
         return Vec::new();
     };
-    let mut file = vec![0; Layout::new(&judged).blocks() * BLOCK_BYTES];
-    match prove_in(judged.edition, sheet, coefficients, coins, &mut file) {
+    let mut file = vec![0; Layout::new(&known).blocks() * BLOCK_BYTES];
+    match prove_in(known.edition, sheet, coefficients, coins, &mut file) {
         Answer::Done(_) => file,
         Answer::Refused { .. } => Vec::new(),
     }

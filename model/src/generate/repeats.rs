@@ -1,5 +1,5 @@
-//! Shift and final indices repeated on purpose (document 02, CR 8), in an order and in
-//! a file, and the reads that are due.
+//! Shift and final indices repeated on purpose (document 02, CR 8), in the prover's
+//! input and in a file, and the reads that are due.
 
 use super::{aim, coefficients, coins, honest_file, known, rewrite_checks, sheet_up_to, Rng};
 use crate::layout::{Layout, Part};
@@ -8,7 +8,8 @@ use crate::stream::{read_word, write_word};
 use crate::verify::Outcome;
 use std::collections::{BTreeMap, BTreeSet};
 
-/// An order whose indices repeat, and its file, which may have been given faults.
+/// An input of the prover whose indices repeat, and its file, which may have been given
+/// faults.
 #[derive(Debug, Clone)]
 pub struct Case {
     pub sheet: Vec<u32>,

@@ -72,7 +72,7 @@ pub fn with(list: &[u32], changes: &[(usize, u32)]) -> Vec<u32> {
 }
 
 /// The verdict line of a file.
-pub fn judged(edition: Edition, file: &[u8]) -> String {
+pub fn verdict_line(edition: Edition, file: &[u8]) -> String {
     line(verify_in(edition, file))
 }
 
@@ -100,7 +100,7 @@ pub fn honest(rng: &mut Rng, sheet: &[u32], hostile: bool) -> Vec<u8> {
 pub fn accept(rng: &mut Rng, sheet: &[u32], hostile: bool) -> Vec<u8> {
     let file = honest(rng, sheet, hostile);
     let expected = format!("accepted 0 0 {}", reads(sheet, &file));
-    assert_eq!(judged(edition(sheet), &file), expected, "{sheet:?}");
+    assert_eq!(verdict_line(edition(sheet), &file), expected, "{sheet:?}");
     file
 }
 
@@ -153,13 +153,13 @@ impl Sample {
             One => 2 * (4 + 3 + 5),
             Two => 16 * 3 + 4 * 2 + 2 * 4,
         };
-        assert_eq!(sample.judged(&[]), format!("accepted 0 0 {reads}"));
+        assert_eq!(sample.verdict_line(&[]), format!("accepted 0 0 {reads}"));
         sample
     }
 
     /// The verdict line with some words changed.
-    pub fn judged(&self, changes: &[(usize, u32)]) -> String {
-        judged(self.edition, &changed(&self.file, changes))
+    pub fn verdict_line(&self, changes: &[(usize, u32)]) -> String {
+        verdict_line(self.edition, &changed(&self.file, changes))
     }
 
     /// The refusal's number likewise.

@@ -2,7 +2,7 @@
 #![allow(dead_code)]
 
 use std::ops::Range;
-use tevrolig::OrderRefusal;
+use tevrolig::InputRefusal;
 use tevrolig_model::generate::repeats::reads_due;
 use tevrolig_model::generate::{self, Rng};
 use tevrolig_model::layout::{Layout, Section};
@@ -31,8 +31,8 @@ pub const LARGEST: [&[u32]; 10] = [
     &[1, 1024, 512, 16, 2, 2, 3, 2, 4, 0, 0, 0, 4, 2, 0, 0, 0, 2],
 ];
 
-/// What prove is asked for; encode leaves the coins out.
-pub struct Order {
+/// What prove is given; encode leaves the coins out.
+pub struct ProverInput {
     pub edition: Edition,
     pub sheet: Vec<u32>,
     pub coefficients: Vec<u32>,
@@ -44,7 +44,7 @@ pub fn edition(sheet: &[u32]) -> Edition {
     Edition::of(sheet).unwrap()
 }
 
-/// The verdict of the archive's judge.
+/// The verdict of the archive.
 pub fn verify(edition: Edition, file: &[u8]) -> tevrolig::Verdict {
     match edition {
         One => tevrolig::verify(file),
@@ -53,7 +53,7 @@ pub fn verify(edition: Edition, file: &[u8]) -> tevrolig::Verdict {
 }
 
 /// The verdict as a line, after it and both steps of verify were compared with the model's.
-pub fn judged(edition: Edition, file: &[u8], what: &str) -> String {
+pub fn verdict_line(edition: Edition, file: &[u8], what: &str) -> String {
     let (read, decided) = match edition {
         One => (tevrolig::read(file), tevrolig::decide(file)),
         Two => (
@@ -89,7 +89,7 @@ pub fn reads(sheet: &[u32], file: &[u8]) -> u64 {
 }
 
 /// The answer in the model's terms.
-fn told(answer: Result<usize, OrderRefusal>) -> Answer {
+fn model_answer(answer: Result<usize, InputRefusal>) -> Answer {
     match answer {
         Ok(size) => Answer::Done(size as u64),
         Err(refusal) => Answer::Refused {
@@ -138,9 +138,9 @@ pub fn agree<T: Copy + PartialEq>(
     (answer, room[output].to_vec())
 }
 
-impl Order {
-    pub fn allowed(rng: &mut Rng, sheet: &[u32], hostile: bool) -> Order {
-        Order {
+impl ProverInput {
+    pub fn allowed(rng: &mut Rng, sheet: &[u32], hostile: bool) -> ProverInput {
+        ProverInput {
             edition: edition(sheet),
             sheet: sheet.to_vec(),
             coefficients: generate::coefficients(rng, sheet),
@@ -148,9 +148,9 @@ impl Order {
         }
     }
 
-    /// An order with nothing in it.
-    pub fn empty(edition: Edition) -> Order {
-        Order {
+    /// An input with nothing in it.
+    pub fn empty(edition: Edition) -> ProverInput {
+        ProverInput {
             edition,
             sheet: Vec::new(),
             coefficients: Vec::new(),
@@ -158,7 +158,7 @@ impl Order {
         }
     }
 
-    /// The sheet and the layout of an order without fault.
+    /// The sheet and the layout of an input without fault.
     pub fn known(&self) -> (Sheet, Layout) {
         let sheet = Sheet::read(&self.sheet).unwrap();
         let layout = Layout::new(&sheet);
@@ -166,7 +166,7 @@ impl Order {
     }
 
     /// The archive's answer.
-    pub fn proved(&self, output: &mut [u8]) -> Result<usize, OrderRefusal> {
+    pub fn proved(&self, output: &mut [u8]) -> Result<usize, InputRefusal> {
         let prove = match self.edition {
             One => tevrolig::prove,
             Two => tevrolig::edition2::prove,
@@ -174,13 +174,13 @@ impl Order {
         prove(&self.sheet, &self.coefficients, &self.coins, output)
     }
 
-    /// Both answers to prove, which are equal; a file that comes of it is accepted by both judges.
+    /// Both answers to prove, which are equal; a file that comes of it is accepted by the archive and the model.
     pub fn prove(&self, length: usize, what: &str) -> Answer {
         let edition = self.edition;
         let (answer, output) = agree(
             |i| (37 * i + length) as u8,
             length,
-            |output| told(self.proved(output)),
+            |output| model_answer(self.proved(output)),
             |output| {
                 prove_in(
                     edition,
@@ -196,14 +196,14 @@ impl Order {
         if let Answer::Done(blocks) = answer {
             let file = &output[..512 * blocks as usize];
             let accepted = format!("accepted 0 0 {}", reads(&self.sheet, file));
-            assert_eq!(judged(edition, file, what), accepted, "{what}");
+            assert_eq!(verdict_line(edition, file, what), accepted, "{what}");
         }
         answer
     }
 
     /// Both answers to encode, which are equal.
     pub fn encode(&self, length: usize, what: &str) -> Answer {
-        let Order {
+        let ProverInput {
             sheet,
             coefficients,
             ..
@@ -211,7 +211,7 @@ impl Order {
         let (answer, _) = agree(
             |i| (0x9E37_79B9_u32).wrapping_mul((i + length) as u32),
             length,
-            |output| told(tevrolig::encode(sheet, coefficients, output)),
+            |output| model_answer(tevrolig::encode(sheet, coefficients, output)),
             |output| model::encode(sheet, coefficients, output),
             |words| words as usize,
             what,
@@ -219,9 +219,9 @@ impl Order {
         answer
     }
 
-    /// An allowed order is done in an output of the size due and in a longer one, and refused in one that is shorter by one; in edition 1
+    /// An allowed input is proved in an output of the size due and in a longer one, and refused in one that is shorter by one; in edition 1
     /// it is encoded likewise.
-    pub fn is_done(&self, more: usize, what: &str) {
+    pub fn is_proved(&self, more: usize, what: &str) {
         let (sheet, layout) = self.known();
         let (blocks, words) = (layout.blocks(), sheet.n0);
         let [proved, encoded] = [blocks, words].map(|due| Answer::Done(due as u64));

@@ -4,8 +4,9 @@ use native.Mathlib.Omega.{arith}
 use mathlib.Core.Path.{sym, ap, _∙_}
 use lib.ListN.{length}
 use lib.Seq.{length-front, length-take-le}
-use Rattle.definition.specs.Field.{fieldOf}
+use Rattle.definition.specs.Field.{fieldOf, primeField}
 use Rattle.definition.specs.Polynomial.{evaluate}
+use Rattle.algebra.specs.PrimeField.{laws}
 use Rattle.sums.specs.Sums.{products}
 use Rattle.fractions.proofs.RootValues.{front-whole}
 use Rattle.comparison.proofs.Comparing.{final-is}
@@ -53,13 +54,14 @@ sum-requires c κs =
     (omega (arith, ap length (w .0), w .1), omega (arith, c .before .before .before .before .before .if2 .taken))
 
 returns : tie.Need-returns
+unfolding fieldOf primeField
 returns c =
     let s = c .before .before .before .before .before .before .before .before .before .before in
     let a = s .args in
     let w = front-whole (length (c .before .before .before .before .before .before .before .before .before .before .args .coefficients .now) + 1) (c .before .before .before .before .before .places .result) (c .before .before .before .shift-powers .last .1 .1 .1 .1 .0) (omega (arith, c .before .before .before .before .before .places .ensures, c .before .before .before .before .before .before .if2 .taken)) (c .before .before .before .shift-powers .kept .1 .1 .1 .1 .0) in
     let q = c .before .before .before .shift-powers in
-    final-is (a .field) (s .pre .1 .0) (a .pw .now) (a .scale) (a .k) (a .j) (a .coefficients .now) (q .last .1 .1 .1 .1 .0) (s .pre .1 .1) (s .pre .0 .1 .1 .0) (omega (arith, s .pre .0 .0))
-    (q .ensures) (omega (arith, w .1)) (c .sum .ensures ∙ ap (products (fieldOf (a .field)) (a .coefficients .now)) (w .0))
+    final-is (fieldOf (a .field)) (laws (a .field)) (s .pre .1 .0) (a .pw .now) (a .scale) (a .k) (a .j) (a .coefficients .now) (q .last .1 .1 .1 .1 .0) (s .pre .1 .1) (s .pre .0 .1 .1 .0) (omega (arith, s .pre .0 .0))
+    (q .ensures (a .field) (s .pre .1 .0) (s .pre .1 .1)) (omega (arith, w .1)) (c .sum .ensures ∙ ap (products (fieldOf (a .field)) (a .coefficients .now)) (w .0))
 
 shift-point-requires : tie.Need-shift-point-requires
 shift-point-requires c κs = search needs

@@ -8,11 +8,11 @@ use Rattle.definition.specs.Convert.{backward, foldsTest, toEdition1}
 use Rattle.definition.specs.Reading.{reading}
 use Rattle.definition.specs.Sheet.{edition2, sheetOf}
 use Rattle.definition.specs.Verdict.{_then_}
-use Rattle.completeness.specs.Tests.{then-passes}
+use Rattle.list_laws.specs.Lists.{rest-all}
+use Rattle.layouts.specs.Tests.{then-passes}
 use Rattle.reading.specs.Passed.{words-there}
-use Rattle.convert.specs.Sheets.{backward-begins, begun-is, begun-there}
+use Rattle.convert.specs.Begun.{backward-begins, begun-is, begun-there}
 use Rattle.convert.specs.Stages.{ready, refused-is, written-is}
-use Rattle.convert.proofs.Lent.{rest-is}
 use Rattle.convert.proofs.backward.Statement.{statement}
 use Rattle.convert.proofs.backward.Tie as tie
 
@@ -56,7 +56,7 @@ write-requires c κs =
     let f = a .file .now in
     let ok = ready (reading edition2 f then foldsTest (sheetOf edition2 (streamOf f))) (backward (streamOf f)) (a .output .now) (t .backward-tests .ensures) (p .before .before .before .tests .given .1) in
     let there = words-there edition2 f (then-passes (reading edition2 f) _ (ok .passed) .0) in
-    let all = backward-begins (t .backward-tests .last .1 .0) (streamOf f) (127 * (length f / 512)) (ok .stream) there (rest-is (p .cut-sheet .last .0) ∙ p .cut-sheet .ensures) in
+    let all = backward-begins (t .backward-tests .last .1 .0) (streamOf f) (127 * (length f / 512)) (ok .stream) there (rest-all 6 (p .cut-sheet .last .0) ∙ p .cut-sheet .ensures) in
     (begun-there (backward (streamOf f)) _ all (ok .words), ok .size)
 
 same-length-2 : tie.Need-same-length-2
@@ -75,7 +75,7 @@ returns-2 c =
     let f = a .file .now in
     let ok = ready (reading edition2 f then foldsTest (sheetOf edition2 (streamOf f))) (backward (streamOf f)) (a .output .now) (t .backward-tests .ensures) (p .before .before .before .tests .given .1) in
     let there = words-there edition2 f (then-passes (reading edition2 f) _ (ok .passed) .0) in
-    let all = backward-begins (t .backward-tests .last .1 .0) (streamOf f) (127 * (length f / 512)) (ok .stream) there (rest-is (p .cut-sheet .last .0) ∙ p .cut-sheet .ensures) in
+    let all = backward-begins (t .backward-tests .last .1 .0) (streamOf f) (127 * (length f / 512)) (ok .stream) there (rest-all 6 (p .cut-sheet .last .0) ∙ p .cut-sheet .ensures) in
     written-is ok (begun-is (backward (streamOf f)) _ all (ok .words)) (v .write .ensures .0) (v .write .ensures .1)
 
 pub backward-spec : {M : Type 1} → statement M

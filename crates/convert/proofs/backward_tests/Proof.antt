@@ -6,9 +6,9 @@ use borrow.Author.Needs.{needs}
 use Rattle.definition.specs.Convert.{foldsTest}
 use Rattle.definition.specs.Layout.{wordsDue}
 use Rattle.definition.specs.Sheet.{edition2}
-use Rattle.completeness.specs.SheetRules.{rounds-most}
+use Rattle.layouts.specs.SheetRules.{rounds-most}
 use Rattle.edition.specs.Meaning.{editionOf}
-use Rattle.convert.specs.Stages.{backward-count, due-is, first-refuses, found-refuses, head-is, head-passes, next-is, nothing-passes, refuses, tests-end, tests-refuse, told}
+use Rattle.convert.specs.Stages.{backward-count, due-is, first-refuses, found-refuses, head-is, head-passes, next-is, nothing-passes, refuses, tests-end, tests-refuse, accepted-is}
 use Rattle.convert.proofs.backward_tests.Statement.{statement}
 use Rattle.convert.proofs.backward_tests.Tie as tie
 
@@ -42,7 +42,7 @@ other-fold-requires : tie.Need-other-fold-requires
 unfolding editionOf
 other-fold-requires c κs =
     let r = c .before .before .before .before .before in
-    let p = told (r .read .ensures .outcome) (c .before .enum-told .given .1) in
+    let p = accepted-is (r .read .ensures .outcome) (c .before .enum-told .given .1) in
     let h = head-passes edition2 (r .before .before .before .before .args .file .now) (r .read .last .1 .1 .0) p (r .read .ensures .stream p) in
     (h .0, rounds-most edition2 _ (h .1))
 
@@ -58,7 +58,7 @@ returns-2 c =
     let t = c .before .before .before in
     let r = t .before .before .before .before .before .before in
     let f = r .before .before .before .before .args .file .now in
-    let p = told (r .read .ensures .outcome) (t .before .before .enum-told .given .1) in
+    let p = accepted-is (r .read .ensures .outcome) (t .before .before .enum-told .given .1) in
     let h = t .other-fold .ensures ∙ ap foldsTest (head-is edition2 f (r .read .last .1 .1 .0) p (r .read .ensures .stream p)) in
     tests-refuse (first-refuses _ (found-refuses h (c .before .other .given .1) ∙ sym (next-is _ p)))
 
@@ -70,7 +70,7 @@ unfolding editionOf
 words-due-requires c κs =
     let t = c .before .before in
     let r = t .before .before .before .before .before .before in
-    let p = told (r .read .ensures .outcome) (t .before .before .enum-told .given .1) in
+    let p = accepted-is (r .read .ensures .outcome) (t .before .before .enum-told .given .1) in
     head-passes edition2 (r .before .before .before .before .args .file .now) (r .read .last .1 .1 .0) p (r .read .ensures .stream p)
 
 sub-output-test : tie.Need-sub-output-test
@@ -90,7 +90,7 @@ returns-3 c =
     let r = t .before .before .before .before .before .before in
     let f = r .before .before .before .before .args .file .now in
     let w = r .read .last .1 .1 .0 in
-    let p = told (r .read .ensures .outcome) (t .before .before .enum-told .given .1) in
+    let p = accepted-is (r .read .ensures .outcome) (t .before .before .enum-told .given .1) in
     let st = r .read .ensures .stream p in
     let equal = nothing-passes 13 (t .other-fold .ensures ∙ ap foldsTest (head-is edition2 f w p st)) (c .before .before .enum-told2 .given .1) in
     tests-end (next-is _ p ∙ equal) (backward-count f p equal (due-is edition2 f w p st (c .before .words-due .ensures .0))) st (c .output-test .ensures)

@@ -5,7 +5,7 @@ use native.Mathlib.Omega.{arith}
 use borrow.Author.Needs.{needs}
 use Rattle.definition.specs.Sheet.{edition1}
 use Rattle.edition.specs.Meaning.{editionOf}
-use Rattle.convert.specs.Stages.{due-is, first-refuses, forward-count, head-passes, refuses, tests-end, tests-refuse, told}
+use Rattle.convert.specs.Stages.{due-is, first-refuses, forward-count, head-passes, refuses, tests-end, tests-refuse, accepted-is}
 use Rattle.convert.proofs.forward_tests.Statement.{statement}
 use Rattle.convert.proofs.forward_tests.Tie as tie
 
@@ -39,7 +39,7 @@ words-due-requires : tie.Need-words-due-requires
 unfolding editionOf
 words-due-requires c κs =
     let r = c .before .before .before .before .before in
-    let p = told (r .read .ensures .outcome) (c .before .enum-told .given .1) in
+    let p = accepted-is (r .read .ensures .outcome) (c .before .enum-told .given .1) in
     head-passes edition1 (r .before .before .before .before .args .file .now) (r .read .last .1 .1 .0) p (r .read .ensures .stream p)
 
 add-output-test : tie.Need-add-output-test
@@ -56,7 +56,7 @@ unfolding editionOf
 returns-2 c =
     let r = c .before .before .before .before .before .before .before in
     let f = r .before .before .before .before .args .file .now in
-    let p = told (r .read .ensures .outcome) (c .before .before .before .enum-told .given .1) in
+    let p = accepted-is (r .read .ensures .outcome) (c .before .before .before .enum-told .given .1) in
     let st = r .read .ensures .stream p in
     tests-end p (forward-count f p (due-is edition1 f (r .read .last .1 .1 .0) p st (c .before .words-due .ensures .0))) st (c .output-test .ensures)
 

@@ -6,8 +6,8 @@ use Rattle.outcome.specs.Meaning.{answerOf}
 use Rattle.convert.proofs.write.Statement.{statement}
 use Rattle.convert.proofs.write.Tie as tie
 
-seal-requires : tie.Need-seal-requires
-seal-requires c κs = search needs
+write-file-requires : tie.Need-write-file-requires
+write-file-requires c κs = search needs
 
 add-t7 : tie.Need-add-t7
 add-t7 c = search needs
@@ -17,7 +17,7 @@ same-length c = search needs
 
 returns : tie.Need-returns
 unfolding answerOf blockCount
-returns c = (refl, c .before .before .seal .ensures)
+returns c = (refl, c .before .before .write-file .ensures)
 
 pub write-spec : {M : Type 1} → statement M
-write-spec = tie.close (tie.spec seal-requires add-t7 same-length returns)
+write-spec = tie.close (tie.spec write-file-requires add-t7 same-length returns)

@@ -26,11 +26,11 @@ of-sheet-within-requires c κs =
 array-share-prefix-few : tie.Need-array-share-prefix-few
 array-share-prefix-few c = search needs
 
-slice-aggregate-decide-by : tie.Need-slice-aggregate-decide-by
-slice-aggregate-decide-by c = search needs
+slice-aggregate-test-outs : tie.Need-slice-aggregate-test-outs-then-decide
+slice-aggregate-test-outs c = search needs
 
-decide-by-requires : tie.Need-decide-by-requires
-decide-by-requires c κs =
+test-outs-requires : tie.Need-test-outs-then-decide-requires
+test-outs-requires c κs =
     let s = c .before .before .before .before .before .before .before .before in
     let a = s .args in
     let q = c .before .before .of-sheet-within in
@@ -53,11 +53,11 @@ of-sheet-requires c κs =
 array-share-prefix-pw : tie.Need-array-share-prefix-pw
 array-share-prefix-pw c = search needs
 
-slice-aggregate-decide-by-2 : tie.Need-slice-aggregate-decide-by-2
-slice-aggregate-decide-by-2 c = search needs
+slice-aggregate-test-outs-2 : tie.Need-slice-aggregate-test-outs-then-decide-2
+slice-aggregate-test-outs-2 c = search needs
 
-decide-by-requires-2 : tie.Need-decide-by-requires-2
-decide-by-requires-2 c κs =
+test-outs-requires-2 : tie.Need-test-outs-then-decide-requires-2
+test-outs-requires-2 c κs =
     let s = c .before .before .before .before .before .before .before .before in
     let a = s .args in
     let q = c .before .before .of-sheet in
@@ -75,13 +75,13 @@ deciding-spec =
     slice-aggregate-of-sheet-within
     of-sheet-within-requires
     array-share-prefix-few
-    slice-aggregate-decide-by
-    decide-by-requires
+    slice-aggregate-test-outs
+    test-outs-requires
     returns
     points-room-requires
     slice-aggregate-of-sheet
     of-sheet-requires
     array-share-prefix-pw
-    slice-aggregate-decide-by-2
-    decide-by-requires-2
+    slice-aggregate-test-outs-2
+    test-outs-requires-2
     returns-2)

@@ -1,6 +1,7 @@
 -- `distinct::keep` meets its contract. Assumes nothing.
 use native.Mathlib.Omega.{arith}
 use mathlib.Core.Path.{_∙_, sym}
+use lib.Dec.{eqb}
 use Rattle.distinct.proofs.Turns.{keep-new, keep-there}
 use borrow.Author.Needs.{needs}
 use Rattle.distinct.proofs.keep.Statement.{statement}
@@ -15,7 +16,7 @@ same-length c = search needs
 returns : tie.Need-returns
 returns c =
     let a = c .before .before .before .before .args in
-    (keep-there (a .xs .now) (a .from) (a .x) (sym (c .if1 .taken) ∙ c .before .found .ensures), (omega arith, omega arith))
+    (keep-there eqb (a .xs .now) (a .from) (a .x) (sym (c .if1 .taken) ∙ c .before .found .ensures), (omega arith, omega arith))
 
 sub-at : tie.Need-sub-at
 sub-at c = search needs
@@ -32,7 +33,7 @@ same-length-2 c = search needs
 returns-2 : tie.Need-returns-2
 returns-2 c =
     let a = c .before .before .before .before .args in
-    (keep-new (a .xs .now) (a .from) (a .x) (omega arith) (omega arith) (sym (c .if1 .left) ∙ c .before .found .ensures), (omega arith, omega arith))
+    (keep-new eqb (a .xs .now) (a .from) (a .x) (omega arith) (omega arith) (sym (c .if1 .left) ∙ c .before .found .ensures), (omega arith, omega arith))
 
 pub keep-spec : {M : Type 1} → statement M
 keep-spec =

@@ -4,6 +4,7 @@ use native.Mathlib.Omega.{arith}
 use mathlib.Core.Path.{_≡_, _∙_, refl, ap}
 use mathlib.Core.List.{List, map}
 use lib.ListN.{length, drop}
+use lib.Dec.{eqb}
 use Rattle.distinct.specs.Points.{keepPoints}
 use Rattle.distinct.proofs.Turns.{keep-start, keep-turn, keep-end, map-same}
 use Rattle.distinct.proofs.keep_all.Statement.{statement}
@@ -15,7 +16,7 @@ Inv-loop points xs₀ from at₀ i₀ xs at i =
     × ((at ≤ from)
     × ((from ≤ at + (length points - i))
     × ((length xs ≡ length xs₀)
-    × (drop at xs ≡ keepPoints (map (λ x. x) (drop i points)) (drop from xs₀)))))
+    × (drop at xs ≡ keepPoints eqb (map (λ x. x) (drop i points)) (drop from xs₀)))))
 
 abbrev μ-loop : tie.MeasureT-loop
 μ-loop points xs₀ from at₀ i₀ xs at i = i
@@ -23,7 +24,7 @@ abbrev μ-loop : tie.MeasureT-loop
 loop-holds : tie.Need-loop-holds Inv-loop μ-loop
 loop-holds c =
     let a = c .before .before .args in
-    (omega arith, (omega arith, (omega arith, (refl, keep-start (λ x. x) (a .points .now) (drop (a .from) (a .xs .now)) refl))))
+    (omega arith, (omega arith, (omega arith, (refl, keep-start eqb 0 (λ x. x) (a .points .now) (drop (a .from) (a .xs .now)) refl))))
 
 sub-i : tie.Need-sub-i Inv-loop μ-loop
 sub-i c = omega arith
@@ -53,7 +54,7 @@ loop-again c =
           omega arith,
           (
             k .kept .0 ∙ n .0,
-            keep-turn (λ x. x) (a .points .now) (drop (a .from) (a .xs .now)) (l .i) (omega arith) (l .inv .0) (n .1) refl (k .ensures .0),
+            keep-turn eqb 0 (λ x. x) (a .points .now) (drop (a .from) (a .xs .now)) (l .i) (omega arith) (l .inv .0) (n .1) refl (k .ensures .0),
           ),
         ),
       ),
@@ -67,8 +68,8 @@ returns c =
     let l = c .before .loop in
     let a = c .before .before .before .before .args in
     let kept = drop (a .from) (a .xs .now) in
-    let same = ap (λ (p : List ℕ). keepPoints p kept) (map-same (a .points .now)) in
-    (keep-end (λ x. x) (a .points .now) kept (l .i) (omega arith) (l .inv .1 .1 .1 .1) ∙ same, (omega arith, omega arith))
+    let same = ap (λ (p : List ℕ). keepPoints eqb p kept) (map-same (a .points .now)) in
+    (keep-end eqb 0 (λ x. x) (a .points .now) kept (l .i) (omega arith) (l .inv .1 .1 .1 .1) ∙ same, (omega arith, omega arith))
 
 pub keep-all-spec : {M : Type 1} → statement M
 keep-all-spec =

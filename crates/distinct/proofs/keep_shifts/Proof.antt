@@ -5,6 +5,7 @@ use native.Mathlib.Omega.{arith}
 use mathlib.Core.Path.{_≡_, _∙_, refl, ap}
 use mathlib.Core.List.{[], map}
 use lib.ListN.{length, drop, drop-of-length-le}
+use lib.Dec.{eqb}
 use Rattle.folds.specs.PointsIn.{shiftIn}
 use Rattle.distinct.specs.Points.{keepPoints}
 use Rattle.distinct.proofs.Turns.{keep-start, keep-turn, keep-end, shift-inside}
@@ -17,7 +18,7 @@ Inv-loop pw scale k shifts xs₀ at₀ i₀ xs at i =
     × ((at ≤ length xs₀)
     × ((length xs₀ ≤ at + (length shifts - i))
     × ((length xs ≡ length xs₀)
-    × (drop at xs ≡ keepPoints (map (shiftIn pw scale k) (drop i shifts)) []))))
+    × (drop at xs ≡ keepPoints eqb (map (shiftIn 0 pw scale k) (drop i shifts)) []))))
 
 abbrev μ-loop : tie.MeasureT-loop
 μ-loop pw scale k shifts xs₀ at₀ i₀ xs at i = i
@@ -25,8 +26,8 @@ abbrev μ-loop : tie.MeasureT-loop
 loop-holds : tie.Need-loop-holds Inv-loop μ-loop
 loop-holds c =
     let a = c .before .before .before .args in
-    let S = shiftIn (a .pw .now) (a .scale) (a .k) in
-    (omega arith, (omega arith, (omega arith, (refl, keep-start S (a .shifts .now) [] (drop-of-length-le (a .xs .now) (le-refl (length (a .xs .now))))))))
+    let S = shiftIn 0 (a .pw .now) (a .scale) (a .k) in
+    (omega arith, (omega arith, (omega arith, (refl, keep-start eqb 0 S (a .shifts .now) [] (drop-of-length-le (a .xs .now) (le-refl (length (a .xs .now))))))))
 
 sub-i : tie.Need-sub-i Inv-loop μ-loop
 sub-i c = omega arith
@@ -58,10 +59,10 @@ loop-again c =
     let k = c .before .before .keep in
     let l = c .before .before .before .before .before .before .before .before .loop in
     let a = c .before .before .before .before .before .before .before .before .before .before .before .before .args in
-    let S = shiftIn (a .pw .now) (a .scale) (a .k) in
+    let S = shiftIn 0 (a .pw .now) (a .scale) (a .k) in
     let n = l .inv .1 .1 .1 in
     let x = c .before .before .before .shift-point .ensures .0 ∙ ap S (c .before .before .before .before .wide .ensures) in
-    (omega arith, (omega arith, (omega arith, (k .kept .0 ∙ n .0, keep-turn S (a .shifts .now) [] (l .i) (omega arith) (l .inv .0) (n .1) x (k .ensures .0)))))
+    (omega arith, (omega arith, (omega arith, (k .kept .0 ∙ n .0, keep-turn eqb 0 S (a .shifts .now) [] (l .i) (omega arith) (l .inv .0) (n .1) x (k .ensures .0)))))
 
 same-length : tie.Need-same-length Inv-loop μ-loop
 same-length c = omega arith
@@ -70,7 +71,7 @@ returns : tie.Need-returns Inv-loop μ-loop
 returns c =
     let l = c .before .loop in
     let a = c .before .before .before .before .before .args in
-    (keep-end (shiftIn (a .pw .now) (a .scale) (a .k)) (a .shifts .now) [] (l .i) (omega arith) (l .inv .1 .1 .1 .1), (omega arith, omega arith))
+    (keep-end eqb 0 (shiftIn 0 (a .pw .now) (a .scale) (a .k)) (a .shifts .now) [] (l .i) (omega arith) (l .inv .1 .1 .1 .1), (omega arith, omega arith))
 
 pub keep-shifts-spec : {M : Type 1} → statement M
 keep-shifts-spec =

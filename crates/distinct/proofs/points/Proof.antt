@@ -2,6 +2,8 @@
 use native.Mathlib.Omega.{arith}
 use mathlib.Core.List.{[], map}
 use mathlib.Core.Path.{_∙_, sym, ap}
+use lib.Dec.{eqb}
+use borrow.Author.Tests.{eqb-true}
 use Rattle.folds.specs.PointsIn.{shiftIn}
 use Rattle.distinct.specs.Points.{keepPoints, keep-append, kept-different}
 use borrow.Author.Needs.{needs}
@@ -22,8 +24,8 @@ returns c =
     let a = c .before .before .before .before .before .before .before .before .before .before .before .before .args in
     let k = c .before .before .before .before .before .before .keep-shifts in
     let q = c .before .before .keep-all in
-    let whole = keep-append (a .outs .now) (map (shiftIn (a .pw .now) (a .scale) (a .k)) (a .shifts .now)) [] in
-    (q .ensures .0 ∙ ap (keepPoints (a .outs .now)) (k .ensures .0) ∙ sym whole ∙ kept-different _, (omega arith, omega arith))
+    let whole = keep-append eqb (a .outs .now) (map (shiftIn 0 (a .pw .now) (a .scale) (a .k)) (a .shifts .now)) [] in
+    (q .ensures .0 ∙ ap (keepPoints eqb (a .outs .now)) (k .ensures .0) ∙ sym whole ∙ kept-different eqb eqb-true _, (omega arith, omega arith))
 
 pub points-spec : {M : Type 1} → statement M
 points-spec = tie.close (tie.spec keep-shifts-requires keep-all-requires same-length returns)

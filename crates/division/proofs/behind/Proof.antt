@@ -1,9 +1,9 @@
 -- `division::behind` meets its contract. Assumes nothing.
-use Prim.Native.Nat.{ℕ, suc, _+_, _-_, _≤_, _<_}
+use Prim.Native.Nat.{ℕ, _-_}
 use native.Mathlib.Omega.{arith}
-use mathlib.Core.Path.{_≡_, refl, sym, ap, _∙_, subst}
-use mathlib.Core.List.{List, [], _∷_}
-use lib.ListN.{length, take, drop, getD}
+use mathlib.Core.Path.{ap, _∙_}
+use mathlib.Core.List.{List}
+use lib.ListN.{length, drop}
 use Rattle.sums.specs.Sums.{products}
 use Rattle.definition.specs.Field.{fieldOf}
 use lib.ListN.{length-drop}
@@ -44,7 +44,7 @@ sum-requires-2 c κs =
 returns-2 : tie.Need-returns-2
 returns-2 c =
     let a = c .before .before .before .before .before .args in
-    behind-is (a .field) (drop (a .i) (a .f .now)) (a .w .now) _ (a .count - a .i) (omega (arith, c .before .before .if1 .left)) (c .before .part2 .ensures) (c .sum2 .ensures)
+    behind-is (fieldOf (a .field)) (drop (a .i) (a .f .now)) (a .w .now) _ (a .count - a .i) (omega (arith, c .before .before .if1 .left)) (c .before .part2 .ensures) (c .sum2 .ensures)
 
 pub behind-spec : {M : Type 1} → statement M
 behind-spec =

@@ -1,15 +1,15 @@
 -- `division::by_sums` meets its contract. Assumes nothing.
-use Prim.Native.Nat.{ℕ, suc, _+_, _-_, _≤_, _<_}
+use Prim.Native.Nat.{_-_, _≤_}
 use native.Mathlib.Omega.{arith}
-use mathlib.Core.Path.{_≡_, refl, sym, ap, _∙_, subst}
-use mathlib.Core.List.{List, [], _∷_}
-use lib.ListN.{length, take, drop, getD}
+use lib.ListN.{length}
+use Rattle.definition.specs.Field.{primeField, fieldOf}
+use Rattle.algebra.specs.PrimeField.{laws}
 use Rattle.division.proofs.Dividing.{Summing, summing-first, summing-last, summing-next}
 use Rattle.division.proofs.by_sums.Statement.{statement}
 use Rattle.division.proofs.by_sums.Tie as tie
 
 abbrev Inv-loop : tie.InvT-loop
-Inv-loop field w f₀ count i₀ f i = ((i ≤ count) × (length w ≤ i)) × Summing field w f₀ count f i
+Inv-loop field w f₀ count i₀ f i = ((i ≤ count) × (length w ≤ i)) × Summing (fieldOf field) (laws field) w f₀ count f i
 
 abbrev μ-loop : tie.MeasureT-loop
 μ-loop field w f₀ count i₀ f i = i
@@ -17,7 +17,7 @@ abbrev μ-loop : tie.MeasureT-loop
 loop-holds : tie.Need-loop-holds Inv-loop μ-loop
 loop-holds c =
     let a = c .before .before .args in
-    (omega arith, summing-first (a .field) (a .w .now) (a .f .now) (a .count) (omega arith))
+    (omega arith, summing-first (fieldOf (a .field)) (laws (a .field)) (a .w .now) (a .f .now) (a .count) (omega arith))
 
 behind-requires : tie.Need-behind-requires Inv-loop μ-loop
 behind-requires c κs = omega arith
@@ -44,10 +44,11 @@ loop-less : tie.Need-loop-less Inv-loop μ-loop
 loop-less c = omega arith
 
 loop-again : tie.Need-loop-again Inv-loop μ-loop
+unfolding fieldOf primeField
 loop-again c =
     let l = c .before .before .before .before .before .loop in
     let a = c .before .before .before .before .before .before .before .before .args in
-    (omega arith, summing-next (a .field) (a .w .now) (a .f .now) (a .count) (l .f) (l .i) (omega arith) (omega arith) (omega arith) (l .inv .1) (c .before .before .behind .ensures) (c .sub .ensures))
+    (omega arith, summing-next (fieldOf (a .field)) (laws (a .field)) (a .w .now) (a .f .now) (a .count) (l .f) (l .i) (omega arith) (omega arith) (omega arith) (l .inv .1) (c .before .before .behind .ensures) (c .sub .ensures))
 
 same-length : tie.Need-same-length Inv-loop μ-loop
 same-length c = omega arith
@@ -56,7 +57,7 @@ returns : tie.Need-returns Inv-loop μ-loop
 returns c =
     let l = c .before .loop in
     let a = c .before .before .before .before .args in
-    summing-last (a .field) (a .w .now) (a .f .now) (a .count) (l .f) (l .i) (omega arith) (l .inv .1)
+    summing-last (fieldOf (a .field)) (laws (a .field)) (a .w .now) (a .f .now) (a .count) (l .f) (l .i) (omega arith) (l .inv .1)
 
 pub by-sums-spec : {M : Type 1} → statement M
 by-sums-spec =

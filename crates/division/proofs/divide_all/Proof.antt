@@ -1,10 +1,10 @@
 -- `division::divide_all` meets its contract. Assumes nothing.
-use Prim.Native.Nat.{ℕ, suc, _+_, _-_, _≤_, _<_}
+use Prim.Native.Nat.{_-_}
 use native.Mathlib.Omega.{arith}
-use mathlib.Core.Path.{_≡_, refl, sym, ap, _∙_, subst}
-use mathlib.Core.List.{List, [], _∷_}
-use lib.ListN.{length, take, drop, getD}
+use lib.ListN.{length, drop}
 use lib.ListN.{length-drop}
+use Rattle.definition.specs.Field.{fieldOf}
+use Rattle.algebra.specs.PrimeField.{laws}
 use Rattle.division.proofs.Dividing.{divided, divides-is, part-short}
 use borrow.Author.Needs.{needs}
 use Rattle.division.proofs.divide_all.Statement.{statement}
@@ -53,9 +53,9 @@ returns c =
     let f = c .before .before .before .before .before .before .before .before .before .before .before .factors in
     let room = c .before .before .before .before .before .before .before .before .before .before .before .before .before .places in
     let size = length-drop (a .from) (a .xs .now) in
-    let v = divides-is (a .field) (drop (a .from) (a .xs .now)) (f .last .1 .1 .1 .0) _ (length (a .xs .now) - a .from) (omega (arith, size, s .pre .1 .0)) size
+    let v = divides-is (fieldOf (a .field)) (laws (a .field)) (drop (a .from) (a .xs .now)) (f .last .1 .1 .1 .0) _ (length (a .xs .now) - a .from) (omega (arith, size, s .pre .1 .0)) size
     (omega (arith, f .kept .1 .1 .1 .0, room .ensures, s .pre .1 .1)) (p .ensures) (f .ensures) in
-    divided (a .field) (a .xs .now) (a .f .now) (b .last .1 .1 .0) (m .last .0) _ (a .from) (a .count) v (b .ensures) (m .ensures)
+    divided (fieldOf (a .field)) (laws (a .field)) (a .xs .now) (a .f .now) (b .last .1 .1 .0) (m .last .0) _ (a .from) (a .count) v (b .ensures) (m .ensures)
 
 pub divide-all-spec : {M : Type 1} → statement M
 divide-all-spec =

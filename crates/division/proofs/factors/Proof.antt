@@ -1,9 +1,9 @@
 -- `division::factors` meets its contract. Assumes nothing.
-use Prim.Native.Nat.{ℕ, suc, _+_, _-_, _≤_, _<_}
+use Prim.Native.Nat.{_-_}
 use native.Mathlib.Omega.{arith}
-use mathlib.Core.Path.{_≡_, refl, sym, ap, _∙_, subst}
-use mathlib.Core.List.{List, [], _∷_}
-use lib.ListN.{length, take, drop, getD}
+use lib.ListN.{length}
+use Rattle.definition.specs.Field.{primeField, fieldOf}
+use Rattle.algebra.specs.PrimeField.{laws}
 use Rattle.division.proofs.Dividing.{dividing-none}
 use borrow.Author.Needs.{needs}
 use Rattle.division.proofs.factors.Statement.{statement}
@@ -13,11 +13,12 @@ powers-requires : tie.Need-powers-requires
 powers-requires c κs = search needs
 
 raise-each-requires : tie.Need-raise-each-requires
+unfolding fieldOf primeField
 raise-each-requires c κs =
     let s = c .before .before .before .before .before .before .before in
     let a = s .args in
     let p = c .before .before .before .powers in
-    ((s .pre .0, omega (arith, p .kept .1 .1 .0, s .pre .1)), dividing-none (a .field) (p .last .1 .1 .0) (length (a .w .now) - 1) (p .ensures))
+    ((s .pre .0, omega (arith, p .kept .1 .1 .0, s .pre .1)), dividing-none (fieldOf (a .field)) (laws (a .field)) (p .last .1 .1 .0) (length (a .w .now) - 1) (p .ensures))
 
 same-length : tie.Need-same-length
 same-length c = search needs

@@ -1,10 +1,9 @@
 -- `division::move_down` meets its contract. Assumes nothing.
-use Prim.Native.Nat.{ℕ, suc, _+_, _-_, _≤_, _<_}
+use Prim.Native.Nat.{ℕ, _+_, _-_, _≤_}
 use native.Mathlib.Omega.{arith}
-use mathlib.Core.Path.{_≡_, refl, sym, ap, _∙_, subst}
-use mathlib.Core.List.{List, [], _∷_}
-use lib.ListN.{length, take, drop, getD}
-use Rattle.domain.specs.Filled.{Filled, filled-first, filled-next}
+use mathlib.Core.Path.{_≡_, subst}
+use lib.ListN.{getD}
+use Rattle.list_laws.specs.Filled.{Filled, filled-first, filled-next}
 use Rattle.division.proofs.Dividing.{moved}
 use Rattle.division.proofs.move_down.Statement.{statement}
 use Rattle.division.proofs.move_down.Tie as tie
@@ -55,7 +54,7 @@ returns c =
     let l = c .before .loop in
     let a = c .before .before .args in
     let all : l .i ≡ a .n = omega arith in
-    moved (a .f .now) (l .f) (a .e) (a .n) (omega arith) (subst (λ (n : ℕ). Filled (λ m. getD (a .f .now) (a .e + m) 0) (a .f .now) (l .f) n) all (l .inv .1))
+    moved 0 (a .f .now) (l .f) (a .e) (a .n) (omega arith) (subst (λ (n : ℕ). Filled (λ m. getD (a .f .now) (a .e + m) 0) (a .f .now) (l .f) n) all (l .inv .1))
 
 pub move-down-spec : {M : Type 1} → statement M
 move-down-spec =

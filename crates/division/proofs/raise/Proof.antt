@@ -1,24 +1,24 @@
 -- `division::raise` meets its contract. Assumes nothing.
-use Prim.Native.Nat.{ℕ, suc, _+_, _-_, _≤_, _<_}
+use Prim.Native.Nat.{ℕ, _-_, _≤_}
 use native.Mathlib.Omega.{arith}
-use mathlib.Core.Path.{_≡_, refl, sym, ap, _∙_, subst}
-use mathlib.Core.List.{List, [], _∷_}
-use lib.ListN.{length, take, drop, getD}
-use Rattle.domain.specs.Filled.{Filled, filled-first}
+use mathlib.Core.Path.{_≡_, refl, subst}
+use Rattle.definition.specs.Field.{primeField, fieldOf}
+use Rattle.list_laws.specs.Filled.{Filled, filled-first}
 use Rattle.division.proofs.Dividing.{Raised, raisedAt, raise-turn}
 use Rattle.division.proofs.raise.Statement.{statement}
 use Rattle.division.proofs.raise.Tie as tie
 
 abbrev Inv-loop : tie.InvT-loop
-Inv-loop field d count w₀ below₀ i₀ w below i = (i ≤ count) × Raised field d w₀ w below i
+Inv-loop field d count w₀ below₀ i₀ w below i = (i ≤ count) × Raised (fieldOf field) d w₀ w below i
 
 abbrev μ-loop : tie.MeasureT-loop
 μ-loop field d count w₀ below₀ i₀ w below i = count - i
 
 loop-holds : tie.Need-loop-holds Inv-loop μ-loop
+unfolding fieldOf primeField
 loop-holds c =
     let a = c .before .args in
-    (omega arith, (filled-first (raisedAt (a .field) (a .d) (a .w .now)) (a .w .now), refl))
+    (omega arith, (filled-first (raisedAt (fieldOf (a .field)) (a .d) (a .w .now)) (a .w .now), refl))
 
 mul-c : tie.Need-mul-c Inv-loop μ-loop
 mul-c c = omega arith
@@ -42,20 +42,22 @@ loop-less : tie.Need-loop-less Inv-loop μ-loop
 loop-less c = omega arith
 
 loop-again : tie.Need-loop-again Inv-loop μ-loop
+unfolding fieldOf primeField
 loop-again c =
     let l = c .before .before .before .loop in
     let a = c .before .before .before .before .before .args in
-    (omega arith, raise-turn (a .field) (a .d) (a .w .now) (l .w) (l .below) (l .i) (omega arith) (l .inv .1) (c .add-product .ensures))
+    (omega arith, raise-turn (fieldOf (a .field)) (a .d) (a .w .now) (l .w) (l .below) (l .i) (omega arith) (l .inv .1) (c .add-product .ensures))
 
 same-length : tie.Need-same-length Inv-loop μ-loop
 same-length c = omega arith
 
 returns : tie.Need-returns Inv-loop μ-loop
+unfolding fieldOf primeField
 returns c =
     let l = c .before .loop in
     let a = c .before .before .before .args in
     let all : l .i ≡ a .count = omega arith in
-    subst (λ (n : ℕ). Filled (raisedAt (a .field) (a .d) (a .w .now)) (a .w .now) (l .w) n) all (l .inv .1 .0)
+    subst (λ (n : ℕ). Filled (raisedAt (fieldOf (a .field)) (a .d) (a .w .now)) (a .w .now) (l .w) n) all (l .inv .1 .0)
 
 pub raise-spec : {M : Type 1} → statement M
 raise-spec =

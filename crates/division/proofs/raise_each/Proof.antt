@@ -1,17 +1,19 @@
 -- `division::raise_each` meets its contract. Assumes nothing.
-use Prim.Native.Nat.{ℕ, suc, _+_, _-_, _≤_, _<_}
+use Prim.Native.Nat.{ℕ, _-_, _≤_}
 use native.Mathlib.Omega.{arith}
-use mathlib.Core.Path.{_≡_, refl, sym, ap, _∙_, subst}
-use mathlib.Core.List.{List, [], _∷_}
-use lib.ListN.{length, take, drop, getD}
+use mathlib.Core.Path.{_≡_, refl, sym, _∙_, subst}
+use mathlib.Core.List.{List}
+use lib.ListN.{length, drop}
 use lib.Seq.{drop-length}
+use Rattle.definition.specs.Field.{primeField, fieldOf}
+use Rattle.algebra.specs.PrimeField.{laws}
 use Rattle.division.specs.LongDivision.{Dividing}
 use Rattle.division.proofs.Dividing.{dividing-more}
 use Rattle.division.proofs.raise_each.Statement.{statement}
 use Rattle.division.proofs.raise_each.Tie as tie
 
 abbrev Inv-loop : tie.InvT-loop
-Inv-loop field xs from w₀ i₀ w i = ((i ≤ length xs) × (from ≤ i)) × ((length w ≡ length w₀) × Dividing field (drop i xs) w)
+Inv-loop field xs from w₀ i₀ w i = ((i ≤ length xs) × (from ≤ i)) × ((length w ≡ length w₀) × Dividing (fieldOf field) (laws field) (drop i xs) w)
 
 abbrev μ-loop : tie.MeasureT-loop
 μ-loop field xs from w₀ i₀ w i = i
@@ -20,7 +22,7 @@ loop-holds : tie.Need-loop-holds Inv-loop μ-loop
 loop-holds c =
     let s = c .before .before in
     let a = s .args in
-    (omega arith, (refl, subst (λ (l : List ℕ). Dividing (a .field) l (a .w .now)) (sym (drop-length (a .xs .now))) (s .pre .1)))
+    (omega arith, (refl, subst (λ (l : List ℕ). Dividing (fieldOf (a .field)) (laws (a .field)) l (a .w .now)) (sym (drop-length (a .xs .now))) (s .pre .1)))
 
 sub-i : tie.Need-sub-i Inv-loop μ-loop
 sub-i c = omega arith
@@ -47,6 +49,7 @@ loop-less : tie.Need-loop-less Inv-loop μ-loop
 loop-less c = omega arith
 
 loop-again : tie.Need-loop-again Inv-loop μ-loop
+unfolding fieldOf primeField
 loop-again c =
     let l = c .before .before .before .before .before .before .before .loop in
     let a = c .before .before .before .before .before .before .before .before .before .before .args in
@@ -55,7 +58,7 @@ loop-again c =
       omega arith,
       (
         p .kept .1 .1 .1 .0 ∙ n .1 .0,
-        dividing-more (a .field) _ (a .xs .now) (l .w) (p .last .1 .1 .1 .0) (l .i) (omega arith) (omega arith) (omega arith) (n .1 .1) (p .ensures) (c .before .before .before .before .sub .ensures),
+        dividing-more (fieldOf (a .field)) (laws (a .field)) _ (a .xs .now) (l .w) (p .last .1 .1 .1 .0) (l .i) (omega arith) (omega arith) (omega arith) (n .1 .1) (p .ensures) (c .before .before .before .before .sub .ensures),
       ),
     )
 
@@ -67,7 +70,7 @@ returns c =
     let l = c .before .loop in
     let a = c .before .before .before .before .args in
     let all : l .i ≡ a .from = omega arith in
-    subst (λ (n : ℕ). Dividing (a .field) (drop n (a .xs .now)) (l .w)) all (l .inv .1 .1)
+    subst (λ (n : ℕ). Dividing (fieldOf (a .field)) (laws (a .field)) (drop n (a .xs .now)) (l .w)) all (l .inv .1 .1)
 
 pub raise-each-spec : {M : Type 1} → statement M
 raise-each-spec =

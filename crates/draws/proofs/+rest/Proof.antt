@@ -5,9 +5,9 @@ use mathlib.Core.Path.{refl, sym, _∙_}
 use lib.ListN.{length, getD}
 use lib.Seq.{length-take-le}
 use borrow.Author.Needs.{needs}
-use Rattle.domain.specs.Parts.{begun-long, filled-long, joined, others-long}
+use Rattle.list_laws.specs.LentParts.{begun-long, filled-long, joined, others-long}
 use Rattle.draws.specs.AtLevel.{bounded, next-level, shifts-are}
-use Rattle.draws.proofs.Joins.{Onward, coins-last, coins-more, not-last, onward}
+use Rattle.draws.proofs.Joins.{ToNextLevel, coins-last, coins-more, not-last, to-next-level}
 use borrow.Fn.Kinds.{In}
 use borrow.Fn.PlainCycle.{Measures, is, falls, and}
 use Rattle.draws.proofs.rest.Reads as rest
@@ -47,11 +47,11 @@ calls t = (
 -- there is a round, and its coins are counted
 ahead : (t : ℕ) (c : rest-lts.After-round-coins (calls t) (rest-at t) rest.Post) →
     let a = c .before .before .before .before .before .before .args in
-    Onward (a .w .now) (a .level) (length (a .out .now)) (c .round-coins .result)
+    ToNextLevel (a .w .now) (a .level) (length (a .out .now)) (c .round-coins .result)
 ahead t c =
     let s = c .before .before .before .before .before .before in
     let a = s .args in
-    onward (s .pre .1 .0) (not-last (a .level) (getD (a .w .now) 4 0) (s .pre .1 .0 .level) (c .before .if1 .left)) (s .pre .1 .1) (c .round-coins .ensures)
+    to-next-level (s .pre .1 .0) (not-last (a .level) (getD (a .w .now) 4 0) (s .pre .1 .0 .level) (c .before .if1 .left)) (s .pre .1 .1) (c .round-coins .ensures)
 
 rest-shared-slice-read-if1 : (t : ℕ) → rest-lts.Need-shared-slice-read-if1 (calls t) (rest-at t) rest.Post
 rest-shared-slice-read-if1 t c = omega (arith, c .before .before .before .before .pre .1 .0 .long)

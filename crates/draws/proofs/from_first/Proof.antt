@@ -6,7 +6,7 @@ use lib.ListN.{length, getD}
 use lib.Seq.{length-take-le}
 use Rattle.algebra.specs.PrimeField.{suited}
 use Rattle.definition.specs.Sheet.{edition1, sheetOf}
-use Rattle.domain.specs.Parts.{begun-long, joined, others-long}
+use Rattle.list_laws.specs.LentParts.{begun-long, joined, others-long}
 use Rattle.draws.proofs.Joins.{all-counted, coins-all, one-element}
 use borrow.Author.Needs.{needs}
 use Rattle.draws.proofs.from_first.Statement.{statement}

@@ -3,7 +3,7 @@ use native.Mathlib.Omega.{arith}
 use mathlib.Core.Path.{refl, sym}
 use lib.Seq.{length-take-le}
 use Rattle.algebra.specs.PrimeField.{suited}
-use Rattle.domain.specs.Parts.{joined, others-long}
+use Rattle.list_laws.specs.LentParts.{joined, others-long}
 use Rattle.draws.proofs.Joins.{later-coins}
 use borrow.Author.Needs.{needs}
 use Rattle.draws.proofs.later_coins.Statement.{statement}

@@ -11,10 +11,10 @@ use borrow.Author.Needs.{needs}
 use Rattle.definition.specs.Layout.{out as outOf}
 use Rattle.definition.specs.Load.{Drawn, drawKind, drawKinds}
 use Rattle.definition.specs.Sheet.{edition1, sheetOf}
-use Rattle.completeness.specs.Numbered.{levelOf}
+use Rattle.layouts.specs.Levels.{levelOf}
 use Rattle.draws.specs.AtLevel.{bounded, suits}
-use Rattle.draws.specs.Kinds.{after-more, drawn-more, outAfter}
-use Rattle.draws.specs.OutCoin.{Stands}
+use Rattle.draws.proofs.KindsDrawn.{after-more, drawn-more, outAfter}
+use Rattle.draws.specs.OutCoin.{StandsFor}
 use Rattle.draws.proofs.Joins.{Is}
 use Rattle.draws.proofs.out_coins.Statement.{statement}
 use Rattle.draws.proofs.out_coins.Tie as tie
@@ -23,7 +23,7 @@ abbrev Inv-loop : tie.InvT-loop
 Inv-loop w pw level scale out₀ field before₀ current₀ i₀ out before current i =
     let h = sheetOf edition1 w in
     let ks = replicate i (outOf (levelOf h level)) in
-    (i ≤ length out₀) × ((length out ≡ length out₀) × (Is (take i out) (current .v) (drawKinds h none ks (current₀ .v)) × Stands h (outAfter none ks (take i out)) before))
+    (i ≤ length out₀) × ((length out ≡ length out₀) × (Is (take i out) (current .v) (drawKinds h none ks (current₀ .v)) × StandsFor h (outAfter none ks (take i out)) before))
 
 abbrev μ-loop : tie.MeasureT-loop
 μ-loop w pw level scale out₀ field before₀ current₀ i₀ out before current i = length out₀ - i
@@ -68,7 +68,7 @@ loop-again c =
         length-set (l .out) (l .i) (d .result .value) ∙ l .inv .1 .0,
         (
           drawn-more h (outOf b) (l .i) (a .generator .v) (l .out) (omega arith) (l .inv .1 .1 .0) refl (d .ensures h before b (suits (s .pre .0) (s .pre .1) before (l .inv .1 .1 .1))),
-          subst (λ (o : Option ℕ). Stands h o (d .result .value)) (sym (after-more h b (l .i) (d .result .value) (l .out) (omega arith) (length-take-le (l .i) (l .out) (omega arith)))) refl,
+          subst (λ (o : Option ℕ). StandsFor h o (d .result .value)) (sym (after-more h b (l .i) (d .result .value) (l .out) (omega arith) (length-take-le (l .i) (l .out) (omega arith)))) refl,
         ),
       ),
     )

@@ -5,7 +5,7 @@ use mathlib.Core.Path.{refl, sym, _∙_}
 use lib.ListN.{length, getD}
 use lib.Seq.{length-take-le}
 use Rattle.definition.specs.Sheet.{edition1, sheetOf}
-use Rattle.domain.specs.Parts.{joined, others-long}
+use Rattle.list_laws.specs.LentParts.{joined, others-long}
 use Rattle.draws.specs.AtLevel.{bounded, next-level, shifts-are}
 use Rattle.draws.proofs.Joins.{round-coins}
 use borrow.Author.Needs.{needs}

@@ -3,16 +3,13 @@ use Prim.Native.Nat.{ℕ, _/_, _≤_, _-_}
 use native.Mathlib.Omega.{arith}
 use mathlib.Core.Path.{_≡_, ap, _∙_}
 use lib.ListN.{getD, take}
-use Rattle.completeness.specs.SheetRules.{long-enough}
+use Rattle.layouts.specs.SheetRules.{long-enough}
 use Rattle.definition.specs.Lists.{productOf}
 use Rattle.definition.specs.Sheet.{foldWords}
 use Rattle.edition.specs.Meaning.{editionOf}
 use Rattle.edition.specs.Places.{degree-next, degree-none}
 use Rattle.edition.proofs.degree.Statement.{statement}
 use Rattle.edition.proofs.degree.Tie as tie
-use Rattle.edition.proofs.degree.Reads as reads
-use Rattle.edition.proofs.degree.Lts as lts
-use Rattle.edition.proofs.fold.Reads as fold-reads
 
 abbrev Inv-loop : tie.InvT-loop
 Inv-loop e w i d₀ j₀ d j = (j ≤ i) × (d ≡ getD w 2 0 / productOf (take j (foldWords (editionOf e) w)))

@@ -1,5 +1,5 @@
 -- `field::modulus` meets its contract, by the three cases of the field's number. Assumes nothing.
-use mathlib.Core.Path.{_≡_, ap, sym}
+use mathlib.Core.Path.{ap, sym}
 use Rattle.definition.specs.Field.{primeOf}
 use Rattle.field.proofs.ByNumber.{last-prime}
 use Rattle.field.proofs.modulus.Statement.{statement}

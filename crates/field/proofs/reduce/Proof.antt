@@ -1,5 +1,5 @@
 -- `field::reduce` meets its contract, by the three cases of the field's number. Assumes nothing.
-use mathlib.Core.Path.{_≡_, ap, sym}
+use mathlib.Core.Path.{ap, sym}
 use Prim.Native.Nat.{ℕ, _%_}
 use borrow.Author.Needs.{needs}
 use Rattle.definition.specs.Field.{primeOf}

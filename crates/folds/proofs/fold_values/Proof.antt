@@ -6,11 +6,12 @@ use native.Mathlib.Omega.{arith}
 use lib.ListN.{length, getD}
 use lib.Pow.{pow-pos}
 use borrow.Author.Needs.{needs}
-use Rattle.definition.specs.Field.{fieldOf}
+use Rattle.definition.specs.Field.{fieldOf, primeField}
+use Rattle.algebra.specs.PrimeField.{laws, opposite-signs}
 use Rattle.folds.specs.Halving.{halving, exponentOf}
-use Rattle.folds.specs.PointsIn.{backIn}
+use Rattle.folds.specs.PointsIn.{inversePowerIn}
 use Rattle.field.specs.Answer.{inversionOf}
-use Rattle.polynomial.specs.Inverses.{never-none}
+use Rattle.algebra.specs.Divisors.{never-none}
 use Rattle.folds.specs.OneHalf.{halfOf, half-is, two-nonzero}
 use Rattle.folds.proofs.Turns.{Left, left-next, left-last}
 use Rattle.folds.proofs.fold_values.Statement.{statement}
@@ -23,7 +24,7 @@ Inv-loop field pw e d r values₀ half count₀ first₀ step₀ coin₀ values 
     × ((length values ≡ length values₀)
     × ((first * count ≤ 65536)
     × ((step * count ≤ 65536)
-    × Left (fieldOf field) (halfOf field) (backIn pw) (halving (fieldOf field) (halfOf field) (backIn pw) (exponentOf (length values₀)) e d r (λ m. getD values₀ m 0)) count first step coin values))))
+    × Left (fieldOf field) (halfOf (fieldOf field)) (inversePowerIn 0 pw) (halving (fieldOf field) (halfOf (fieldOf field)) (inversePowerIn 0 pw) (exponentOf (length values₀)) e d r (λ m. getD values₀ m 0)) count first step coin values))))
 
 abbrev μ-loop : tie.MeasureT-loop
 μ-loop field pw e d r values₀ half count₀ first₀ step₀ coin₀ values count first step coin = count
@@ -40,9 +41,10 @@ enum-told c = search needs
 returns : tie.Need-returns Inv-loop μ-loop
 returns c =
     let field = c .before .before .before .before .before .args .field in
-    absurd (never-none field 2 (two-nonzero field) (ap inversionOf (sym (c .enum-told .given .1)) ∙ c .before .before .invert-two .ensures))
+    absurd (never-none (fieldOf field) (laws field) _ (two-nonzero (fieldOf field) (laws field) (opposite-signs field)) (sym (ap inversionOf (sym (c .enum-told .given .1)) ∙ c .before .before .invert-two .ensures)))
 
 loop-holds : tie.Need-loop-holds Inv-loop μ-loop
+unfolding fieldOf primeField
 loop-holds c =
     let s = c .before .before .before .before .before .before in
     let n = length (s .args .values .now) in (
@@ -87,6 +89,7 @@ loop-less : tie.Need-loop-less Inv-loop μ-loop
 loop-less c = omega arith
 
 loop-again : tie.Need-loop-again Inv-loop μ-loop
+unfolding fieldOf primeField
 loop-again c =
     let t = c .before .before .before .turn in
     let l = c .before .before .before .before .before .before .loop in
@@ -106,7 +109,7 @@ loop-again c =
             omega (arith, mul-le-mul-left (l .first) halves, n .1 .1 .1 .0),
             (
               omega (arith, mul-le-mul-left (l .step) halves, n .1 .1 .1 .1 .0),
-              left-next F (halfOf (a .field)) (backIn (a .pw .now)) _ many (n .1 .1 .1 .1 .1) (half-is (a .field) (ap inversionOf (sym (u .before .two .given .1)) ∙ u .before .before .before .invert-two .ensures)) (t .ensures) (c .mul .ensures),
+              left-next F (halfOf (fieldOf (a .field))) (inversePowerIn 0 (a .pw .now)) _ many (n .1 .1 .1 .1 .1) (half-is F (laws (a .field)) (opposite-signs (a .field)) (ap inversionOf (sym (u .before .two .given .1)) ∙ u .before .before .before .invert-two .ensures)) (t .ensures) (c .mul .ensures),
             ),
           ),
         ),
@@ -120,10 +123,11 @@ same-length : tie.Need-same-length Inv-loop μ-loop
 same-length c = omega arith
 
 returns-2 : tie.Need-returns-2 Inv-loop μ-loop
+unfolding fieldOf primeField
 returns-2 c =
     let l = c .before .before .loop in
     let a = c .before .before .before .before .before .before .before .before .before .args in
-    left-last (fieldOf (a .field)) (halfOf (a .field)) (backIn (a .pw .now)) _ (omega arith) (l .inv .1 .1 .1 .1 .1)
+    left-last (fieldOf (a .field)) (halfOf (fieldOf (a .field))) (inversePowerIn 0 (a .pw .now)) _ (omega arith) (l .inv .1 .1 .1 .1 .1)
 
 pub fold-values-spec : {M : Type 1} → statement M
 fold-values-spec =

@@ -5,6 +5,8 @@ use native.Mathlib.Nat.{mod-lt, mul-le-mul-left}
 use native.Mathlib.Omega.{arith}
 use lib.ListN.{length}
 use borrow.Author.Needs.{needs}
+use Rattle.definition.specs.Field.{fieldOf, primeField}
+use Rattle.algebra.specs.PrimeField.{laws}
 use Rattle.folds.specs.PointsIn.{shiftIn, shift-power}
 use Rattle.folds.proofs.shift_point.Statement.{statement}
 use Rattle.folds.proofs.shift_point.Tie as tie
@@ -41,10 +43,10 @@ shared-slice-read-result c =
     mod-lt (a .k - 1 + a .k * (a .scale * a .j)) {m = length (a .pw .now)} (omega arith)
 
 returns : tie.Need-returns
-unfolding shiftIn
+unfolding shiftIn fieldOf primeField
 returns c =
     let a = c .before .args in
-    (refl, shift-power (a .pw .now) (a .scale) (a .k) (a .j) (omega arith) (omega arith))
+    (refl, λ field ω w. shift-power (fieldOf field) (laws field) w (a .scale) (a .k) (a .j) (omega arith) (omega arith))
 
 pub shift-point-spec : {M : Type 1} → statement M
 shift-point-spec =

@@ -3,15 +3,15 @@ use Prim.Native.Nat.{_+_, _-_, _*_, _≤_}
 use native.Mathlib.Nat.{mul-le-mul-right}
 use native.Mathlib.Omega.{arith}
 use lib.ListN.{length}
-use Rattle.definition.specs.Field.{fieldOf}
-use Rattle.folds.specs.PointsIn.{backIn}
-use Rattle.domain.specs.Filled.{Filled, filled-first}
+use Rattle.definition.specs.Field.{fieldOf, primeField}
+use Rattle.folds.specs.PointsIn.{inversePowerIn}
+use Rattle.list_laws.specs.Filled.{Filled, filled-first}
 use Rattle.folds.proofs.Turns.{pairs, turned-pair}
 use Rattle.folds.proofs.turn.Statement.{statement}
 use Rattle.folds.proofs.turn.Tie as tie
 
 abbrev Inv-loop : tie.InvT-loop
-Inv-loop field pw half e d r h values₀ m₀ values m = (m ≤ h) × Filled (pairs (fieldOf field) half r (λ i. backIn pw (e + i * d)) h values₀) values₀ values m
+Inv-loop field pw half e d r h values₀ m₀ values m = (m ≤ h) × Filled (pairs (fieldOf field) half r (λ i. inversePowerIn 0 pw (e + i * d)) h values₀) values₀ values m
 
 abbrev μ-loop : tie.MeasureT-loop
 μ-loop field pw half e d r h values₀ m₀ values m = h - m
@@ -19,21 +19,21 @@ abbrev μ-loop : tie.MeasureT-loop
 loop-holds : tie.Need-loop-holds Inv-loop μ-loop
 loop-holds c =
     let a = c .before .before .args in
-    (omega arith, filled-first (pairs (fieldOf (a .field)) (a .half) (a .r) (λ i. backIn (a .pw .now) (a .e + i * a .d)) (a .h) (a .values .now)) (a .values .now))
+    (omega arith, filled-first (pairs (fieldOf (a .field)) (a .half) (a .r) (λ i. inversePowerIn 0 (a .pw .now) (a .e + i * a .d)) (a .h) (a .values .now)) (a .values .now))
 
-mul-back : tie.Need-mul-back Inv-loop μ-loop
+mul-back : tie.Need-mul-inverse-power Inv-loop μ-loop
 mul-back c =
     let a = c .before .before .before .before .args in
     let few : c .before .loop .m ≤ 16 = omega arith in
     omega (arith, mul-le-mul-right (a .d) few)
 
-add-back : tie.Need-add-back Inv-loop μ-loop
+add-back : tie.Need-add-inverse-power Inv-loop μ-loop
 add-back c =
     let a = c .before .before .before .before .args in
     let few : c .before .loop .m ≤ 16 = omega arith in
     omega (arith, mul-le-mul-right (a .d) few)
 
-back-requires : tie.Need-back-requires Inv-loop μ-loop
+back-requires : tie.Need-inverse-power-requires Inv-loop μ-loop
 back-requires c κs = omega arith
 
 mul-join : tie.Need-mul-join Inv-loop μ-loop
@@ -67,18 +67,20 @@ loop-less : tie.Need-loop-less Inv-loop μ-loop
 loop-less c = omega arith
 
 loop-again : tie.Need-loop-again Inv-loop μ-loop
+unfolding fieldOf primeField
 loop-again c =
     let l = c .before .before .before .before .before .loop in
     let a = c .before .before .before .before .before .before .before .before .args in
     let room : a .h ≤ length (a .values .now) = omega arith in (
       omega arith,
-      turned-pair (fieldOf (a .field)) (a .half) (a .r) (λ i. backIn (a .pw .now) (a .e + i * a .d)) (a .h) (a .values .now) (l .m) (l .values) (omega arith) room (l .inv .1) (c .before .before .before .back .ensures) (c .join .ensures),
+      turned-pair (fieldOf (a .field)) (a .half) (a .r) (λ i. inversePowerIn 0 (a .pw .now) (a .e + i * a .d)) (a .h) (a .values .now) (l .m) (l .values) (omega arith) room (l .inv .1) (c .before .before .before .inverse-power .ensures) (c .join .ensures),
     )
 
 same-length : tie.Need-same-length Inv-loop μ-loop
 same-length c = omega arith
 
 returns : tie.Need-returns Inv-loop μ-loop
+unfolding fieldOf primeField
 returns c = λ m u. c .before .loop .inv .1 .passed m (omega arith)
 
 pub turn-spec : {M : Type 1} → statement M

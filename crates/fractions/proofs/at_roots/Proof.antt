@@ -1,11 +1,13 @@
 -- `fractions::at_roots` meets its contract. Assumes nothing.
 use Prim.Native.Nat.{ℕ, _+_, _-_, _*_}
 use native.Mathlib.Omega.{arith}
-use mathlib.Core.Path.{_≡_, sym, ap, _∙_}
+use mathlib.Core.Path.{sym, ap, _∙_}
 use lib.ListN.{length, drop}
 use borrow.Author.Needs.{needs}
 use lib.Seq.{length-front, length-take-le}
 use mathlib.Core.List.{_++_}
+use Rattle.definition.specs.Field.{fieldOf, primeField}
+use Rattle.algebra.specs.PrimeField.{laws}
 use Rattle.fractions.proofs.RootValues.{at-roots-is, halves-same}
 use Rattle.fractions.proofs.at_roots.Statement.{statement}
 use Rattle.fractions.proofs.at_roots.Tie as tie
@@ -65,14 +67,15 @@ same-length : tie.Need-same-length
 same-length c = search needs
 
 returns : tie.Need-returns
+unfolding fieldOf primeField
 returns c =
     let s = c .before .before .before .before .before .before .before .before .before .before .before .before .before in
     let a = s .args in
     let r = c .before .before .before .before .before .before .before .before .roots in
     let d = c .before .before .before .before .before .before .residues in
     let t = c .before .before .on-roots in
-    at-roots-is (s .pre .0) (a .f .now) (r .result) (d .last .1 .1 .1 .0) (a .out .now) (t .last .1 .1 .1 .1 .1 .0) (s .pre .1 .0) (omega (arith, r .ensures, s .pre .0 .few)) (omega arith)
-    (d .kept .1 .1 .1 .0) (d .ensures) (t .kept .1 .1 .1 .1 .1 .0) (t .ensures)
+    at-roots-is (fieldOf (a .field)) (laws (a .field)) (s .pre .0) (a .f .now) (r .result) (d .last .1 .1 .1 .0) (a .out .now) (t .last .1 .1 .1 .1 .1 .0) (s .pre .1 .0) (omega (arith, r .ensures, s .pre .0 .few)) (omega arith)
+    (d .kept .1 .1 .1 .0) (d .ensures) (t .kept .1 .1 .1 .1 .1 .0) (t .ensures (s .pre .0 .ω) (s .pre .0 .table))
 
 pub at-roots-spec : {M : Type 1} → statement M
 at-roots-spec =

@@ -1,12 +1,12 @@
 -- `fractions::fractions` meets its contract. Assumes nothing.
-use Prim.Native.Nat.{ℕ, _+_, _-_, _*_, _/_, _≤_}
+use Prim.Native.Nat.{_-_, _/_}
 use native.Mathlib.Omega.{arith}
 use mathlib.Core.Path.{sym, ap, _∙_}
-use mathlib.Core.List.{_++_}
-use lib.ListN.{length, take, drop}
+use lib.ListN.{length}
 use lib.Seq.{length-front, length-take-le}
 use borrow.Author.Needs.{needs}
-use Rattle.definition.specs.Field.{fieldOf, power}
+use Rattle.definition.specs.Field.{fieldOf, primeField}
+use Rattle.algebra.specs.PrimeField.{laws}
 use Rattle.fractions.specs.Values.{first-point, folded, spacing, table-place}
 use Rattle.fractions.proofs.RootValues.{count-few, count-some, fractions-are, front-whole, rooted-part}
 use Rattle.fractions.proofs.fractions.Statement.{statement}
@@ -28,14 +28,14 @@ slice-aggregate-shift-powers : tie.Need-slice-aggregate-shift-powers
 slice-aggregate-shift-powers c =
     let s = c .before .before .before .before .before .before .before .before .before .before .before .before .before in
     let room = c .before .columns in
-    sym (length-take-le (s .args .how .words / length (s .args .tops .now)) (room .result) (omega (arith, room .ensures, count-few (s .pre .1 .0))))
+    sym (length-take-le (s .args .oracle .words / length (s .args .tops .now)) (room .result) (omega (arith, room .ensures, count-few (s .pre .1 .0))))
 
 shift-powers-requires : tie.Need-shift-powers-requires
 shift-powers-requires c κs =
     let s = c .before .before .before .before .before .before .before .before .before .before .before .before .before in
     let fits = s .pre .1 .0 in
     let room = c .before .columns in
-    let size = length-take-le (s .args .how .words / length (s .args .tops .now)) (room .result) (omega (arith, room .ensures, count-few fits)) in
+    let size = length-take-le (s .args .oracle .words / length (s .args .tops .now)) (room .result) (omega (arith, room .ensures, count-few fits)) in
     (first-point fits (s .pre .1 .1 .0), (fits .small, (fits .few, omega (arith, size, count-some fits (s .pre .1 .1 .1 .0)))))
 
 mul-quotients : tie.Need-mul-quotients
@@ -49,14 +49,14 @@ array-share-prefix-powers c =
     let s = c .before .before .before .before .before .before .before .before .before .before .before .before .before .before .before .before .before in
     let q = c .before .before .before .shift-powers in
     let room = c .before .before .before .before .before .columns in
-    omega (arith, length-front (room .result) (q .last .1 .1 .1 .1 .0) (s .args .how .words / length (s .args .tops .now)) (q .kept .1 .1 .1 .1 .0), room .ensures, count-few (s .pre .1 .0))
+    omega (arith, length-front (room .result) (q .last .1 .1 .1 .1 .0) (s .args .oracle .words / length (s .args .tops .now)) (q .kept .1 .1 .1 .1 .0), room .ensures, count-few (s .pre .1 .0))
 
 slice-aggregate-quotients : tie.Need-slice-aggregate-quotients
 slice-aggregate-quotients c =
     let s = c .before .before .before .before .before .before .before .before .before .before .before .before .before .before .before .before .before .before in
     let q = c .before .before .before .before .shift-powers in
     let room = c .before .before .before .before .before .before .columns in
-    let w = front-whole (s .args .how .words / length (s .args .tops .now)) (room .result) (q .last .1 .1 .1 .1 .0) (omega (arith, room .ensures, count-few (s .pre .1 .0))) (q .kept .1 .1 .1 .1 .0) in
+    let w = front-whole (s .args .oracle .words / length (s .args .tops .now)) (room .result) (q .last .1 .1 .1 .1 .0) (omega (arith, room .ensures, count-few (s .pre .1 .0))) (q .kept .1 .1 .1 .1 .0) in
     sym (ap length (w .0) ∙ w .1)
 
 quotients-requires : tie.Need-quotients-requires
@@ -68,7 +68,7 @@ quotients-requires c κs =
     let q = c .before .before .before .before .before .before .shift-powers in
     let room = c .before .before .before .before .before .before .before .before .columns in
     let same = c .before .before .before .before .before .before .before .before .before .before .before .before .gather .kept .1 .1 .1 .0 in
-    let r = rooted-part (a .field) (a .pw .now) (a .table .now) (a .vg .now) (a .how) (length (a .tops .now)) _ fits (p .0 .1 .1) (a .j) (room .result) (q .last .1 .1 .1 .1 .0) (p .1 .1 .0) (p .1 .1 .1 .0) (room .ensures) (q .kept .1 .1 .1 .1 .0) (q .ensures) same in
+    let r = rooted-part (fieldOf (a .field)) (laws (a .field)) (a .pw .now) (a .table .now) (a .vg .now) (a .oracle) (length (a .tops .now)) _ fits (p .0 .1 .1) (a .j) (room .result) (q .last .1 .1 .1 .1 .0) (p .1 .1 .0) (p .1 .1 .1 .0) (room .ensures) (q .kept .1 .1 .1 .1 .0) (q .ensures (a .field) (p .0 .1 .1 .ω) (p .0 .1 .1 .powers)) same in
     ((p .0 .0, (p .0 .1 .0, p .1 .1 .1 .1 ∙ sym same)), (r .0, omega (arith, r .1, fits .used)))
 
 same-length : tie.Need-same-length
@@ -78,6 +78,7 @@ same-length-2 : tie.Need-same-length-2
 same-length-2 c = search needs
 
 returns : tie.Need-returns
+unfolding fieldOf primeField
 returns c =
     let s = c .before .before .before .before .before .before .before .before .before .before .before .before .before .before .before .before .before .before .before .before .before .before .before .before .before in
     let a = s .args in
@@ -88,8 +89,8 @@ returns c =
     let g = c .before .before .before .before .before .before .before .before .before .before .before .before .before .before .before .before .before .gather in
     let q = c .before .before .before .before .quotients in
     let same = g .kept .1 .1 .1 .0 in
-    let r = rooted-part (a .field) (a .pw .now) (a .table .now) (a .vg .now) (a .how) (length (a .tops .now)) (length (g .last .1 .1 .1 .0)) fits (p .0 .1 .1) (a .j) (room .result) (h .last .1 .1 .1 .1 .0) (p .1 .1 .0) (p .1 .1 .1 .0) (room .ensures) (h .kept .1 .1 .1 .1 .0) (h .ensures) same in
-    λ m u. fractions-are (a .field) (a .pw .now) (a .table .now) (a .ac .now) (a .vg .now) (a .how) (length (a .tops .now)) fits (p .0 .1 .1) (a .j) (p .1 .1 .0) (p .1 .1 .1 .0) m u _ (r .1)
+    let r = rooted-part (fieldOf (a .field)) (laws (a .field)) (a .pw .now) (a .table .now) (a .vg .now) (a .oracle) (length (a .tops .now)) (length (g .last .1 .1 .1 .0)) fits (p .0 .1 .1) (a .j) (room .result) (h .last .1 .1 .1 .1 .0) (p .1 .1 .0) (p .1 .1 .1 .0) (room .ensures) (h .kept .1 .1 .1 .1 .0) (h .ensures (a .field) (p .0 .1 .1 .ω) (p .0 .1 .1 .powers)) same in
+    λ m u. fractions-are (fieldOf (a .field)) (laws (a .field)) (a .pw .now) (a .table .now) (a .ac .now) (a .vg .now) (a .oracle) (length (a .tops .now)) fits (p .0 .1 .1) (a .j) (p .1 .1 .0) (p .1 .1 .1 .0) m u _ (r .1)
     (g .ensures .passed m u) (q .ensures .0 m (omega (arith, u, same))) (q .ensures .1 m (omega (arith, u, same)))
 
 pub fractions-spec : {M : Type 1} → statement M

@@ -1,9 +1,10 @@
 -- `fractions::quotients` meets its contract. Assumes nothing.
-use Prim.Native.Nat.{ℕ, _+_, _*_}
+use Prim.Native.Nat.{_+_, _*_}
 use native.Mathlib.Omega.{arith}
 use mathlib.Core.Path.{_∙_}
 use lib.ListN.{length, getD}
 use borrow.Author.Needs.{needs}
+use Rattle.definition.specs.Field.{fieldOf, primeField}
 use Rattle.fractions.proofs.RootValues.{numerators-are, part-room}
 use Rattle.fractions.proofs.quotients.Statement.{statement}
 use Rattle.fractions.proofs.quotients.Tie as tie
@@ -65,13 +66,14 @@ same-length-2 : tie.Need-same-length-2
 same-length-2 c = search needs
 
 returns : tie.Need-returns
+unfolding fieldOf primeField
 returns c =
     let s = c .before .before .before .before .before .before .before .before .before .before .before .before .before .before .before .before .before .before .before .before .before .before .before .before .before in
     let a = s .args in
     let u = c .before .before .before .before .before .before .before .before .before .before .before .before .before .before .before .at-roots in
     let v = c .before .before .before .before .before .before .before .before .before .before .before .before .at-roots2 in
     let g = c .before .before .before .before .before .before .before .at-roots3 in (
-      numerators-are (a .field) (length (a .tops .now) * length (a .powers .now)) (a .ac .now) (a .vg .now) (λ m. getD (a .pw .now) (a .at + a .step * m) 0) (a .tops .now)
+      numerators-are (fieldOf (a .field)) (length (a .tops .now) * length (a .powers .now)) (a .ac .now) (a .vg .now) (λ m. getD (a .pw .now) (a .at + a .step * m) 0) (a .tops .now)
           (c .before .before .numerators .last .1 .1 .1 .0) (u .last .1 .1 .1 .1 .1 .1 .1 .0) (g .last .1 .1 .1 .1 .1 .1 .1 .0) (omega (arith, s .pre .1 .1, s .pre .0 .1 .0)) (u .ensures) (g .ensures) (c .before .before .numerators .ensures),
       v .ensures,
     )

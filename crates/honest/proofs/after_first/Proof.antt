@@ -5,11 +5,12 @@ use mathlib.Core.List.{List, _∷_}
 use mathlib.Core.Path.{_∙_, ap, subst, sym}
 use lib.ListN.{getD, length-set}
 use lib.Seq.{length-take-le}
-use Rattle.domain.specs.Parts.{begun-long, front-stays}
+use Rattle.list_laws.specs.LentParts.{begun-long, front-stays}
 use Rattle.definition.specs.Sheet.{sheetOf}
+use Rattle.list_laws.specs.Lists.{rest-all}
 use Rattle.edition.specs.Meaning.{editionOf}
-use Rattle.honest_words.specs.Standing.{DealtFrom, foldOf, restFrom}
-use Rattle.honest.proofs.Onward.{all-left, first-fold}
+use Rattle.honest_words.specs.Invariant.{CoinRunsFrom, foldOf, restFrom}
+use Rattle.honest.proofs.Beginning.{first-fold}
 use Rattle.honest.proofs.Stored.{stored-join, stored-long, stored-others}
 use borrow.Author.Needs.{needs}
 use Rattle.honest.proofs.after_first.Statement.{statement}
@@ -71,7 +72,7 @@ rest-requires c κs =
     let g = begun-long (a .g .now) (c .before .before .before .before .before .fold .last .1 .1 .1 .1 .1 .0) (c .before .before .before .before .before .before .before .fold-length .result) (p .within) (c .before .before .before .before .before .fold .kept .1 .1 .1 .1 .1 .0) in (
       (s .pre .0 .0, (p .degree, omega (arith, g, p .within))),
       (
-        subst (DealtFrom (sheetOf (editionOf (a .e)) (a .w .now)) 0) (sym (all-left 1 (a .coins .now))) (s .pre .1 .1 .0),
+        subst (CoinRunsFrom (sheetOf (editionOf (a .e)) (a .w .now)) 0) (sym (rest-all 1 (a .coins .now))) (s .pre .1 .1 .0),
         stored-others (a .out .now) (getD (a .coins .now) 0 0) ∙ omega (arith, s .pre .1 .1 .1),
       ),
     )
@@ -96,7 +97,7 @@ returns c =
     let v = c .before .before .before .before .rest in
     let g = front-stays (a .g .now) (q .last .1 .1 .1 .1 .1 .0) (c .before .before .before .before .before .before .before .before .before .before .before .before .fold-length .result) (p .within) (q .kept .1 .1 .1 .1 .1 .0) ∙ q .ensures in
     stored-join (a .out .now) r (v .last .1 .1 .1 .1 .1 .1 .1 .1 .0) (omega (arith, s .pre .1 .1 .1))
-    ∙ ap {B = List ℕ} (λ l. r ∷ l) (v .ensures (a .f .now) r (sym g) ∙ ap (restFrom (sheetOf (editionOf (a .e)) (a .w .now)) 0 (a .f .now) r) (all-left 1 (a .coins .now)))
+    ∙ ap {B = List ℕ} (λ l. r ∷ l) (v .ensures (a .f .now) r (sym g) ∙ ap (restFrom (sheetOf (editionOf (a .e)) (a .w .now)) 0 (a .f .now) r) (rest-all 1 (a .coins .now)))
 
 pub after-first-spec : {M : Type 1} → statement M
 after-first-spec =

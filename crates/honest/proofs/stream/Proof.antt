@@ -1,7 +1,7 @@
 -- `honest::stream` meets its contract. Assumes nothing.
 use native.Mathlib.Omega.{arith}
 use Rattle.completeness.specs.Allowed.{allowed-enough}
-use Rattle.completeness.specs.SheetRules.{long-enough}
+use Rattle.layouts.specs.SheetRules.{long-enough}
 use Rattle.edition.specs.Meaning.{editionOf}
 use borrow.Author.Needs.{needs}
 use Rattle.honest.proofs.stream.Statement.{statement}

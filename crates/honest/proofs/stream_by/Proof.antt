@@ -7,12 +7,12 @@ use lib.Seq.{length-take-le}
 use Rattle.definition.specs.Layout.{wordsDue}
 use Rattle.definition.specs.Sheet.{Edition, sheetLength, sheetOf}
 use Rattle.completeness.specs.Allowed.{allowed-long}
-use Rattle.completeness.specs.FileSize.{short-sheet}
+use Rattle.layouts.specs.SheetRules.{short-sheet}
 use Rattle.completeness.specs.Numbered.{Allowed}
 use Rattle.edition.specs.Meaning.{editionOf}
-use Rattle.honest_words.specs.Standing.{wordsFrom}
-use Rattle.honest.specs.Beginning.{first-coin, first-count, first-dealt, first-standing, stream-is, words-first}
-use Rattle.domain.specs.Parts.{begun-long, joined, others-long}
+use Rattle.honest_words.specs.Invariant.{wordsFrom}
+use Rattle.honest.proofs.Beginning.{first-coin, first-count, first-runs, first-invariant, stream-is, words-first}
+use Rattle.list_laws.specs.LentParts.{begun-long, joined, others-long}
 use borrow.Author.Needs.{needs}
 use Rattle.honest.proofs.stream_by.Statement.{statement}
 use Rattle.honest.proofs.stream_by.Tie as tie
@@ -73,8 +73,8 @@ transcript-requires c κs =
     let b = c .before .before .before .before .before .before .sheet-words in
     let p = c .before .before .before .before .copy in
     let n = others-long (a .out .now) (p .last .1 .0) (b .result) (head-inside ok (s .pre .1 .1) (b .ensures)) (p .kept .1 .0) in (
-      (first-standing ok (a .pw .now) (s .pre .1 .0 .0) (s .pre .1 .0 .1), (first-count ok, s .pre .0 .1)),
-      (first-coin ok, (first-dealt ok, n ∙ omega (arith, s .pre .1 .1, words-first ok, b .ensures, s .pre .1 .0 .1))),
+      (first-invariant ok (a .pw .now) (s .pre .1 .0 .0) (s .pre .1 .0 .1), (first-count ok, s .pre .0 .1)),
+      (first-coin ok, (first-runs ok, n ∙ omega (arith, s .pre .1 .1, words-first ok, b .ensures, s .pre .1 .0 .1))),
     )
 
 same-length : tie.Need-same-length

@@ -4,11 +4,11 @@ use mathlib.Core.Path.{_∙_, refl, sym}
 use lib.ListN.{length}
 use lib.Seq.{length-take-le}
 use Rattle.definition.specs.Sheet.{sheetOf}
-use Rattle.completeness.specs.LevelsByNumber.{undivided}
-use Rattle.completeness.specs.Numbered.{levelOf}
-use Rattle.domain.specs.Parts.{joined, others-long}
+use Rattle.layouts.specs.LevelsByNumber.{undivided}
+use Rattle.layouts.specs.Levels.{levelOf}
+use Rattle.list_laws.specs.LentParts.{joined, others-long}
 use Rattle.edition.specs.Meaning.{editionOf}
-use Rattle.honest_words.specs.Standing.{openingFrom}
+use Rattle.honest_words.specs.Invariant.{openingFrom}
 use borrow.Author.Needs.{needs}
 use Rattle.honest.proofs.transcript.Statement.{statement}
 use Rattle.honest.proofs.transcript.Tie as tie
@@ -28,7 +28,7 @@ table-requires c κs =
     let s = c .before .before .before .before .before .before .before in
     let a = s .args in
     let n = length-take-le (length (a .pw .now)) (a .out .now) (omega (arith, s .pre .1 .1 .1)) in
-    record { number = 0; standing = s .pre .0 .0; degree = s .pre .0 .1 .0; size = n ∙ s .pre .0 .0 .points ∙ sym (undivided (sheetOf (editionOf (a .e)) (a .w .now) .size)) }
+    record { number = 0; invariant = s .pre .0 .0; degree = s .pre .0 .1 .0; size = n ∙ s .pre .0 .0 .points ∙ sym (undivided (sheetOf (editionOf (a .e)) (a .w .now) .size)) }
 
 mul-after-first : tie.Need-mul-after-first
 mul-after-first c = search needs

@@ -3,47 +3,29 @@ use native.Mathlib.Omega.{arith}
 use mathlib.Core.Path.{refl, sym}
 use lib.ListN.{length, take, drop}
 use Rattle.honest_words.specs.Sizes.{fewer-points, numbers, sizes}
-use Rattle.honest_words.proofs.Words.{outs-long}
+use Rattle.honest_words.proofs.Words.{coined, outs-long}
 use Rattle.honest_round.proofs.Rounds.{corrected-is, shifts-in, shifts-long}
 use borrow.Author.Needs.{needs}
 use Rattle.honest_round.proofs.correct.Statement.{statement}
 use Rattle.honest_round.proofs.correct.Tie as tie
 
 shared-slice-read-s : tie.Need-shared-slice-read-s
-shared-slice-read-s c =
-    let s = c .before .before .before .before .before .before in
-    let v = numbers (s .pre .0 .0 .place) in
-    omega (arith, v .twelve, v .outs, v .most-outs, v .repetitions, v .most-repetitions, s .pre .1 .1 .0 .there)
+shared-slice-read-s c = omega (arith, coined (c .before .before .before .before .before .before .pre))
 
 cast-s : tie.Need-cast-s
-cast-s c =
-    let s = c .before .before .before .before .before .before in
-    let v = numbers (s .pre .0 .0 .place) in
-    omega (arith, v .twelve, v .outs, v .most-outs, v .repetitions, v .most-repetitions, s .pre .1 .1 .0 .there)
+cast-s c = omega (arith, coined (c .before .before .before .before .before .before .pre))
 
 add-t : tie.Need-add-t
-add-t c =
-    let s = c .before .before .before .before .before .before in
-    let v = numbers (s .pre .0 .0 .place) in
-    omega (arith, v .most-rounds, s .pre .0 .1)
+add-t c = omega (arith, coined (c .before .before .before .before .before .before .pre))
 
 mul-t : tie.Need-mul-t
-mul-t c =
-    let s = c .before .before .before .before .before .before in
-    let v = numbers (s .pre .0 .0 .place) in
-    omega (arith, v .most-rounds, s .pre .0 .1)
+mul-t c = omega (arith, coined (c .before .before .before .before .before .before .pre))
 
 shared-slice-read-t : tie.Need-shared-slice-read-t
-shared-slice-read-t c =
-    let s = c .before .before .before .before .before .before .before in
-    let v = numbers (s .pre .0 .0 .place) in
-    omega (arith, v .most-rounds, s .pre .0 .1, v .twelve)
+shared-slice-read-t c = omega (arith, coined (c .before .before .before .before .before .before .before .pre))
 
 cast-t : tie.Need-cast-t
-cast-t c =
-    let s = c .before .before .before .before .before .before .before in
-    let v = numbers (s .pre .0 .0 .place) in
-    omega (arith, v .twelve, v .outs, v .most-outs, v .repetitions, v .most-repetitions, s .pre .1 .1 .0 .there)
+cast-t c = omega (arith, coined (c .before .before .before .before .before .before .before .pre))
 
 folding-number-requires : tie.Need-folding-number-requires
 folding-number-requires c κs = c .before .before .before .before .before .before .before .pre .0 .0 .place
@@ -58,46 +40,25 @@ slice-aggregate-points c =
     sym (outs-long (s .pre .1 .1 .0) (v .outs) (v .repetitions))
 
 add-points : tie.Need-add-points
-add-points c =
-    let s = c .before .before .before .before .before .before .before .before .before .before in
-    let v = numbers (s .pre .0 .0 .place) in
-    omega (arith, v .twelve, v .outs, v .most-outs, v .repetitions, v .most-repetitions, s .pre .1 .1 .0 .there)
+add-points c = omega (arith, coined (c .before .before .before .before .before .before .before .before .before .before .pre))
 
 add-points-2 : tie.Need-add-points-2
-add-points-2 c =
-    let s = c .before .before .before .before .before .before .before .before .before .before in
-    let v = numbers (s .pre .0 .0 .place) in
-    omega (arith, v .twelve, v .outs, v .most-outs, v .repetitions, v .most-repetitions, s .pre .1 .1 .0 .there)
+add-points-2 c = omega (arith, coined (c .before .before .before .before .before .before .before .before .before .before .pre))
 
 add-points-3 : tie.Need-add-points-3
-add-points-3 c =
-    let s = c .before .before .before .before .before .before .before .before .before .before in
-    let v = numbers (s .pre .0 .0 .place) in
-    omega (arith, v .twelve, v .outs, v .most-outs, v .repetitions, v .most-repetitions, s .pre .1 .1 .0 .there)
+add-points-3 c = omega (arith, coined (c .before .before .before .before .before .before .before .before .before .before .pre))
 
 mul-points : tie.Need-mul-points
-mul-points c =
-    let s = c .before .before .before .before .before .before .before .before .before .before in
-    let v = numbers (s .pre .0 .0 .place) in
-    omega (arith, v .twelve, v .outs, v .most-outs, v .repetitions, v .most-repetitions, s .pre .1 .1 .0 .there)
+mul-points c = omega (arith, coined (c .before .before .before .before .before .before .before .before .before .before .pre))
 
 sub-points : tie.Need-sub-points
-sub-points c =
-    let s = c .before .before .before .before .before .before .before .before .before .before in
-    let v = numbers (s .pre .0 .0 .place) in
-    omega (arith, v .twelve, v .outs, v .most-outs, v .repetitions, v .most-repetitions, s .pre .1 .1 .0 .there)
+sub-points c = omega (arith, coined (c .before .before .before .before .before .before .before .before .before .before .pre))
 
 part-points-start : tie.Need-part-points-start
-part-points-start c =
-    let s = c .before .before .before .before .before .before .before .before .before .before in
-    let v = numbers (s .pre .0 .0 .place) in
-    omega (arith, v .twelve, v .outs, v .most-outs, v .repetitions, v .most-repetitions, s .pre .1 .1 .0 .there)
+part-points-start c = omega (arith, coined (c .before .before .before .before .before .before .before .before .before .before .pre))
 
 part-points-end : tie.Need-part-points-end
-part-points-end c =
-    let s = c .before .before .before .before .before .before .before .before .before .before in
-    let v = numbers (s .pre .0 .0 .place) in
-    omega (arith, v .twelve, v .outs, v .most-outs, v .repetitions, v .most-repetitions, s .pre .1 .1 .0 .there)
+part-points-end c = omega (arith, coined (c .before .before .before .before .before .before .before .before .before .before .pre))
 
 slice-aggregate-points-2 : tie.Need-slice-aggregate-points-2
 slice-aggregate-points-2 c = search needs
@@ -114,25 +75,16 @@ points-requires c κs =
     ((omega (arith, k .ensures, v .least-fold), (omega (arith, k .ensures, v .most-fold), z .points-most)), (in-table, omega (arith, lo, lt, v .outs, v .repetitions, v .most-outs, v .most-repetitions, c .before .before .before .points-room .ensures)))
 
 shared-slice-read-corrected : tie.Need-shared-slice-read-corrected
-shared-slice-read-corrected c =
-    let s = c .before .before .before .before .before .before .before .before .before .before .before .before .before .before .before in
-    let v = numbers (s .pre .0 .0 .place) in
-    omega (arith, v .twelve, v .outs, v .most-outs, v .repetitions, v .most-repetitions, s .pre .1 .1 .0 .there)
+shared-slice-read-corrected c = omega (arith, coined (c .before .before .before .before .before .before .before .before .before .before .before .before .before .before .before .pre))
 
 slice-aggregate-corrected : tie.Need-slice-aggregate-corrected
 slice-aggregate-corrected c = search needs
 
 mul-corrected : tie.Need-mul-corrected
-mul-corrected c =
-    let s = c .before .before .before .before .before .before .before .before .before .before .before .before .before .before .before .before in
-    let v = numbers (s .pre .0 .0 .place) in
-    omega (arith, v .twelve, v .outs, v .most-outs, v .repetitions, v .most-repetitions, s .pre .1 .1 .0 .there)
+mul-corrected c = omega (arith, coined (c .before .before .before .before .before .before .before .before .before .before .before .before .before .before .before .before .pre))
 
 shared-slice-read-corrected-2 : tie.Need-shared-slice-read-corrected-2
-shared-slice-read-corrected-2 c =
-    let s = c .before .before .before .before .before .before .before .before .before .before .before .before .before .before .before .before .before in
-    let v = numbers (s .pre .0 .0 .place) in
-    omega (arith, v .twelve, v .outs, v .most-outs, v .repetitions, v .most-repetitions, s .pre .1 .1 .0 .there)
+shared-slice-read-corrected-2 c = omega (arith, coined (c .before .before .before .before .before .before .before .before .before .before .before .before .before .before .before .before .before .pre))
 
 corrected-requires : tie.Need-corrected-requires
 corrected-requires c κs =

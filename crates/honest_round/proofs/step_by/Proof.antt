@@ -4,11 +4,11 @@ use native.Mathlib.Omega.{arith}
 use mathlib.Core.Path.{_∙_, ap, sym}
 use lib.ListN.{getD}
 use lib.Seq.{length-take-le}
-use Rattle.domain.specs.Parts.{begun-long, front-there}
+use Rattle.list_laws.specs.LentParts.{begun-long, front-there}
 use Rattle.definition.specs.Sheet.{sheetOf}
 use Rattle.edition.specs.Meaning.{editionOf}
 use Rattle.honest_words.specs.Sizes.{multiplied, next-place, numbers}
-use Rattle.honest_words.specs.Standing.{foldOf}
+use Rattle.honest_words.specs.Invariant.{foldOf}
 use Rattle.honest_round.proofs.Rounds.{folded-next, room}
 use borrow.Author.Needs.{needs}
 use Rattle.honest_round.proofs.step_by.Statement.{statement}

@@ -4,51 +4,33 @@ use native.Mathlib.Omega.{arith}
 use mathlib.Core.Path.{_∙_, sym}
 use lib.ListN.{length}
 use lib.Seq.{length-take-le}
-use Rattle.completeness.specs.Numbered.{levelOf}
+use Rattle.layouts.specs.Levels.{levelOf}
 use Rattle.edition.specs.Meaning.{editionOf}
 use Rattle.definition.specs.Sheet.{sheetOf}
 use Rattle.honest_words.specs.Sizes.{field-word, next-on-level, next-scale, next-size, numbers, sizes}
-use Rattle.domain.specs.Parts.{begun-long, joined, others-long}
-use Rattle.honest_words.proofs.Words.{later-long, outs-long, round-is}
+use Rattle.list_laws.specs.LentParts.{begun-long, joined, others-long}
+use Rattle.honest_words.proofs.Words.{coined, later-long, outs-long, round-is}
 use borrow.Author.Needs.{needs}
 use Rattle.honest_words.proofs.round.Statement.{statement}
 use Rattle.honest_words.proofs.round.Tie as tie
 
 shared-slice-read-s : tie.Need-shared-slice-read-s
-shared-slice-read-s c =
-    let s = c .before .before .before .before .before .before in
-    let v = numbers (s .pre .0 .0 .place) in
-    omega (arith, v .twelve, v .outs, v .most-outs, v .repetitions, v .most-repetitions, s .pre .1 .1 .0 .there)
+shared-slice-read-s c = omega (arith, coined (c .before .before .before .before .before .before .pre))
 
 cast-s : tie.Need-cast-s
-cast-s c =
-    let s = c .before .before .before .before .before .before in
-    let v = numbers (s .pre .0 .0 .place) in
-    omega (arith, v .twelve, v .outs, v .most-outs, v .repetitions, v .most-repetitions, s .pre .1 .1 .0 .there)
+cast-s c = omega (arith, coined (c .before .before .before .before .before .before .pre))
 
 add-t : tie.Need-add-t
-add-t c =
-    let s = c .before .before .before .before .before .before in
-    let v = numbers (s .pre .0 .0 .place) in
-    omega (arith, v .most-rounds, s .pre .0 .1)
+add-t c = omega (arith, coined (c .before .before .before .before .before .before .pre))
 
 mul-t : tie.Need-mul-t
-mul-t c =
-    let s = c .before .before .before .before .before .before in
-    let v = numbers (s .pre .0 .0 .place) in
-    omega (arith, v .most-rounds, s .pre .0 .1)
+mul-t c = omega (arith, coined (c .before .before .before .before .before .before .pre))
 
 shared-slice-read-t : tie.Need-shared-slice-read-t
-shared-slice-read-t c =
-    let s = c .before .before .before .before .before .before .before in
-    let v = numbers (s .pre .0 .0 .place) in
-    omega (arith, v .most-rounds, s .pre .0 .1, v .twelve)
+shared-slice-read-t c = omega (arith, coined (c .before .before .before .before .before .before .before .pre))
 
 cast-t : tie.Need-cast-t
-cast-t c =
-    let s = c .before .before .before .before .before .before .before in
-    let v = numbers (s .pre .0 .0 .place) in
-    omega (arith, v .twelve, v .outs, v .most-outs, v .repetitions, v .most-repetitions, s .pre .1 .1 .0 .there)
+cast-t c = omega (arith, coined (c .before .before .before .before .before .before .before .pre))
 
 mul-n : tie.Need-mul-n
 mul-n c =
@@ -90,10 +72,7 @@ table-requires c κs =
     next-on-level (s .pre .0 .0) (s .pre .0 .1) _ _ (s .pre .1 .0) n
 
 shared-slice-read-after-table : tie.Need-shared-slice-read-after-table
-shared-slice-read-after-table c =
-    let s = c .before .before .before .before .before .before .before .before .before .before .before .before in
-    let v = numbers (s .pre .0 .0 .place) in
-    omega (arith, v .twelve, v .outs, v .most-outs, v .repetitions, v .most-repetitions, s .pre .1 .1 .0 .there)
+shared-slice-read-after-table c = omega (arith, coined (c .before .before .before .before .before .before .before .before .before .before .before .before .pre))
 
 slice-aggregate-after-table : tie.Need-slice-aggregate-after-table
 slice-aggregate-after-table c =
@@ -102,40 +81,22 @@ slice-aggregate-after-table c =
     sym (outs-long (s .pre .1 .1 .0) (v .outs) (v .repetitions))
 
 add-after-table : tie.Need-add-after-table
-add-after-table c =
-    let s = c .before .before .before .before .before .before .before .before .before .before .before .before .before in
-    let v = numbers (s .pre .0 .0 .place) in
-    omega (arith, v .twelve, v .outs, v .most-outs, v .repetitions, v .most-repetitions, s .pre .1 .1 .0 .there)
+add-after-table c = omega (arith, coined (c .before .before .before .before .before .before .before .before .before .before .before .before .before .pre))
 
 add-after-table-2 : tie.Need-add-after-table-2
-add-after-table-2 c =
-    let s = c .before .before .before .before .before .before .before .before .before .before .before .before .before in
-    let v = numbers (s .pre .0 .0 .place) in
-    omega (arith, v .twelve, v .outs, v .most-outs, v .repetitions, v .most-repetitions, s .pre .1 .1 .0 .there)
+add-after-table-2 c = omega (arith, coined (c .before .before .before .before .before .before .before .before .before .before .before .before .before .pre))
 
 mul-after-table : tie.Need-mul-after-table
-mul-after-table c =
-    let s = c .before .before .before .before .before .before .before .before .before .before .before .before .before in
-    let v = numbers (s .pre .0 .0 .place) in
-    omega (arith, v .twelve, v .outs, v .most-outs, v .repetitions, v .most-repetitions, s .pre .1 .1 .0 .there)
+mul-after-table c = omega (arith, coined (c .before .before .before .before .before .before .before .before .before .before .before .before .before .pre))
 
 sub-after-table : tie.Need-sub-after-table
-sub-after-table c =
-    let s = c .before .before .before .before .before .before .before .before .before .before .before .before .before in
-    let v = numbers (s .pre .0 .0 .place) in
-    omega (arith, v .twelve, v .outs, v .most-outs, v .repetitions, v .most-repetitions, s .pre .1 .1 .0 .there)
+sub-after-table c = omega (arith, coined (c .before .before .before .before .before .before .before .before .before .before .before .before .before .pre))
 
 part-after-table-start : tie.Need-part-after-table-start
-part-after-table-start c =
-    let s = c .before .before .before .before .before .before .before .before .before .before .before .before .before in
-    let v = numbers (s .pre .0 .0 .place) in
-    omega (arith, v .twelve, v .outs, v .most-outs, v .repetitions, v .most-repetitions, s .pre .1 .1 .0 .there)
+part-after-table-start c = omega (arith, coined (c .before .before .before .before .before .before .before .before .before .before .before .before .before .pre))
 
 part-after-table-end : tie.Need-part-after-table-end
-part-after-table-end c =
-    let s = c .before .before .before .before .before .before .before .before .before .before .before .before .before in
-    let v = numbers (s .pre .0 .0 .place) in
-    omega (arith, v .twelve, v .outs, v .most-outs, v .repetitions, v .most-repetitions, s .pre .1 .1 .0 .there)
+part-after-table-end c = omega (arith, coined (c .before .before .before .before .before .before .before .before .before .before .before .before .before .pre))
 
 mul-after-table-2 : tie.Need-mul-after-table-2
 mul-after-table-2 c =

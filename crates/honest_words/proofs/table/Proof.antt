@@ -7,7 +7,7 @@ use Rattle.honest_words.proofs.table.Statement.{statement}
 use Rattle.honest_words.proofs.table.Tie as tie
 
 shared-slice-read-on-domain : tie.Need-shared-slice-read-on-domain
-shared-slice-read-on-domain c = omega (arith, numbers (c .before .before .before .before .before .pre .standing .place) .twelve)
+shared-slice-read-on-domain c = omega (arith, numbers (c .before .before .before .before .before .pre .invariant .place) .twelve)
 
 on-domain-requires : tie.Need-on-domain-requires
 on-domain-requires c κs =

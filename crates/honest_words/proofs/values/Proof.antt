@@ -47,7 +47,7 @@ loop-again c =
     let l = c .before .before .before .loop in
     let a = c .before .before .before .before .before .before .before .args in
     let n = l .inv .1 in
-    (omega arith, (simp length-set (n .0), fill-turn (evaluate (fieldOf (a .field)) (a .g .now)) (a .xs .now) (l .out) (l .i) (omega arith) (l .inv .0) (omega arith) (n .1) (c .value-at .ensures)))
+    (omega arith, (simp length-set (n .0), fill-turn (evaluate (fieldOf (a .field)) (a .g .now)) (a .xs .now) 0 (l .out) (l .i) (omega arith) (l .inv .0) (omega arith) (n .1) (c .value-at .ensures)))
 
 same-length : tie.Need-same-length Inv-loop μ-loop
 same-length c = omega arith

@@ -1,10 +1,10 @@
 -- `inversions::invert_all` meets its contract. Assumes nothing.
 use borrow.Author.Needs.{needs}
-use Prim.Native.Nat.{ℕ, suc, _+_, _-_, _*_, _≤_, _<_}
+use Prim.Native.Nat.{_-_}
 use native.Mathlib.Omega.{arith}
-use mathlib.Core.Path.{_≡_, refl, sym, ap, _∙_, subst}
-use lib.ListN.{length, getD, drop, take, set, length-set}
-use Rattle.definition.specs.Field.{Field, fieldOf}
+use mathlib.Core.Path.{sym, ap, _∙_}
+use Rattle.definition.specs.Field.{primeField, fieldOf}
+use Rattle.algebra.specs.PrimeField.{laws}
 use Rattle.field.specs.Answer.{inversionOf}
 use Rattle.inversions.proofs.Inverting.{one-is-zero}
 use Rattle.inversions.proofs.invert_all.Statement.{statement}
@@ -31,7 +31,7 @@ same-length-2 c = search needs
 returns : tie.Need-returns
 returns c =
     let a = c .before .before .before .before .before .before .before .before .before .before .args in
-    one-is-zero (a .field) (a .values .now) (c .before .before .before .before .before .products-behind .ensures .0) (ap inversionOf (sym (c .enum-told .given .1)) ∙ c .before .before .inv .ensures)
+    one-is-zero (fieldOf (a .field)) (a .values .now) (laws (a .field)) (c .before .before .before .before .before .products-behind .ensures .0) (ap inversionOf (sym (c .enum-told .given .1)) ∙ c .before .before .inv .ensures)
 
 share-requires : tie.Need-share-requires
 share-requires c κs =
@@ -48,6 +48,7 @@ same-length-4 : tie.Need-same-length-4
 same-length-4 c = search needs
 
 returns-2 : tie.Need-returns-2
+unfolding fieldOf primeField
 returns-2 c = search needs
 
 pub invert-all-spec : {M : Type 1} → statement M

@@ -31,8 +31,8 @@ returns : tie.Need-returns
 unfolding outcomeText outcomeOf
 returns c =
     let e = c .before .before .empty in
-    let told = c .before .before .before .enum-told .given .1 in
-    (subst (λ (o : Outcome). Holds (c .text .result) (outcomeText (outcomeOf o))) (sym told) (begun (e .result) (c .text .result) _ (e .ensures) (c .text .ensures)), omega arith)
+    let outcome-is = c .before .before .before .enum-told .given .1 in
+    (subst (λ (o : Outcome). Holds (c .text .result) (outcomeText (outcomeOf o))) (sym outcome-is) (begun (e .result) (c .text .result) _ (e .ensures) (c .text .ensures)), omega arith)
 
 returns-2 : tie.Need-returns-2
 unfolding outcomeOf

@@ -2,12 +2,12 @@
 use mathlib.Core.Path.{_∙_}
 use native.Mathlib.Omega.{arith}
 use borrow.Author.Needs.{needs}
-use Rattle.completeness.specs.SheetRules.{rounds-most}
+use Rattle.layouts.specs.SheetRules.{rounds-most}
 use Rattle.definition.specs.Sheet.{edition1}
 use Rattle.domain.specs.OfSheet.{fitting, points-of-sheet}
 use Rattle.line.specs.Text.{begun}
 use Rattle.listing.specs.Listing.{keptText}
-use Rattle.listing.specs.TableLaws.{text-of-sheet}
+use Rattle.listing.proofs.TableLaws.{text-of-sheet}
 use Rattle.listing.proofs.kept.Statement.{statement}
 use Rattle.listing.proofs.kept.Tie as tie
 

@@ -3,7 +3,7 @@ use mathlib.Core.Path.{sym, ap, _∙_}
 use native.Mathlib.Omega.{arith}
 use borrow.Author.Needs.{needs}
 use Rattle.outcome.specs.Meaning.{answerOf}
-use Rattle.listing.proofs.Tested.{listing-ragged, listing-taken}
+use Rattle.listing.proofs.Tested.{listing-partial, listing-taken}
 use Rattle.listing.proofs.output.Statement.{statement}
 use Rattle.listing.proofs.output.Tie as tie
 
@@ -41,7 +41,7 @@ returns-2 c =
     let bytes = r .before .before .before .before .before .args .bytes .now in
     let o = c .before .before .of-refusal .ensures in
     let w = c .write .ensures in
-    (w .0 ∙ o .0 ∙ listing-ragged bytes _ (sym (ap answerOf (r .read2 .given .1)) ∙ r .before .before .words .ensures .0), omega (arith, w .1, o .1))
+    (w .0 ∙ o .0 ∙ listing-partial bytes _ (sym (ap answerOf (r .read2 .given .1)) ∙ r .before .before .words .ensures .0), omega (arith, w .1, o .1))
 
 pub output-spec : {M : Type 1} → statement M
 output-spec =

@@ -12,10 +12,6 @@ use Rattle.listing.specs.Table.{pointsFrom}
 use Rattle.listing.proofs.Writing.{points-next, points-none, written-all, written-next}
 use Rattle.listing.proofs.points.Statement.{statement}
 use Rattle.listing.proofs.points.Tie as tie
-use Rattle.listing.proofs.points.Reads as reads
-use Rattle.listing.proofs.points.Lts as lts
-use Rattle.line.proofs.write.Reads as write-reads
-use Rattle.listing.proofs.point.Reads as point-reads
 
 abbrev Inv-loop : tie.InvT-loop
 Inv-loop pw scale at out₀ count place₀ j₀ out place j =

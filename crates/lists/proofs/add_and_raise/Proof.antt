@@ -1,24 +1,24 @@
 -- `lists::add_and_raise` meets its contract. Assumes nothing.
-use Prim.Native.Nat.{ℕ, suc, _+_, _-_, _*_, _≤_, _<_}
+use Prim.Native.Nat.{_-_, _≤_}
 use native.Mathlib.Omega.{arith}
-use mathlib.Core.Path.{_≡_, refl, sym, ap, _∙_, subst}
-use lib.ListN.{length, getD, drop, set, length-set}
-use borrow.Author.Needs.{needs}
-use Rattle.domain.specs.Filled.{Filled, filled-first}
+use mathlib.Core.Path.{_≡_, refl, subst}
+use Rattle.definition.specs.Field.{primeField, fieldOf}
+use Rattle.list_laws.specs.Filled.{filled-first}
 use Rattle.lists.proofs.Interpolating.{Walked, sumAt, raisedAt, walk-turn}
 use Rattle.lists.proofs.add_and_raise.Statement.{statement}
 use Rattle.lists.proofs.add_and_raise.Tie as tie
 
 abbrev Inv-loop : tie.InvT-loop
-Inv-loop field s d count q₀ v₀ below₀ i₀ q v below i = (i ≤ count) × Walked field s d q₀ v₀ q v below i
+Inv-loop field s d count q₀ v₀ below₀ i₀ q v below i = (i ≤ count) × Walked (fieldOf field) s d q₀ v₀ q v below i
 
 abbrev μ-loop : tie.MeasureT-loop
 μ-loop field s d count q₀ v₀ below₀ i₀ q v below i = count - i
 
 loop-holds : tie.Need-loop-holds Inv-loop μ-loop
+unfolding fieldOf primeField
 loop-holds c =
     let a = c .before .before .args in
-    (omega arith, (filled-first (sumAt (a .field) (a .s) (a .d) (a .q .now) (a .v .now)) (a .q .now), (filled-first (raisedAt (a .field) (a .s) (a .d) (a .q .now) (a .v .now)) (a .v .now), refl)))
+    (omega arith, (filled-first (sumAt (fieldOf (a .field)) (a .s) (a .d) (a .q .now) (a .v .now)) (a .q .now), (filled-first (raisedAt (fieldOf (a .field)) (a .s) (a .d) (a .q .now) (a .v .now)) (a .v .now), refl)))
 
 mul-c : tie.Need-mul-c Inv-loop μ-loop
 mul-c c = omega arith
@@ -57,10 +57,11 @@ loop-less : tie.Need-loop-less Inv-loop μ-loop
 loop-less c = omega arith
 
 loop-again : tie.Need-loop-again Inv-loop μ-loop
+unfolding fieldOf primeField
 loop-again c =
     let l = c .before .before .before .before .before .loop in
     let a = c .before .before .before .before .before .before .before .before .args in
-    (omega arith, walk-turn (a .field) (a .s) (a .d) (a .q .now) (a .v .now) (l .q) (l .v) (l .below) (l .i) (omega arith) (omega arith) (l .inv .1) (c .before .add-product .ensures) (c .add-product2 .ensures))
+    (omega arith, walk-turn (fieldOf (a .field)) (a .s) (a .d) (a .q .now) (a .v .now) (l .q) (l .v) (l .below) (l .i) (omega arith) (omega arith) (l .inv .1) (c .before .add-product .ensures) (c .add-product2 .ensures))
 
 same-length : tie.Need-same-length Inv-loop μ-loop
 same-length c = omega arith
@@ -69,11 +70,12 @@ same-length-2 : tie.Need-same-length-2 Inv-loop μ-loop
 same-length-2 c = omega arith
 
 returns : tie.Need-returns Inv-loop μ-loop
+unfolding fieldOf primeField
 returns c =
     let l = c .before .loop in
     let a = c .before .before .before .before .args in
     let all : l .i ≡ a .count = omega arith in
-    let w = subst (Walked (a .field) (a .s) (a .d) (a .q .now) (a .v .now) (l .q) (l .v) (l .below)) all (l .inv .1) in
+    let w = subst (Walked (fieldOf (a .field)) (a .s) (a .d) (a .q .now) (a .v .now) (l .q) (l .v) (l .below)) all (l .inv .1) in
     (w .0, w .1 .0)
 
 pub add-and-raise-spec : {M : Type 1} → statement M

@@ -7,6 +7,8 @@ use lib.Seq.{length-take-le}
 use borrow.Author.Needs.{needs}
 use Rattle.definition.specs.Field.{fieldOf}
 use Rattle.algebra.specs.Different.{Apart}
+use Rattle.algebra.specs.PrimeField.{laws}
+use Rattle.list_laws.specs.LentParts.{joined}
 use Rattle.lists.proofs.Interpolating.{correcting-is, full-part}
 use Rattle.lists.proofs.correction.Statement.{statement}
 use Rattle.lists.proofs.correction.Tie as tie
@@ -69,8 +71,8 @@ returns c =
     let i = c .before .before .before .before .before .before .before .before .interpolated in
     let g = c .before .before .growth in (
       n .ensures .0,
-      correcting-is (a .field) (a .c) (n .result) (a .from) (a .xs .now) (a .ys .now) (c .before .before .before .before .before .before .before .before .before .before .before .before .part .result .now) (c .before .before .before .before .before .before .before .before .before .before .before .part2 .result .now) (i .last .1 .1 .1 .0) (a .vg .now) (i .last .1 .1 .1 .1 .0) (g .last .1 .1 .1 .0)
-          (s .pre .0 .1 .1) (c .before .before .before .before .before .before .before .before .before .before .before .before .part .ensures) (c .before .before .before .before .before .before .before .before .before .before .before .part2 .ensures) (s .pre .1 .1 .0 .1) (i .kept .1 .1 .1 .1 .0) (i .ensures) (g .ensures .0) (g .ensures .1) (n .ensures .1) (n .ensures .0 .1 .0),
+      correcting-is (fieldOf (a .field)) (laws (a .field)) (a .c) (n .result) (a .from) (a .xs .now) (a .ys .now) (c .before .before .before .before .before .before .before .before .before .before .before .before .part .result .now) (c .before .before .before .before .before .before .before .before .before .before .before .part2 .result .now) (i .last .1 .1 .1 .0) _ (i .last .1 .1 .1 .1 .0) (g .last .1 .1 .1 .0)
+          (s .pre .0 .1 .1) (c .before .before .before .before .before .before .before .before .before .before .before .before .part .ensures) (c .before .before .before .before .before .before .before .before .before .before .before .part2 .ensures) (joined (a .vg .now) (i .last .1 .1 .1 .1 .0) 66 (omega arith) (i .kept .1 .1 .1 .1 .0) (g .last .1 .1 .1 .0) refl refl) (i .kept .1 .1 .1 .1 .0 ∙ length-take-le 66 (a .vg .now) (omega arith)) (i .ensures) (g .ensures .0) (g .ensures .1) (n .ensures .1) (n .ensures .0 .1 .0),
     )
 
 pub correction-spec : {M : Type 1} → statement M

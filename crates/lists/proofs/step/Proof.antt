@@ -1,10 +1,12 @@
 -- `lists::step` meets its contract. Assumes nothing.
 use borrow.Author.Needs.{needs}
-use Prim.Native.Nat.{ℕ, suc, _+_, _-_, _*_, _≤_, _<_}
+use Prim.Native.Nat.{_+_, _-_}
 use native.Mathlib.Omega.{arith}
-use mathlib.Core.Path.{_≡_, refl, sym, ap, _∙_, subst}
-use lib.ListN.{length, getD, drop, take, set, length-set}
+use mathlib.Core.Path.{sym}
+use lib.ListN.{length, take}
 use lib.Seq.{length-take-le}
+use Rattle.definition.specs.Field.{primeField, fieldOf}
+use Rattle.algebra.specs.PrimeField.{laws}
 use Rattle.lists.proofs.Interpolating.{few-more, through-next}
 use Rattle.lists.proofs.step.Statement.{statement}
 use Rattle.lists.proofs.step.Tie as tie
@@ -37,7 +39,7 @@ value-by-requires c κs =
     let s = c .before .before .before .before .before .before .before .before .before in
     let a = s .args in
     let size = length-take-le (length (a .xs .now) - a .i + 1) (a .room .now) (omega arith) in
-    ((omega (arith, size), (omega (arith, size), omega (arith, size))), few-more (a .field) (a .xs .now) (a .ys .now) (a .q .now) (a .v .now) (a .q .now) (a .v .now) (a .i) (omega arith) (omega arith) (omega arith) (omega arith) (omega arith) (s .pre .1 .1 .1) (take (length (a .xs .now) - a .i + 1) (a .room .now)) size)
+    ((omega (arith, size), (omega (arith, size), omega (arith, size))), few-more (fieldOf (a .field)) (laws (a .field)) (a .xs .now) (a .ys .now) (a .q .now) (a .v .now) (a .i) (s .pre .1 .1 .1) (take (length (a .xs .now) - a .i + 1) (a .room .now)) size)
 
 sub-sub : tie.Need-sub-sub
 sub-sub c = search needs
@@ -82,11 +84,12 @@ same-length-3 : tie.Need-same-length-3
 same-length-3 c = search needs
 
 returns : tie.Need-returns
+unfolding fieldOf primeField
 returns c =
     let s = c .before .before .before .before .before .before .before .before .before .before .before .before .before .before .before .before .before .before .before .before .before .before .before .before in
     let a = s .args in
     let r = c .before .before .before .before .add-and-raise in
-    through-next (a .field) (a .xs .now) (a .ys .now) (a .q .now) (a .v .now) (r .last .1 .1 .1 .1 .0) (r .last .1 .1 .1 .1 .1 .0) (a .i) (omega arith) (omega arith) (omega arith) (omega arith) (omega arith)
+    through-next (fieldOf (a .field)) (laws (a .field)) (a .xs .now) (a .ys .now) (a .q .now) (a .v .now) (r .last .1 .1 .1 .1 .0) (r .last .1 .1 .1 .1 .1 .0) (a .i) (s .pre .0 .0) (s .pre .0 .1 .0) (s .pre .0 .1 .1 .0) (s .pre .1 .0 .0) (s .pre .1 .0 .1 .1 .0)
     (s .pre .1 .1 .1) (s .pre .1 .1 .0) (c .before .before .before .before .before .before .before .before .before .before .before .before .before .before .value-by .ensures) (c .before .before .before .before .before .before .before .before .before .before .sub .ensures) (c .before .before .before .before .before .before .before .before .mul .ensures) (c .before .before .before .before .before .before .before .sub2 .ensures) (r .ensures .0) (r .ensures .1)
 
 pub step-spec : {M : Type 1} → statement M

@@ -1,9 +1,8 @@
 -- `lists::steps` meets its contract. Assumes nothing.
-use Prim.Native.Nat.{ℕ, suc, _+_, _-_, _*_, _≤_, _<_}
+use Prim.Native.Nat.{ℕ, suc, _-_, _≤_}
 use native.Mathlib.Omega.{arith}
-use mathlib.Core.Path.{_≡_, refl, sym, ap, _∙_, subst}
-use lib.ListN.{length, getD, drop, take, set, length-set}
-use borrow.Author.Needs.{needs}
+use mathlib.Core.Path.{_≡_, refl, ap, _∙_, subst}
+use lib.ListN.{length, getD, drop}
 use Rattle.definition.specs.Field.{fieldOf, reciprocal}
 use Rattle.polynomial.specs.Vanishing.{vanishAt}
 use Rattle.lists.specs.Steps.{Through}
@@ -12,7 +11,7 @@ use Rattle.lists.proofs.steps.Statement.{statement}
 use Rattle.lists.proofs.steps.Tie as tie
 
 abbrev Inv-loop : tie.InvT-loop
-Inv-loop field xs ys us room₀ q₀ v₀ i₀ room q v i = (i ≤ length xs) × ((length room ≡ length room₀) × ((length q ≡ length q₀) × ((length v ≡ length v₀) × Through field (drop i xs) (drop i ys) q v)))
+Inv-loop field xs ys us room₀ q₀ v₀ i₀ room q v i = (i ≤ length xs) × ((length room ≡ length room₀) × ((length q ≡ length q₀) × ((length v ≡ length v₀) × Through (fieldOf field) (drop i xs) (drop i ys) q v)))
 
 abbrev μ-loop : tie.MeasureT-loop
 μ-loop field xs ys us room₀ q₀ v₀ i₀ room q v i = i
@@ -25,7 +24,7 @@ loop-holds c =
     let s = c .before .before .before .before .before .before .before .before .before .before .before .before .before in
     let a = s .args in
     let t = c .before .before .before .before .start in
-    (omega arith, (refl, (refl, (refl, through-first (a .field) (a .xs .now) (a .ys .now) (t .last .1 .0) (t .last .1 .1 .0) (s .pre .0 .0) (t .ensures)))))
+    (omega arith, (refl, (refl, (refl, through-first (fieldOf (a .field)) (a .xs .now) (a .ys .now) (t .last .1 .0) (t .last .1 .1 .0) (s .pre .0 .0) (t .ensures)))))
 
 step-requires : tie.Need-step-requires Inv-loop μ-loop
 step-requires c κs =
@@ -72,7 +71,7 @@ returns c =
     let l = c .before .loop in
     let a = c .before .before .before .before .before .before .before .before .before .before .before .before .before .before .before .args in
     let all : l .i ≡ 0 = omega arith in
-    subst (λ (m : ℕ). Through (a .field) (drop m (a .xs .now)) (drop m (a .ys .now)) (l .q) (l .v)) all (l .inv .1 .1 .1 .1)
+    subst (λ (m : ℕ). Through (fieldOf (a .field)) (drop m (a .xs .now)) (drop m (a .ys .now)) (l .q) (l .v)) all (l .inv .1 .1 .1 .1)
 
 pub steps-spec : {M : Type 1} → statement M
 steps-spec =

@@ -1,9 +1,9 @@
 -- `lists::value_by` meets its contract. Assumes nothing.
 use borrow.Author.Needs.{needs}
-use Prim.Native.Nat.{ℕ, suc, _+_, _-_, _*_, _≤_, _<_}
 use native.Mathlib.Omega.{arith}
-use mathlib.Core.Path.{_≡_, refl, sym, ap, _∙_, subst}
-use lib.ListN.{length, getD, drop, set, length-set}
+use lib.ListN.{length}
+use Rattle.definition.specs.Field.{fieldOf}
+use Rattle.algebra.specs.PrimeField.{laws}
 use Rattle.lists.proofs.Interpolating.{value-is}
 use Rattle.lists.proofs.value_by.Statement.{statement}
 use Rattle.lists.proofs.value_by.Tie as tie
@@ -21,7 +21,7 @@ returns : tie.Need-returns
 returns c =
     let s = c .before .before .before .before .before .before .before .before in
     let a = s .args in
-    value-is (a .field) (a .f .now) _ (a .x) (length (a .room .now)) (omega arith) (s .pre .1) (c .before .before .before .before .powers .ensures) (c .sum .ensures)
+    value-is (fieldOf (a .field)) (laws (a .field)) (a .f .now) _ (a .x) (length (a .room .now)) (omega arith) (s .pre .1) (c .before .before .before .before .powers .ensures) (c .sum .ensures)
 
 pub value-by-spec : {M : Type 1} → statement M
 value-by-spec = tie.close (tie.spec powers-requires sum-requires same-length returns)

@@ -7,7 +7,7 @@ use borrow.Author.Needs.{needs}
 use Rattle.definition.specs.Layout.{message}
 use Rattle.definition.specs.Load.{drawKinds}
 use Rattle.definition.specs.Sheet.{edition1, sheetOf}
-use Rattle.load.proofs.Orders.{drawn-next, drawn-verdict}
+use Rattle.load.proofs.Inputs.{drawn-next, drawn-verdict}
 use Rattle.load.proofs.after_sheet.Statement.{statement}
 use Rattle.load.proofs.after_sheet.Tie as tie
 

@@ -6,7 +6,7 @@ use lib.Seq.{length-take-le}
 use borrow.Author.Needs.{needs}
 use Rattle.definition.specs.Sheet.{sheetOf}
 use Rattle.edition.specs.Meaning.{editionOf}
-use Rattle.load.proofs.Orders.{drawn-coins, drawn-degree, drawn-sheet}
+use Rattle.load.proofs.Inputs.{drawn-coins, drawn-degree, drawn-sheet}
 use Rattle.load.proofs.run.Statement.{statement}
 use Rattle.load.proofs.run.Tie as tie
 

@@ -3,20 +3,13 @@ use Prim.Native.Nat.{_-_}
 use native.Mathlib.Omega.{arith}
 use mathlib.Core.Path.{refl}
 use borrow.Author.Needs.{needs}
-use Rattle.completeness.specs.SheetRules.{long-enough}
+use Rattle.layouts.specs.SheetRules.{long-enough}
 use Rattle.edition.specs.Meaning.{editionOf}
 use Rattle.outcome.specs.Answers.{at-place, nowhere}
 use Rattle.outcome.specs.Meaning.{outcomeOf, placeOf}
 use Rattle.out_coins.proofs.Rounds.{InEach, asked, begin, ended, ended-at, ended-nowhere, few-rounds, found, outs-first, round-there, small-scale, some-scale, turned, twelve}
 use Rattle.out_coins.proofs.after_fold.Statement.{statement}
 use Rattle.out_coins.proofs.after_fold.Tie as tie
-use Rattle.out_coins.proofs.after_fold.Reads as reads
-use Rattle.out_coins.proofs.after_fold.Lts as lts
-use Rattle.domain.proofs.first_inside.Reads as first-inside-reads
-use Rattle.out_coins.proofs.after_round.Reads as after-round-reads
-use Rattle.out_coins.proofs.first_of.Reads as first-of-reads
-use Rattle.out_coins.proofs.messages.Reads as messages-reads
-use Rattle.out_coins.proofs.second_equal.Reads as second-equal-reads
 
 abbrev Inv-loop : tie.InvT-loop
 Inv-loop w pw alone words start rounds s equal₀ at₀ scale₀ i₀ equal at scale i = InEach w alone words start (placeOf equal) at scale i

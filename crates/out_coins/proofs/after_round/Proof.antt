@@ -1,9 +1,9 @@
--- `out_coins::after_round`: the sum is `roundWords`, which fits.
+-- `out_coins::after_round`: the sum is `roundWordCount`, which fits.
 use native.Mathlib.Omega.{arith}
 use mathlib.Core.Path.{ap}
 use Prim.Native.Nat.{ℕ, _+_}
 use lib.ListN.{getD}
-use Rattle.out_coins.specs.Kinds.{roundWords}
+use Rattle.out_coins.specs.Kinds.{roundWordCount}
 use borrow.Author.Needs.{needs}
 use Rattle.out_coins.proofs.after_round.Statement.{statement}
 use Rattle.out_coins.proofs.after_round.Tie as tie
@@ -18,11 +18,11 @@ messages-requires : tie.Need-messages-requires
 messages-requires c κs = search needs
 
 add-result : tie.Need-add-result
-unfolding roundWords
+unfolding roundWordCount
 add-result c = let s = c .before .before .before in omega (arith, s .pre .1, c .messages .ensures)
 
 add-result-2 : tie.Need-add-result-2
-unfolding roundWords
+unfolding roundWordCount
 add-result-2 c = let s = c .before .before .before in omega (arith, s .pre .1, c .messages .ensures)
 
 add-result-3 : tie.Need-add-result-3
@@ -38,15 +38,15 @@ cast-result : tie.Need-cast-result
 cast-result c = let s = c .before .before .before .before in omega (arith, c .shared-slice-known3 .given (6 + s .args .i))
 
 add-result-4 : tie.Need-add-result-4
-unfolding roundWords
+unfolding roundWordCount
 add-result-4 c = let s = c .before .before .before .before in omega (arith, s .pre .1, c .before .messages .ensures)
 
 add-result-5 : tie.Need-add-result-5
-unfolding roundWords
+unfolding roundWordCount
 add-result-5 c = let s = c .before .before .before .before in omega (arith, s .pre .1, c .before .messages .ensures)
 
 returns : tie.Need-returns
-unfolding roundWords
+unfolding roundWordCount
 returns c =
     let s = c .before .before .before .before in
     let a = s .args in

@@ -7,7 +7,7 @@ use borrow.Author.Needs.{needs}
 use Rattle.definition.specs.Field.{primeField, fieldOf}
 use Rattle.definition.specs.Polynomial.{evaluate, geometric}
 use Rattle.algebra.specs.PrimeField.{laws}
-use Rattle.polynomial.specs.GeometricSum.{Turn, turn-first, turn-even, turn-odd, turn-last}
+use Rattle.polynomial.proofs.GeometricSum.{Turn, turn-first, turn-even, turn-odd, turn-last}
 use Rattle.polynomial.proofs.geometric_at.Statement.{statement}
 use Rattle.polynomial.proofs.geometric_at.Tie as tie
 

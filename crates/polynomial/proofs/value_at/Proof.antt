@@ -38,6 +38,7 @@ loop-less : tie.Need-loop-less Inv-loop μ-loop
 loop-less c = omega arith
 
 loop-again : tie.Need-loop-again Inv-loop μ-loop
+unfolding fieldOf primeField
 loop-again c =
     let l = c .before .before .before .loop in
     let a = c .before .before .before .before .before .args in

@@ -6,7 +6,7 @@ use mathlib.Core.List.{List, _++_}
 use lib.ListN.{length, drop}
 use lib.Seq.{length-take-le}
 use Rattle.definition.specs.Block.{blockCount, fileOf}
-use Rattle.domain.specs.Parts.{begun-long, front-stays}
+use Rattle.list_laws.specs.LentParts.{begun-long, front-stays}
 use Rattle.outcome.specs.Meaning.{answerOf}
 use borrow.Author.Needs.{needs}
 use Rattle.prove.proofs.write.Statement.{statement}
@@ -27,8 +27,8 @@ stream-requires c κs =
     let a = s .args in
     (s .pre .0, length-take-le (a .due) (a .words .now) (s .pre .1 .1 .0) ∙ s .pre .1 .0)
 
-seal-requires : tie.Need-seal-requires
-seal-requires c κs =
+write-file-requires : tie.Need-write-file-requires
+write-file-requires c κs =
     let s = c .before .before .before .before .before .before .before .before .before .before .before in
     let a = s .args in
     let p = c .before .before .before .before .stream in
@@ -50,7 +50,7 @@ returns c =
     let a = s .args in
     let p = c .before .before .before .before .before .before .before .stream in
     let e = front-stays (a .words .now) (p .last .1 .1 .1 .1 .0) (a .due) (s .pre .1 .1 .0) (p .kept .1 .1 .1 .1 .0) ∙ p .ensures in
-    (refl, c .before .before .seal .ensures ∙ ap (λ (v : List ℕ). fileOf v ++ drop (length (fileOf v)) (a .output .now)) e)
+    (refl, c .before .before .write-file .ensures ∙ ap (λ (v : List ℕ). fileOf v ++ drop (length (fileOf v)) (a .output .now)) e)
 
 pub write-spec : {M : Type 1} → statement M
 write-spec =
@@ -59,7 +59,7 @@ write-spec =
     slice-relend-prefix-stream
     slice-aggregate-stream
     stream-requires
-    seal-requires
+    write-file-requires
     add-t15
     same-length
     same-length-2

@@ -6,12 +6,6 @@ use Rattle.ranges.proofs.Counting.{counted-as, degree-over, divided-mos
 use borrow.Author.Needs.{needs}
 use Rattle.ranges.proofs.elements.Statement.{statement}
 use Rattle.ranges.proofs.elements.Tie as tie
-use Rattle.ranges.proofs.elements.Reads as reads
-use Rattle.ranges.proofs.elements.Lts as lts
-use Rattle.ranges.proofs.coin_elements.Reads as coin-elements-reads
-use Rattle.edition.proofs.degree.Reads as degree-reads
-use Rattle.ranges.proofs.divide.Reads as divide-reads
-use Rattle.ranges.proofs.word.Reads as word-reads
 
 -- src/lib.rt:81:9
 coin-elements-requires : tie.Need-coin-elements-requires

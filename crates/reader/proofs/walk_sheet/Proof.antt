@@ -6,7 +6,7 @@ use lib.ListN.{length, take, length-set}
 use lib.Seq.{take-all}
 use borrow.Author.Needs.{needs}
 use Rattle.definition.specs.Block.{streamOf}
-use Rattle.stream.specs.Overwriting.{overwrite, overwrite-none}
+use Rattle.list_laws.specs.Overwriting.{overwrite, overwrite-none}
 use Rattle.reader.proofs.ByNumber.{no-end-before, sheet-length, sheet-next}
 use Rattle.reader.proofs.walk_sheet.Statement.{statement}
 use Rattle.reader.proofs.walk_sheet.Tie as tie

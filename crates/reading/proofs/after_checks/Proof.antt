@@ -5,7 +5,7 @@ use mathlib.Core.Path.{sym}
 use lib.ListN.{length}
 use lib.Seq.{length-take-le}
 use borrow.Author.Needs.{needs}
-use Rattle.completeness.specs.FileSize.{short-sheet}
+use Rattle.layouts.specs.SheetRules.{short-sheet}
 use Rattle.edition.specs.Meaning.{editionOf}
 use Rattle.outcome.specs.Answers.{at-place, nowhere}
 use Rattle.outcome.specs.Meaning.{outcomeOf}

@@ -5,8 +5,8 @@ use native.Mathlib.Omega.{arith}
 use mathlib.Core.Path.{_≡_, _∙_, ap, subst}
 use lib.ListN.{length, getD}
 use borrow.Author.Needs.{needs}
-use Rattle.definition.specs.Field.{Field, fieldOf}
-use Rattle.domain.specs.Filled.{Filled, filled-first, filled-next}
+use Rattle.definition.specs.Field.{fieldOf}
+use Rattle.list_laws.specs.Filled.{Filled, filled-first, filled-next}
 use Rattle.root_values.proofs.multiply.Statement.{statement}
 use Rattle.root_values.proofs.multiply.Tie as tie
 

@@ -5,6 +5,8 @@ use native.Mathlib.Omega.{arith}
 use mathlib.Core.Path.{sym, _∙_}
 use lib.ListN.{length}
 use lib.Seq.{length-take-le}
+use Rattle.definition.specs.Field.{fieldOf, primeField}
+use Rattle.algebra.specs.PrimeField.{laws}
 use Rattle.fractions.specs.Values.{folded, rootIn, table-place}
 use Rattle.root_values.proofs.Ready.{all-nonzero, ready-first, ready-next}
 use borrow.Author.Needs.{needs}
@@ -20,11 +22,12 @@ same-length : tie.Need-same-length
 same-length c = search needs
 
 returns : tie.Need-returns
+unfolding fieldOf primeField
 returns c =
     let s = c .before .before .before .before .before .before .before .before .before .before .before .before .before .before in
     let a = s .args in
     let t = c .before .before .all-tables in
-    ready-first (a .field) (a .pw .now) (a .table .now) (a .ac .now) (a .vg .now) (a .how) (a .k) (s .pre .1 .0) (a .js .now) (t .last .1 .1 .1 .1 .0) (c .before .before .before .before .if1 .taken) (t .ensures)
+    ready-first (fieldOf (a .field)) (a .pw .now) (a .table .now) (a .ac .now) (a .vg .now) (a .oracle) (a .k) (s .pre .1 .0) (a .js .now) (t .last .1 .1 .1 .1 .0) (c .before .before .before .before .if1 .taken) (t .ensures)
 
 all-fractions-requires : tie.Need-all-fractions-requires
 all-fractions-requires c κs =
@@ -55,6 +58,7 @@ slice-aggregate-divide-2 c =
     sym (length-take-le (length (s .args .js .now) * s .args .k) (f .last .1 .1 .1 .1 .1 .1 .1 .1 .1 .0) (omega (arith, f .kept .1 .1 .1 .1 .1 .1 .1 .1 .1 .0, s .pre .1 .1 .1 .1 .0)))
 
 divide-requires : tie.Need-divide-requires
+unfolding fieldOf primeField
 divide-requires c κs =
     let s = c .before .before .before .before .before .before .before .before .before .before .before .before .before .before .before .before .before .before .before .before in
     let a = s .args in
@@ -65,7 +69,7 @@ divide-requires c κs =
     let size′ = length-take-le (length (a .js .now) * a .k) (f .last .1 .1 .1 .1 .1 .1 .1 .1 .1 .0) room′ in
     let some : 0 < a .k = omega (arith, folded (s .pre .1 .0)) in (
       (size ∙ sym size′, omega (arith, size′, s .pre .1 .1 .1 .1 .1 .0)),
-      all-nonzero (a .field) (rootIn (a .field) (a .pw .now) (a .table .now) (a .ac .now) (a .vg .now) (a .how)) (a .k) (a .js .now) (f .last .1 .1 .1 .1 .1 .1 .1 .1 .0) (f .last .1 .1 .1 .1 .1 .1 .1 .1 .1 .0) (f .ensures) room room′ some,
+      all-nonzero (fieldOf (a .field)) (laws (a .field)) (rootIn (fieldOf (a .field)) (a .pw .now) (a .table .now) (a .ac .now) (a .vg .now) (a .oracle)) (a .k) (a .js .now) (f .last .1 .1 .1 .1 .1 .1 .1 .1 .0) (f .last .1 .1 .1 .1 .1 .1 .1 .1 .1 .0) (f .ensures) room room′ some,
     )
 
 same-length-2 : tie.Need-same-length-2
@@ -78,12 +82,13 @@ same-length-4 : tie.Need-same-length-4
 same-length-4 c = search needs
 
 returns-2 : tie.Need-returns-2
+unfolding fieldOf primeField
 returns-2 c =
     let s = c .before .before .before .before .before .before .before .before .before .before .before .before .before .before .before .before .before .before .before .before .before .before .before .before .before .before .before in
     let a = s .args in
     let f = c .before .before .before .before .before .before .before .before .before .before .before .before .before .before .all-fractions in
     let d = c .before .before .before .before .before .before .divide in
-    ready-next (a .field) (rootIn (a .field) (a .pw .now) (a .table .now) (a .ac .now) (a .vg .now) (a .how)) (a .k) (a .js .now) (f .last .1 .1 .1 .1 .1 .1 .1 .1 .0) (f .last .1 .1 .1 .1 .1 .1 .1 .1 .1 .0) (f .ensures)
+    ready-next (fieldOf (a .field)) (laws (a .field)) (rootIn (fieldOf (a .field)) (a .pw .now) (a .table .now) (a .ac .now) (a .vg .now) (a .oracle)) (a .k) (a .js .now) (f .last .1 .1 .1 .1 .1 .1 .1 .1 .0) (f .last .1 .1 .1 .1 .1 .1 .1 .1 .1 .0) (f .ensures)
     (omega (arith, f .kept .1 .1 .1 .1 .1 .1 .1 .1 .0, s .pre .1 .1 .1 .0)) (omega (arith, f .kept .1 .1 .1 .1 .1 .1 .1 .1 .1 .0, s .pre .1 .1 .1 .1 .0)) (d .last .1 .0) (d .kept .1 .0) (d .ensures)
 
 pub prepare-spec : {M : Type 1} → statement M

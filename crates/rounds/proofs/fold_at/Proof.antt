@@ -3,6 +3,7 @@ use Prim.Native.Nat.{ℕ, _^_}
 use native.Mathlib.Omega.{arith}
 use mathlib.Core.Path.{sym, ap, _∙_}
 use lib.ListN.{length}
+use Rattle.definition.specs.Field.{fieldOf, primeField}
 use Rattle.folds.specs.Halving.{exponentOf}
 use Rattle.fractions.specs.Values.{first-point, power-of, spacing}
 use Rattle.rounds.proofs.Shifts.{folded}
@@ -39,11 +40,12 @@ same-length : tie.Need-same-length
 same-length c = search needs
 
 returns : tie.Need-returns
+unfolding fieldOf primeField
 returns c =
     let s = c .before .before .before .before .before .before .before .before .before .before .before .before .before in
     let a = s .args in
     let g = c .before .before .before .before .before .before .before .before .gather in
-    folded (a .field) (a .pw .now) (a .roots .now) (a .how) (length (a .values .now)) (a .r) (a .i) (a .j) (g .last .1 .1 .1 .0) (s .pre .1 .0) (g .kept .1 .1 .1 .0) (g .ensures .passed)
+    folded (fieldOf (a .field)) (a .pw .now) (a .roots .now) (a .oracle) (length (a .values .now)) (a .r) (a .i) (a .j) (g .last .1 .1 .1 .0) (s .pre .1 .0) (g .kept .1 .1 .1 .0) (g .ensures .passed)
     (c .before .before .fold-values .ensures)
 
 pub fold-at-spec : {M : Type 1} → statement M

@@ -4,8 +4,10 @@ use mathlib.Core.Path.{_≡_, _∙_, refl}
 use mathlib.Core.Option.{some}
 use native.Mathlib.Omega.{arith}
 use lib.ListN.{length, drop}
+use Rattle.definition.specs.Field.{fieldOf, primeField}
 use Rattle.definition.specs.Polynomial.{pair}
-use Rattle.samples.specs.Samples.{sifted}
+use Rattle.algebra.specs.PrimeField.{laws}
+use Rattle.samples.specs.Samples.{distinctOrClash}
 use Rattle.samples.specs.Answers.{kept-from, kept-clash, kept-none, kept-some, room}
 use Rattle.fractions.specs.Values.{below-at}
 use Rattle.root_values.specs.Places.{places-for}
@@ -15,22 +17,22 @@ use Rattle.rounds.proofs.put_shifts.Statement.{statement}
 use Rattle.rounds.proofs.put_shifts.Tie as tie
 
 abbrev Inv-loop : tie.InvT-loop
-Inv-loop field pw roots how r shifts values₀ px₀ py₀ k₀ i₀ values px py k i =
+Inv-loop field pw roots oracle r shifts values₀ px₀ py₀ k₀ i₀ values px py k i =
     (i ≤ length shifts)
     × ((k ≤ length px₀)
     × ((length px₀ ≤ k + (length shifts - i))
     × ((length values ≡ length values₀)
     × ((length px ≡ length px₀)
     × ((length py ≡ length py₀)
-    × (some (pair (drop k px) (drop k py)) ≡ sifted field (numbered (sampleBy field pw roots how (length values₀) r) i (drop i shifts))))))))
+    × (some (pair (drop k px) (drop k py)) ≡ distinctOrClash (fieldOf field) (numbered (sampleBy (fieldOf field) pw roots oracle (length values₀) r) i (drop i shifts))))))))
 
 abbrev μ-loop : tie.MeasureT-loop
-μ-loop field pw roots how r shifts values₀ px₀ py₀ k₀ i₀ values px py k i = i
+μ-loop field pw roots oracle r shifts values₀ px₀ py₀ k₀ i₀ values px py k i = i
 
 loop-holds : tie.Need-loop-holds Inv-loop μ-loop
 loop-holds c =
     let a = c .before .before .before .before .before .before .args in
-    (omega arith, (omega arith, (omega arith, (refl, (refl, (refl, shifts-end (a .field) (sampleBy (a .field) (a .pw .now) (a .roots .now) (a .how) (length (a .values .now)) (a .r)) (a .shifts .now) (a .px .now) (a .py .now) (length (a .px .now)) refl))))))
+    (omega arith, (omega arith, (omega arith, (refl, (refl, (refl, shifts-end (fieldOf (a .field)) (sampleBy (fieldOf (a .field)) (a .pw .now) (a .roots .now) (a .oracle) (length (a .values .now)) (a .r)) (a .shifts .now) (a .px .now) (a .py .now) (length (a .px .now)) refl))))))
 
 sub-i : tie.Need-sub-i Inv-loop μ-loop
 sub-i c = omega arith
@@ -76,19 +78,21 @@ same-length-3 : tie.Need-same-length-3 Inv-loop μ-loop
 same-length-3 c = omega arith
 
 returns : tie.Need-returns Inv-loop μ-loop
+unfolding fieldOf primeField
 returns c =
     let l = c .before .before .before .before .before .before .before .before .before .before .before .before .before .before .before .before .loop in
     let a = c .before .before .before .before .before .before .before .before .before .before .before .before .before .before .before .before .before .before .before .before .before .before .before .args in
     let n = l .inv .1 .1 .1 in
     let p = c .before .before .before .before .before .before .before .before .before .before .before .sample-at in
-    let e = sample-for (a .field) (a .pw .now) (a .roots .now) (a .how) (a .r) (length (l .values)) (l .i - 1) (p .ensures) (n .0) (c .before .before .before .before .before .before .before .before .before .before .before .before .before .wide .ensures) in
-    let t = shifts-turn (a .field) (sampleBy (a .field) (a .pw .now) (a .roots .now) (a .how) (length (a .values .now)) (a .r)) (a .shifts .now) (l .i) (c .before .before .before .before .before .before .before .before .before .before .before .before .before .before .before .loop-test .taken) (l .inv .0) (n .1 .1 .1) e (c .before .before .before .before .before .before .push .ensures .0) in
-    (kept-none _ _ (shifts-clash (a .field) (sampleBy (a .field) (a .pw .now) (a .roots .now) (a .how) (length (a .values .now)) (a .r)) (a .shifts .now) (l .i - 1) (kept-clash _ _ (c .enum-told .given .1) t)), tt)
+    let e = sample-for (fieldOf (a .field)) (a .pw .now) (a .roots .now) (a .oracle) (a .r) (length (l .values)) (l .i - 1) (p .ensures) (n .0) (c .before .before .before .before .before .before .before .before .before .before .before .before .before .wide .ensures) in
+    let t = shifts-turn (fieldOf (a .field)) (sampleBy (fieldOf (a .field)) (a .pw .now) (a .roots .now) (a .oracle) (length (a .values .now)) (a .r)) (a .shifts .now) (laws (a .field)) (l .i) (c .before .before .before .before .before .before .before .before .before .before .before .before .before .before .before .loop-test .taken) (l .inv .0) (n .1 .1 .1) e (c .before .before .before .before .before .before .push .ensures .0) in
+    (kept-none _ _ (shifts-clash (fieldOf (a .field)) (sampleBy (fieldOf (a .field)) (a .pw .now) (a .roots .now) (a .oracle) (length (a .values .now)) (a .r)) (a .shifts .now) (l .i - 1) (kept-clash _ _ (c .enum-told .given .1) t)), tt)
 
 loop-less : tie.Need-loop-less Inv-loop μ-loop
 loop-less c = omega arith
 
 loop-again : tie.Need-loop-again Inv-loop μ-loop
+unfolding fieldOf primeField
 loop-again c =
     let l = c .before .before .before .before .before .before .before .before .before .before .before .before .before .before .before .before .before .loop in
     let a = c .before .before .before .before .before .before .before .before .before .before .before .before .before .before .before .before .before .before .before .before .before .before .before .before .args in
@@ -96,7 +100,7 @@ loop-again c =
     let p = c .before .before .before .before .before .before .before .before .before .before .before .before .sample-at in
     let u = c .before .before .before .before .before .before .before .push in
     let h = c .before .before .before .before .before .before .before .before .before .before .before .before .before .before .before .before .loop-test .taken in
-    let e = sample-for (a .field) (a .pw .now) (a .roots .now) (a .how) (a .r) (length (l .values)) (l .i - 1) (p .ensures) (n .0) (c .before .before .before .before .before .before .before .before .before .before .before .before .before .before .wide .ensures) in
+    let e = sample-for (fieldOf (a .field)) (a .pw .now) (a .roots .now) (a .oracle) (a .r) (length (l .values)) (l .i - 1) (p .ensures) (n .0) (c .before .before .before .before .before .before .before .before .before .before .before .before .before .before .wide .ensures) in
     let f = c .before .f .given in
     let w = room (l .k) 1 (f .1) (u .ensures .1) in (
       omega (arith, l .inv .0),
@@ -110,7 +114,7 @@ loop-again c =
               u .kept .0 ∙ n .1 .0,
               (
                 u .kept .1 .0 ∙ n .1 .1 .0,
-                kept-from (u .last .0) (u .last .1 .0) (f .1) (shifts-turn (a .field) (sampleBy (a .field) (a .pw .now) (a .roots .now) (a .how) (length (a .values .now)) (a .r)) (a .shifts .now) (l .i) h (l .inv .0) (n .1 .1 .1) e (u .ensures .0)),
+                kept-from (u .last .0) (u .last .1 .0) (f .1) (shifts-turn (fieldOf (a .field)) (sampleBy (fieldOf (a .field)) (a .pw .now) (a .roots .now) (a .oracle) (length (a .values .now)) (a .r)) (a .shifts .now) (laws (a .field)) (l .i) h (l .inv .0) (n .1 .1 .1) e (u .ensures .0)),
               ),
             ),
           ),

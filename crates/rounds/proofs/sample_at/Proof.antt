@@ -1,6 +1,7 @@
 -- `rounds::sample_at` meets its contract. Assumes nothing.
 use native.Mathlib.Omega.{arith}
 use lib.ListN.{length}
+use Rattle.definition.specs.Field.{fieldOf, primeField}
 use Rattle.fractions.specs.Values.{first-point, folded}
 use Rattle.rounds.proofs.Shifts.{sampled}
 use borrow.Author.Needs.{needs}
@@ -20,9 +21,10 @@ same-length : tie.Need-same-length
 same-length c = search needs
 
 returns : tie.Need-returns
+unfolding fieldOf primeField
 returns c =
     let a = c .before .before .before .before .before .before .before .before .args in
-    sampled (a .field) (a .pw .now) (a .roots .now) (a .how) (length (a .values .now)) (a .r) (a .i) (a .j) (c .before .before .before .before .shift-point .ensures .0) (c .before .before .fold-at .ensures)
+    sampled (fieldOf (a .field)) (a .pw .now) (a .roots .now) (a .oracle) (length (a .values .now)) (a .r) (a .i) (a .j) (c .before .before .before .before .shift-point .ensures .0) (c .before .before .fold-at .ensures)
 
 pub sample-at-spec : {M : Type 1} → statement M
 sample-at-spec = tie.close (tie.spec shift-point-requires fold-at-requires same-length returns)

@@ -1,11 +1,15 @@
 -- `samples::push` meets its contract. Assumes nothing.
+use mathlib.Core.Path.{ap}
 use native.Mathlib.Omega.{arith}
+use lib.Dec.{eqb}
+use borrow.Author.Tests.{eq-eqb, ne-eqb}
+use Rattle.samples.specs.Samples.{foundOf}
 use Rattle.samples.proofs.Steps.{put-same, put-clash, put-new}
 use borrow.Author.Needs.{needs}
 use Rattle.samples.proofs.push.Statement.{statement}
 use Rattle.samples.proofs.push.Tie as tie
 
-look-requires : tie.Need-look-requires
+look-requires : tie.Need-find-requires
 look-requires c κs = search needs
 
 enum-known-f : tie.Need-enum-known-f
@@ -18,9 +22,10 @@ same-length-2 : tie.Need-same-length-2
 same-length-2 c = search needs
 
 returns : tie.Need-returns
+unfolding foundOf
 returns c =
     let a = c .before .before .before .before .before .before .before .before .before .args in
-    (put-same (a .xs .now) (a .ys .now) (a .k) (a .x) (a .y) (c .before .before .before .before .look .ensures) (c .before .before .f .given .1) (c .if1 .taken), (omega arith, omega arith))
+    (put-same eqb 0 (a .xs .now) (a .ys .now) (a .k) (a .x) (a .y) (c .before .before .before .before .find .ensures) (ap foundOf (c .before .before .f .given .1)) (eq-eqb _ _ (c .if1 .taken)), (omega arith, omega arith))
 
 same-length-3 : tie.Need-same-length-3
 same-length-3 c = search needs
@@ -29,9 +34,10 @@ same-length-4 : tie.Need-same-length-4
 same-length-4 c = search needs
 
 returns-2 : tie.Need-returns-2
+unfolding foundOf
 returns-2 c =
     let a = c .before .before .before .before .before .before .before .before .before .args in
-    (put-clash (a .xs .now) (a .ys .now) (a .k) (a .x) (a .y) (c .before .before .before .before .look .ensures) (c .before .before .f .given .1) (c .if1 .left), tt)
+    (put-clash eqb 0 (a .xs .now) (a .ys .now) (a .k) (a .x) (a .y) (c .before .before .before .before .find .ensures) (ap foundOf (c .before .before .f .given .1)) (ne-eqb _ _ (c .if1 .left)), tt)
 
 enum-told : tie.Need-enum-told
 enum-told c = search needs
@@ -58,9 +64,10 @@ same-length-6 : tie.Need-same-length-6
 same-length-6 c = search needs
 
 returns-3 : tie.Need-returns-3
+unfolding foundOf
 returns-3 c =
     let a = c .before .before .before .before .before .before .before .args in
-    (put-new (a .xs .now) (a .ys .now) (a .k) (a .x) (a .y) (c .before .before .look .ensures) (c .enum-told .given .1) (omega arith) (omega arith) (omega arith), (omega arith, omega arith))
+    (put-new eqb 0 (a .xs .now) (a .ys .now) (a .k) (a .x) (a .y) (c .before .before .find .ensures) (ap foundOf (c .enum-told .given .1)) (omega arith) (omega arith) (omega arith), (omega arith, omega arith))
 
 pub push-spec : {M : Type 1} → statement M
 push-spec =

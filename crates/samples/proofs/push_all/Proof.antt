@@ -5,8 +5,10 @@ use mathlib.Core.Option.{some}
 use Prim.Native.Nat.{ℕ, _+_, _-_, _≤_}
 use native.Mathlib.Omega.{arith}
 use lib.ListN.{length, drop}
+use Rattle.definition.specs.Field.{fieldOf, primeField}
 use Rattle.definition.specs.Polynomial.{Sample, pair}
-use Rattle.samples.specs.Samples.{sifted}
+use Rattle.algebra.specs.PrimeField.{laws}
+use Rattle.samples.specs.Samples.{distinctOrClash}
 use Rattle.samples.specs.Answers.{kept-from, kept-clash, kept-none, kept-some, room}
 use Rattle.samples.proofs.Steps.{walk-end, walk-turn, walk-clash}
 use Rattle.samples.proofs.push_all.Statement.{statement}
@@ -20,8 +22,8 @@ Inv-loop xs ys px₀ py₀ from k₀ i₀ px py k i =
     × ((i ≤ length xs)
     × ((length px ≡ length px₀)
     × ((length py ≡ length px₀)
-    × ((field : ℕ) (ps : List (Sample ℕ)) → some (pair (drop from px₀) (drop from py₀)) ≡ sifted field ps →
-    some (pair (drop k px) (drop k py)) ≡ sifted field (pair (drop i xs) (drop i ys) ++ ps)))))))
+    × ((field : ℕ) (ps : List (Sample ℕ)) → some (pair (drop from px₀) (drop from py₀)) ≡ distinctOrClash (fieldOf field) ps →
+    some (pair (drop k px) (drop k py)) ≡ distinctOrClash (fieldOf field) (pair (drop i xs) (drop i ys) ++ ps)))))))
 
 abbrev μ-loop : tie.MeasureT-loop
 μ-loop xs ys px₀ py₀ from k₀ i₀ px py k i = i
@@ -29,7 +31,7 @@ abbrev μ-loop : tie.MeasureT-loop
 loop-holds : tie.Need-loop-holds Inv-loop μ-loop
 loop-holds c =
     let a = c .before .before .before .before .args in
-    (omega arith, (omega arith, (omega arith, (omega arith, (refl, (omega arith, λ field ps h. h ∙ ap (sifted field) (walk-end field (a .xs .now) (a .ys .now) ps)))))))
+    (omega arith, (omega arith, (omega arith, (omega arith, (refl, (omega arith, λ field ps h. h ∙ ap (distinctOrClash (fieldOf field)) (walk-end (fieldOf field) (a .xs .now) (a .ys .now) ps)))))))
 
 sub-i : tie.Need-sub-i Inv-loop μ-loop
 sub-i c = omega arith
@@ -62,13 +64,14 @@ same-length-2 : tie.Need-same-length-2 Inv-loop μ-loop
 same-length-2 c = omega arith
 
 returns : tie.Need-returns Inv-loop μ-loop
+unfolding fieldOf primeField
 returns c =
     let u = c .before .before .before .before .before .before in
     let l = u .before .before .before .before .before .before .loop in
     let a = u .before .before .before .before .before .before .before .before .before .before .before .args in
     let n = l .inv .1 .1 .1 .1 .1 .1 in (
-      λ field ps h. kept-none _ _ (walk-clash field (a .xs .now) (a .ys .now) ps (l .i - 1) (omega arith) (kept-clash _ _ (c .enum-told .given .1)
-          (walk-turn field (a .xs .now) (a .ys .now) ps (l .i) (omega arith) (omega arith) (omega arith) (n field ps h) (u .push .ensures .0)))),
+      λ field ps h. kept-none _ _ (walk-clash (fieldOf field) (a .xs .now) (a .ys .now) ps (l .i - 1) (omega arith) (kept-clash _ _ (c .enum-told .given .1)
+          (walk-turn (fieldOf field) (a .xs .now) (a .ys .now) ps (laws field) (l .i) (omega arith) (omega arith) (omega arith) (n field ps h) (u .push .ensures .0)))),
       tt,
     )
 
@@ -76,6 +79,7 @@ loop-less : tie.Need-loop-less Inv-loop μ-loop
 loop-less c = omega arith
 
 loop-again : tie.Need-loop-again Inv-loop μ-loop
+unfolding fieldOf primeField
 loop-again c =
     let u = c .before .before .before .before .before .before .before in
     let l = u .before .before .before .before .before .before .loop in
@@ -94,7 +98,7 @@ loop-again c =
               u .push .kept .0 ∙ l .inv .1 .1 .1 .1 .0,
               (
                 u .push .kept .1 .0 ∙ l .inv .1 .1 .1 .1 .1 .0,
-                λ field ps h. kept-from (u .push .last .0) (u .push .last .1 .0) (s .1) (walk-turn field (a .xs .now) (a .ys .now) ps (l .i) (omega arith) (omega arith) (omega arith) (n field ps h) (u .push .ensures .0)),
+                λ field ps h. kept-from (u .push .last .0) (u .push .last .1 .0) (s .1) (walk-turn (fieldOf field) (a .xs .now) (a .ys .now) ps (laws field) (l .i) (omega arith) (omega arith) (omega arith) (n field ps h) (u .push .ensures .0)),
               ),
             ),
           ),

@@ -1,6 +1,6 @@
 -- `sheet::broken` meets its contract: part after part, in the order of the tests. Assumes nothing.
 use borrow.Author.Needs.{needs}
-use Rattle.completeness.specs.SheetRules.{long-enough}
+use Rattle.layouts.specs.SheetRules.{long-enough}
 use Rattle.edition.specs.Meaning.{editionOf}
 use Rattle.outcome.specs.Answers.{at-place, nowhere}
 use Rattle.outcome.specs.Meaning.{placeOf}

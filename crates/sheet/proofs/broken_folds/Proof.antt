@@ -6,8 +6,9 @@ use mathlib.Core.Path.{refl, sym, _∙_}
 use Rattle.definition.specs.Sheet.{edition2}
 use Rattle.edition.specs.Meaning.{editionOf}
 use Rattle.outcome.specs.Meaning.{placeOf}
+use Rattle.sizes.proofs.DegreeLaws.{degree-first}
 use Rattle.sheet.proofs.FirstBroken.{broken-here, broken-next, broken-none}
-use Rattle.sheet.proofs.FoldLaws.{Tested, degree-first, first-fold, next-fold}
+use Rattle.sheet.proofs.FoldLaws.{Tested, first-fold, next-fold}
 use Rattle.sheet.proofs.RuleLaws.{failed, held}
 use Rattle.sheet.proofs.broken_folds.Statement.{statement}
 use Rattle.sheet.proofs.broken_folds.Tie as tie

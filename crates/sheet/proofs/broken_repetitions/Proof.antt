@@ -3,13 +3,13 @@
 use Prim.Native.Nat.{_-_, _≤_}
 use native.Mathlib.Omega.{arith}
 use mathlib.Core.Path.{_≡_, refl, sym, _∙_}
-use Rattle.completeness.specs.SheetRules.{long-enough}
+use Rattle.layouts.specs.SheetRules.{long-enough}
 use Rattle.definition.specs.Sheet.{repetitionsRule}
 use Rattle.edition.specs.Meaning.{editionOf}
 use Rattle.outcome.specs.Meaning.{placeOf}
-use Rattle.sheet.specs.Rules.{DegreeAt}
+use Rattle.sizes.specs.Degrees.{DegreeAt}
 use Rattle.sheet.proofs.FirstBroken.{brokenFrom, broken-here, broken-next, broken-none}
-use Rattle.sheet.proofs.FoldLaws.{degree-first, fewer-folds}
+use Rattle.sizes.proofs.DegreeLaws.{degree-first, fewer-folds}
 use Rattle.sheet.proofs.RuleLaws.{failed, held}
 use Rattle.sheet.proofs.broken_repetitions.Statement.{statement}
 use Rattle.sheet.proofs.broken_repetitions.Tie as tie

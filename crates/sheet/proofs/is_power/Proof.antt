@@ -1,6 +1,6 @@
 -- `sheet::is_power` meets its contract. Up to 4096 the ones count decides, and above that nothing is a power of the definition. Assumes nothing.
 use mathlib.Core.Path.{sym}
-use Rattle.sheet.specs.OneBit.{powerOfTwo-large, powerOfTwo-ones}
+use Rattle.sizes.specs.OneBit.{powerOfTwo-large, powerOfTwo-ones}
 use Rattle.sheet.proofs.is_power.Statement.{statement}
 use Rattle.sheet.proofs.is_power.Tie as tie
 

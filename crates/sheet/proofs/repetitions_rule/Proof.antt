@@ -1,7 +1,7 @@
 -- `sheet::repetitions_rule` meets its contract. One law for each exit: past M, out of 1 to 48, at M, below M. Assumes nothing.
 use native.Mathlib.Omega.{arith}
 use borrow.Author.Needs.{needs}
-use Rattle.completeness.specs.SheetRules.{between-true}
+use Rattle.layouts.specs.SheetRules.{between-true}
 use Rattle.sheet.proofs.RuleLaws.{failed, held, past-last, out-of-range, at-last, before-last, out-coins-small}
 use Rattle.sheet.proofs.repetitions_rule.Statement.{statement}
 use Rattle.sheet.proofs.repetitions_rule.Tie as tie

@@ -1,7 +1,7 @@
 -- `sheet::size_rule` meets its contract. Each exit is the first part of the rule that fails. The size that is divided by is at least 4. Assumes nothing.
 use native.Mathlib.Omega.{arith}
 use borrow.Author.Needs.{needs}
-use Rattle.completeness.specs.SheetRules.{between-true}
+use Rattle.layouts.specs.SheetRules.{between-true}
 use Rattle.definition.specs.Sheet.{sizeRule}
 use Rattle.sheet.proofs.RuleLaws.{failed, held}
 use Rattle.sheet.proofs.size_rule.Statement.{statement}

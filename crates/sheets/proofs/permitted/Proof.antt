@@ -4,7 +4,7 @@ use native.Mathlib.Omega.{arith}
 use mathlib.Core.List.{List}
 use mathlib.Core.Logic.{⊎-elim}
 use mathlib.Core.Path.{sym, subst}
-use Rattle.completeness.specs.LoadAllowed.{Kept}
+use Rattle.layouts.specs.SheetByWord.{Kept}
 use Rattle.sheets.proofs.RuleLaws.{Tried, all-tried, none-tried, one-left, one-taken}
 use Rattle.sheets.proofs.permitted.Statement.{statement}
 use Rattle.sheets.proofs.permitted.Tie as tie

@@ -13,8 +13,8 @@ use Rattle.definition.specs.Lists.{firstTrue}
 use Rattle.definition.specs.Block.{fileBlocks, streamOf, wrongChecks}
 use Rattle.outcome.specs.declared.Found.the-variants.{At, Nothing}
 use Rattle.outcome.specs.Meaning.{placeOf}
-use Rattle.stream.specs.Overwriting.{overwrite, overwrite-before, overwrite-front}
-use Rattle.stream.specs.FileWords.{blockWords, block-words-length, blocks-count, stream-next}
+use Rattle.list_laws.specs.Overwriting.{overwrite, overwrite-before, overwrite-front}
+use Rattle.layouts.specs.FileWords.{blockWords, block-words-length, blocks-count, stream-next}
 use Rattle.stream.specs.Checks.{rightCheck, wrong-here, wrong-later, wrong-nowhere}
 use Rattle.stream.specs.Loaded.{Loaded}
 use Rattle.stream.proofs.load.Statement.{statement}

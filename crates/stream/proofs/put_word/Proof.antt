@@ -1,7 +1,7 @@
 -- `stream::put_word` meets its contract: four stores (`word-stored`).
 use native.Mathlib.Omega.{arith}
 use lib.ListN.{length-set}
-use Rattle.stream.specs.Sealing.{word-stored}
+use Rattle.stream.specs.WrittenBlocks.{word-stored}
 use borrow.Author.Needs.{needs}
 use Rattle.stream.proofs.put_word.Statement.{statement}
 use Rattle.stream.proofs.put_word.Tie as tie

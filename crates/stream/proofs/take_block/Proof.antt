@@ -7,8 +7,8 @@ use lib.Dec.{eqb, lit<}
 use lib.ListN.{length, getD, take, length-set}
 use lib.Seq.{take-all}
 use Rattle.definition.specs.Block.{checkWord, fileBlocks}
-use Rattle.stream.specs.Overwriting.{overwrite, overwrite-none, overwrite-next}
-use Rattle.stream.specs.FileWords.{wordAt, blockWords, block-words-length, block-words-at, block-word}
+use Rattle.list_laws.specs.Overwriting.{overwrite, overwrite-none, overwrite-next}
+use Rattle.layouts.specs.FileWords.{wordAt, blockWords, block-words-length, block-words-at, block-word}
 use Rattle.stream.specs.Checks.{rightCheck, Summed, summed-start, summed-next, summed-end}
 use Rattle.stream.proofs.take_block.Statement.{statement}
 use Rattle.stream.proofs.take_block.Tie as tie

@@ -1,6 +1,6 @@
 -- `stream::word` meets its contract: the sum of the four bytes with their weights is the word (`word-sum`).
 use native.Mathlib.Omega.{arith}
-use Rattle.stream.specs.FileWords.{word-sum}
+use Rattle.layouts.specs.FileWords.{word-sum}
 use borrow.Author.Needs.{needs}
 use Rattle.stream.proofs.word.Statement.{statement}
 use Rattle.stream.proofs.word.Tie as tie

@@ -1,6 +1,5 @@
 -- `sums::high_half` meets its contract. Assumes nothing.
-use native.Mathlib.Omega.{arith}
-use mathlib.Core.Path.{_≡_, refl}
+use mathlib.Core.Path.{refl}
 use borrow.Author.Needs.{needs}
 use Rattle.field.proofs.Modular.{product-fits}
 use Rattle.sums.proofs.Halves.{half-small}

@@ -1,11 +1,10 @@
 -- `sums::residues` meets its contract. Assumes nothing.
-use Prim.Native.Nat.{ℕ, suc, _+_, _-_, _*_, _≤_, _<_}
+use Prim.Native.Nat.{ℕ, _-_, _*_, _≤_}
 use native.Mathlib.Omega.{arith}
-use mathlib.Core.Path.{_≡_, refl, sym, ap, _∙_, subst}
-use lib.ListN.{length, getD, drop, set, length-set}
-use borrow.Author.Needs.{needs}
+use mathlib.Core.Path.{ap, _∙_}
+use lib.ListN.{length}
 use Rattle.definition.specs.Field.{fieldOf}
-use Rattle.domain.specs.Filled.{Filled, filled-first, filled-next}
+use Rattle.list_laws.specs.Filled.{Filled, filled-first, filled-next}
 use Rattle.sums.specs.AtRoots.{everyNth}
 use Rattle.sums.specs.Sums.{products}
 use Rattle.sums.proofs.residues.Statement.{statement}

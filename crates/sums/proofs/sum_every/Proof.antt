@@ -4,7 +4,7 @@ use native.Mathlib.Omega.{arith}
 use mathlib.Core.Path.{refl}
 use lib.ListN.{length}
 use borrow.Author.Needs.{needs}
-use Rattle.definition.specs.Field.{primeField, fieldOf}
+use Rattle.definition.specs.Field.{fieldOf}
 use Rattle.sums.specs.AtRoots.{everyNth}
 use Rattle.sums.proofs.Halves.{Summed, summed-small, summed-all, every-end, every-turn, every-place, every-few}
 use Rattle.sums.proofs.sum_every.Statement.{statement}

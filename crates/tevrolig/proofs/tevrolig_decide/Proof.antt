@@ -1,7 +1,7 @@
 -- `tevrolig::tevrolig_decide` meets its contract. Assumes nothing.
 use borrow.Author.Needs.{needs}
 use Rattle.edition.specs.Meaning.{editionOf}
-use Rattle.tevrolig.proofs.Numbered.{judged-numbers}
+use Rattle.tevrolig.proofs.Numbered.{verdict-numbers}
 use Rattle.tevrolig.proofs.tevrolig_decide.Statement.{statement}
 use Rattle.tevrolig.proofs.tevrolig_decide.Tie as tie
 
@@ -13,7 +13,7 @@ write-verdict-requires c κs = search needs
 
 returns : tie.Need-returns
 unfolding editionOf
-returns c = judged-numbers (c .write-verdict .ensures) (c .before .before .before .decide-in .ensures)
+returns c = verdict-numbers (c .write-verdict .ensures) (c .before .before .before .decide-in .ensures)
 
 pub tevrolig-decide-spec : {M : Type 1} → statement M
 tevrolig-decide-spec = tie.close (tie.spec decide-in-requires write-verdict-requires returns)

@@ -1,6 +1,6 @@
 -- `tevrolig::tevrolig_encode` meets its contract. Assumes nothing.
 use borrow.Author.Needs.{needs}
-use Rattle.tevrolig.proofs.Numbered.{order-written}
+use Rattle.tevrolig.proofs.Numbered.{answer-written}
 use Rattle.tevrolig.proofs.tevrolig_encode.Statement.{statement}
 use Rattle.tevrolig.proofs.tevrolig_encode.Tie as tie
 
@@ -14,7 +14,7 @@ same-length : tie.Need-same-length
 same-length c = search needs
 
 returns : tie.Need-returns
-returns c = order-written (c .write-value .ensures) (c .before .before .before .before .encode .ensures)
+returns c = answer-written (c .write-value .ensures) (c .before .before .before .before .encode .ensures)
 
 pub tevrolig-encode-spec : {M : Type 1} → statement M
 tevrolig-encode-spec = tie.close (tie.spec encode-requires write-value-requires same-length returns)

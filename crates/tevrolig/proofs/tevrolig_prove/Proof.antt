@@ -1,6 +1,6 @@
 -- `tevrolig::tevrolig_prove` meets its contract. Assumes nothing.
 use borrow.Author.Needs.{needs}
-use Rattle.tevrolig.proofs.Numbered.{order-written}
+use Rattle.tevrolig.proofs.Numbered.{answer-written}
 use Rattle.tevrolig.proofs.tevrolig_prove.Statement.{statement}
 use Rattle.tevrolig.proofs.tevrolig_prove.Tie as tie
 
@@ -14,7 +14,7 @@ same-length : tie.Need-same-length
 same-length c = search needs
 
 returns : tie.Need-returns
-returns c = order-written (c .write-value .ensures) (c .before .before .before .before .prove .ensures)
+returns c = answer-written (c .write-value .ensures) (c .before .before .before .before .prove .ensures)
 
 pub tevrolig-prove-spec : {M : Type 1} → statement M
 tevrolig-prove-spec = tie.close (tie.spec prove-requires write-value-requires same-length returns)

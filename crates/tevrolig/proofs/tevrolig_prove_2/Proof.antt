@@ -1,7 +1,7 @@
 -- `tevrolig::tevrolig_prove_2` meets its contract. Assumes nothing.
 use borrow.Author.Needs.{needs}
 use Rattle.edition.specs.Meaning.{editionOf}
-use Rattle.tevrolig.proofs.Numbered.{order-written}
+use Rattle.tevrolig.proofs.Numbered.{answer-written}
 use Rattle.tevrolig.proofs.tevrolig_prove_2.Statement.{statement}
 use Rattle.tevrolig.proofs.tevrolig_prove_2.Tie as tie
 
@@ -16,7 +16,7 @@ same-length c = search needs
 
 returns : tie.Need-returns
 unfolding editionOf
-returns c = order-written (c .write-value .ensures) (c .before .before .before .before .prove-in .ensures)
+returns c = answer-written (c .write-value .ensures) (c .before .before .before .before .prove-in .ensures)
 
 pub tevrolig-prove-2-spec : {M : Type 1} → statement M
 tevrolig-prove-2-spec = tie.close (tie.spec prove-in-requires write-value-requires same-length returns)

@@ -1,6 +1,6 @@
 -- `tevrolig::tevrolig_to_edition_1` meets its contract. Assumes nothing.
 use borrow.Author.Needs.{needs}
-use Rattle.tevrolig.proofs.Numbered.{order-written}
+use Rattle.tevrolig.proofs.Numbered.{answer-written}
 use Rattle.tevrolig.proofs.tevrolig_to_edition_1.Statement.{statement}
 use Rattle.tevrolig.proofs.tevrolig_to_edition_1.Tie as tie
 
@@ -14,7 +14,7 @@ same-length : tie.Need-same-length
 same-length c = search needs
 
 returns : tie.Need-returns
-returns c = order-written (c .write-value .ensures) (c .before .before .before .before .to-edition-1 .ensures)
+returns c = answer-written (c .write-value .ensures) (c .before .before .before .before .to-edition-1 .ensures)
 
 pub tevrolig-to-edition-1-spec : {M : Type 1} → statement M
 tevrolig-to-edition-1-spec = tie.close (tie.spec to-edition-1-requires write-value-requires same-length returns)

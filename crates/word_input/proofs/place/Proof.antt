@@ -4,7 +4,7 @@ use mathlib.Core.Path.{_≡_, refl, sym, ap, _∙_}
 use native.Mathlib.Omega.{arith}
 use lib.ListN.{length, getD, set, take, length-set}
 use lib.Seq.{take-all}
-use Rattle.stream.specs.Overwriting.{overwrite, overwrite-next, overwrite-none}
+use Rattle.list_laws.specs.Overwriting.{overwrite, overwrite-next, overwrite-none}
 use Rattle.word_input.specs.Input.{wordsOf}
 use Rattle.word_input.specs.WordLaws.{words-at, words-length}
 use Rattle.word_input.proofs.place.Statement.{statement}

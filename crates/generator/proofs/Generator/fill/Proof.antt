@@ -1,11 +1,10 @@
 -- `Generator::fill` meets its contract: after i turns the first i places hold the first i draws. Assumes nothing.
-use Prim.Native.Nat.{ℕ, suc, _+_, _-_, _≤_}
+use Prim.Native.Nat.{ℕ, _-_, _≤_}
 use mathlib.Core.Path.{_≡_, refl, _∙_, sym, ap}
 use mathlib.Core.List.{List}
 use native.Mathlib.Omega.{arith}
 use lib.ListN.{length, take, length-set}
 use lib.Seq.{take-all}
-use borrow.Author.Needs.{needs}
 use Rattle.definition.specs.Load.{Drawn}
 use Rattle.generator.specs.Draws.{drawMany, many-none, many-next}
 use Rattle.generator.proofs.Generator.fill.Statement.{statement}

@@ -1,0 +1,7 @@
+pub mod PrefixLaws
+pub mod Inside
+pub mod ReadsGrow
+pub mod Outs
+pub mod Divisors
+pub mod Steps
+pub mod Ready

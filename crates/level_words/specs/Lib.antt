@@ -1,0 +1,4 @@
+pub mod State
+pub mod Inside
+pub mod Words
+pub mod Reads

@@ -1,0 +1,2 @@
+pub mod DegreeLaws
+pub mod SizeLaws
