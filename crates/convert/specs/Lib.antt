@@ -1,3 +1,2 @@
 -- The converter: the words to write, and what its tests say of the definition's result.
-pub mod Begun
 pub mod Stages

@@ -101,7 +101,7 @@ module _ (h : Sheet) (w pw ac vg : List ℕ) (st : State) (reads r : ℕ) (oracl
       Apart (fieldOf (getD w 0 0)) (drop j px)
   apart-ready px py j ej a ly s = samples-apart h w pw ac vg st oracle ok more s r px py j ly (subst (NextSamples h w pw ac vg st r oracle) (sym (kept-from px py ej refl)) a)
 
-  module _ (j words : ℕ) (how′ : Oracle) (eh : how′ ≡ nextOracle h st (oracle .scale) words) (px py pa pv : List ℕ) (ej : g ≡ From j)
+  module _ (j words : ℕ) (oracle′ : Oracle) (eh : oracle′ ≡ nextOracle h st (oracle .scale) words) (px py pa pv : List ℕ) (ej : g ≡ From j)
       (a : NextSamples h w pw ac vg st r oracle (kept g px py)) (la : length pa ≡ 66) (lv : length pv ≡ 132) (few : Columned (nextFold h st) words)
       (given : Correcting (getD w 0 0) (pair (drop j px) (drop j py)) (nextCombination h w st) words pa pv) where
     after : Invariant h w (length pw) (length pa) (length pv) (nextState h st) (nextOracle h st (oracle .scale) words)
@@ -110,18 +110,18 @@ module _ (h : Sheet) (w pw ac vg : List ℕ) (st : State) (reads r : ℕ) (oracl
     found : NextSamples h w pw ac vg st r oracle (some (pair (drop j px) (drop j py)))
     found = subst (NextSamples h w pw ac vg st r oracle) (sym (kept-from px py ej refl)) a
 
-    pub next-ready : length py ≡ length px → Represented h w pw ac vg st oracle → Invariant h w (length pw) (length pa) (length pv) next how′ × Represented h w pw pa pv next how′
+    pub next-ready : length py ≡ length px → Represented h w pw ac vg st oracle → Invariant h w (length pw) (length pa) (length pv) next oracle′ × Represented h w pw pa pv next oracle′
     next-ready ly s = (
-      subst (λ (x : State). Invariant h w (length pw) (length pa) (length pv) x how′) (sym en)
+      subst (λ (x : State). Invariant h w (length pw) (length pa) (length pv) x oracle′) (sym en)
           (subst (Invariant h w (length pw) (length pa) (length pv) (nextState h st)) (sym eh) after),
-      subst (λ (x : State). Represented h w pw pa pv x how′) (sym en)
+      subst (λ (x : State). Represented h w pw pa pv x oracle′) (sym en)
           (subst (Represented h w pw pa pv (nextState h st)) (sym eh) (represented-next h w pw ac vg st reads r oracle ok more px py pa pv j words after found (few .0) given ly s)),
     )
 
-    pub next-decided : {v : Verdict} {now r′ : ℕ} → now ≡ readsAfter h st reads (nextShifts h w st) → r′ ≡ nextFoldCoin h w st → Decided h w pw pa pv next now r′ how′ v →
+    pub next-decided : {v : Verdict} {now r′ : ℕ} → now ≡ readsAfter h st reads (nextShifts h w st) → r′ ≡ nextFoldCoin h w st → Decided h w pw pa pv next now r′ oracle′ v →
         Decided h w pw ac vg st reads r oracle v
     next-decided {v} {now} {r′} ew er d =
         next-step h w pw ac vg st reads r oracle ok more px py pa pv j words after found (few .0) given
         (subst (λ (n : ℕ). Decided h w pw pa pv (nextState h st) n (nextFoldCoin h w st) (nextOracle h st (oracle .scale) words) v) ew
         (subst (λ (y : ℕ). Decided h w pw pa pv (nextState h st) now y (nextOracle h st (oracle .scale) words) v) er
-        (subst (λ (x : Oracle). Decided h w pw pa pv (nextState h st) now r′ x v) eh (subst (λ (x : State). Decided h w pw pa pv x now r′ how′ v) en d))))
+        (subst (λ (x : Oracle). Decided h w pw pa pv (nextState h st) now r′ x v) eh (subst (λ (x : State). Decided h w pw pa pv x now r′ oracle′ v) en d))))

@@ -23,8 +23,8 @@ use Rattle.list_laws.specs.Lists.{range-length}
 use Rattle.folds.specs.Halving.{halving}
 use Rattle.folds.specs.HalvingLaw.{halving-is}
 
-module _ {A : Type 0} (F : Field A) (L : FieldLaws F) (ω half : A) (back : ℕ → A) (signs : minusOne F ≡ F .𝟙 → ⊥)
-    (halves : F ._⊗_ (F ._⊕_ (F .𝟙) (F .𝟙)) half ≡ F .𝟙) (backs : (n : ℕ) → F ._⊗_ (power F ω n) (back n) ≡ F .𝟙) where
+module _ {A : Type 0} (F : Field A) (L : FieldLaws F) (ω half : A) (inversePower : ℕ → A) (signs : minusOne F ≡ F .𝟙 → ⊥)
+    (halves : F ._⊗_ (F ._⊕_ (F .𝟙) (F .𝟙)) half ≡ F .𝟙) (inverses : (n : ℕ) → F ._⊗_ (power F ω n) (inversePower n) ≡ F .𝟙) where
   infixl 65 _⊖_
   infixl 70 _⊗_
   open Field F using (𝟘, 𝟙, _⊖_, _⊗_)
@@ -47,7 +47,7 @@ module _ {A : Type 0} (F : Field A) (L : FieldLaws F) (ω half : A) (back : ℕ 
     roots-apart = apart-range F L (λ m. power F ω (e + m * d)) 0 (2 ^ suc a)
         (λ b c u k. subst (λ (v : A). Differ F v (power F ω (e + b * d))) (sym (split (b + c)))
         (subst (λ (v : A). Differ F (power F ω e ⊗ power F (power F ω d) (b + c)) v) (sym (split b))
-        (multiples-differ (power F ω e) (back e) _ _ (backs e) (powers-differ F L signs a (power F ω d) b c full k (below b c u)))))
+        (multiples-differ (power F ω e) (inversePower e) _ _ (inverses e) (powers-differ F L signs a (power F ω d) b c full k (below b c u)))))
       where
         below : (b c : ℕ) → b + c < 0 + 2 ^ suc a → c < 2 ^ a + 2 ^ a
         below b c u = omega (arith, pow-suc 2 a)
@@ -79,8 +79,8 @@ module _ {A : Type 0} (F : Field A) (L : FieldLaws F) (ω half : A) (back : ℕ 
         (interpolate-through F L (map sample (range 0 (2 ^ suc a)))
         (rw (map-map {B = Sample A} (λ p. p .point) sample (range 0 (2 ^ suc a))) (roots-apart a (1 + 2 ^ b .number * j) (2 ^ b .number * shiftCount b) turn)))) m l))
 
-    pub fold-by-halves : halving F half back (suc a) (1 + 2 ^ b .number * j) (2 ^ b .number * shiftCount b) r (λ m. f (j + m * shiftCount b)) ≡ foldAt F ω b f r j
+    pub fold-by-halves : halving F half inversePower (suc a) (1 + 2 ^ b .number * j) (2 ^ b .number * shiftCount b) r (λ m. f (j + m * shiftCount b)) ≡ foldAt F ω b f r j
     fold-by-halves =
-        halving-is F L ω half back halves backs a (1 + 2 ^ b .number * j) (2 ^ b .number * shiftCount b) r (λ m. f (j + m * shiftCount b)) q turn
+        halving-is F L ω half inversePower halves inverses a (1 + 2 ^ b .number * j) (2 ^ b .number * shiftCount b) r (λ m. f (j + m * shiftCount b)) q turn
         (le-of-eq (length-interpolate F (map sample (range 0 (2 ^ suc a))) ∙ length-map {B = Sample A} (range 0 (2 ^ suc a)) sample ∙ range-length 0 (2 ^ suc a))) through
         ∙ sym definition

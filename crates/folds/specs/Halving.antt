@@ -14,10 +14,10 @@ module _ {A : Type 0} (F : Field A) where
   unfoldable pub joined : A → A → A → A → A → A
   joined half r y v w = half ⊗ (v ⊕ w ⊕ r ⊗ y ⊗ (v ⊖ w))
 
-  -- 2^a values, value m at the power e + m·d of some ω, folded with r; back n is 1/ω^n
+  -- 2^a values, value m at the power e + m·d of some ω, folded with r; inversePower n is 1/ω^n
   unfoldable pub halving : A → (ℕ → A) → ℕ → ℕ → ℕ → A → (ℕ → A) → A
-  halving half back zero e d r v = v 0
-  halving half back (suc a) e d r v = halving half back a (2 * e) (2 * d) (r ⊗ r) (λ m. joined half r (back (e + m * d)) (v m) (v (2 ^ a + m)))
+  halving half inversePower zero e d r v = v 0
+  halving half inversePower (suc a) e d r v = halving half inversePower a (2 * e) (2 * d) (r ⊗ r) (λ m. joined half r (inversePower (e + m * d)) (v m) (v (2 ^ a + m)))
 
 -- how often a number can be halved, in at most `most` turns, before it is 1
 unfoldable pub halvings : ℕ → ℕ → ℕ

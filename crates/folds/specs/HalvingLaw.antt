@@ -76,7 +76,7 @@ module _ {A : Type 0} (F : Field A) (L : FieldLaws F) where
   constant (c ∷ []) x r h = solve₃ F L (λ c x r. c :+ x :* :0 := c :+ r :* :0) tt c x r
   constant (c ∷ b ∷ cs) x r h = absurd (omega arith)
 
-  module _ (ω half : A) (back : ℕ → A) (halves : (𝟙 ⊕ 𝟙) ⊗ half ≡ 𝟙) (backs : (n : ℕ) → power F ω n ⊗ back n ≡ 𝟙) where
+  module _ (ω half : A) (inversePower : ℕ → A) (halves : (𝟙 ⊕ 𝟙) ⊗ half ≡ 𝟙) (inverses : (n : ℕ) → power F ω n ⊗ inversePower n ≡ 𝟙) where
     -- the values E(x²) + x·O(x²) at x and E(x²) - x·O(x²) at -x, joined
     joined-is : (r x y v w e o : A) → x ⊗ y ≡ 𝟙 → reduce v ≡ e ⊕ x ⊗ o → reduce w ≡ e ⊕ (𝟘 ⊖ x) ⊗ o → joined F half r y v w ≡ e ⊕ r ⊗ o
     unfolding joined
@@ -104,7 +104,7 @@ module _ {A : Type 0} (F : Field A) (L : FieldLaws F) where
     -- one turn: from the values of q to those of E + r·O
     turn-is : (a e d : ℕ) (r : A) (v : ℕ → A) (q : List A) → power F ω (2 ^ a * d) ≡ minusOne F →
         ((m : ℕ) → m < 2 ^ suc a → reduce (v m) ≡ evaluate F q (power F ω (e + m * d))) →
-        (m : ℕ) → m < 2 ^ a → joined F half r (back (e + m * d)) (v m) (v (2 ^ a + m)) ≡ evaluate F (halved r q) (power F ω (2 * e + m * (2 * d)))
+        (m : ℕ) → m < 2 ^ a → joined F half r (inversePower (e + m * d)) (v m) (v (2 ^ a + m)) ≡ evaluate F (halved r q) (power F ω (2 * e + m * (2 * d)))
     turn-is a e d r v q turn values m l =
         let x : A = power F ω (e + m * d) in
         let z : A = power F ω (2 * e + m * (2 * d)) in
@@ -114,7 +114,7 @@ module _ {A : Type 0} (F : Field A) (L : FieldLaws F) where
         let there : reduce (v (2 ^ a + m)) ≡ evaluate F (evens q) z ⊕ (𝟘 ⊖ x) ⊗ evaluate F (odds q) z =
         values (2 ^ a + m) (omega (arith, pow-suc 2 a)) ∙ ap (evaluate F q) (opposite e d (2 ^ a) m turn) ∙ even-odd q (𝟘 ⊖ x)
         ∙ ap (λ (u : A). evaluate F (evens q) u ⊕ (𝟘 ⊖ x) ⊗ evaluate F (odds q) u) minus in
-        joined-is r x (back (e + m * d)) (v m) (v (2 ^ a + m)) (evaluate F (evens q) z) (evaluate F (odds q) z) (backs (e + m * d)) here there
+        joined-is r x (inversePower (e + m * d)) (v m) (v (2 ^ a + m)) (evaluate F (evens q) z) (evaluate F (odds q) z) (inverses (e + m * d)) here there
         ∙ sym (halved-at q r z)
 
     -- the halves of q at r² make q at r
@@ -122,7 +122,7 @@ module _ {A : Type 0} (F : Field A) (L : FieldLaws F) where
     halved-whole q r = halved-at q r (r ⊗ r) ∙ sym (even-odd q r)
 
     pub halving-is : (a e d : ℕ) (r : A) (v : ℕ → A) (q : List A) → power F ω (2 ^ a * d) ≡ minusOne F → length q ≤ 2 ^ suc a →
-        ((m : ℕ) → m < 2 ^ suc a → reduce (v m) ≡ evaluate F q (power F ω (e + m * d))) → halving F half back (suc a) e d r v ≡ evaluate F q r
+        ((m : ℕ) → m < 2 ^ suc a → reduce (v m) ≡ evaluate F q (power F ω (e + m * d))) → halving F half inversePower (suc a) e d r v ≡ evaluate F q r
     unfolding halving
     halving-is zero e d r v q turn few values =
         turn-is zero e d r v q turn values 0 (pow-pos 0)
@@ -134,13 +134,13 @@ module _ {A : Type 0} (F : Field A) (L : FieldLaws F) where
         ∙ halved-whole q r
 
 -- the fold asks only for its 2^a values
-pub halving-same : {A : Type 0} (F : Field A) (half : A) (back : ℕ → A) (a e d : ℕ) (r : A) (u v : ℕ → A) → ((m : ℕ) → m < 2 ^ a → u m ≡ v m) →
-    halving F half back a e d r u ≡ halving F half back a e d r v
+pub halving-same : {A : Type 0} (F : Field A) (half : A) (inversePower : ℕ → A) (a e d : ℕ) (r : A) (u v : ℕ → A) → ((m : ℕ) → m < 2 ^ a → u m ≡ v m) →
+    halving F half inversePower a e d r u ≡ halving F half inversePower a e d r v
 unfolding halving
-halving-same F half back zero e d r u v h = h 0 (pow-pos 0)
-halving-same F half back (suc a) e d r u v h =
-    halving-same F half back a (2 * e) (2 * d) (F ._⊗_ r r) _ _
-    (λ m l. ap₂ (joined F half r (back (e + m * d))) (h m (omega (arith, pow-suc 2 a))) (h (2 ^ a + m) (omega (arith, pow-suc 2 a))))
+halving-same F half inversePower zero e d r u v h = h 0 (pow-pos 0)
+halving-same F half inversePower (suc a) e d r u v h =
+    halving-same F half inversePower a (2 * e) (2 * d) (F ._⊗_ r r) _ _
+    (λ m l. ap₂ (joined F half r (inversePower (e + m * d))) (h m (omega (arith, pow-suc 2 a))) (h (2 ^ a + m) (omega (arith, pow-suc 2 a))))
 
 halvings-of : (most a : ℕ) → a ≤ most → halvings most (2 ^ a) ≡ a
 unfolding halvings

@@ -77,14 +77,14 @@ module _ {A : Type 0} (F : Field A) (L : FieldLaws F) (signs : minusOne F ≡ F 
     unfolding foldIn
     fold-is j l =
         let half = halfOf F in
-        let back = inversePowerIn 𝟘 pw in
+        let inversePower = inversePowerIn 𝟘 pw in
         let e = 1 + oracle .scale * j in
         let d = oracle .scale * oracle .step in
-        ap (λ (a : ℕ). halving F half back a e d r (rootIn F pw table ac vg oracle j)) (exponent fits)
-        ∙ halving-same F half back (suc (fits .log)) e d r (rootIn F pw table ac vg oracle j) (λ m. f (j + m * oracle .step))
+        ap (λ (a : ℕ). halving F half inversePower a e d r (rootIn F pw table ac vg oracle j)) (exponent fits)
+        ∙ halving-same F half inversePower (suc (fits .log)) e d r (rootIn F pw table ac vg oracle j) (λ m. f (j + m * oracle .step))
         (λ m h. s .values (j + m * oracle .step) (root-number fits l m (omega (arith, fits .two))))
-        ∙ (λ i. halving F half back (suc (fits .log)) (1 + s .scale i * j) (s .scale i * s .step i) r (λ m. f (j + m * s .step i)))
-        ∙ fold-by-halves F L ω half back signs (two-halves F L signs) (inverse-power-is F L (s .powers) (long l)) b f r j (fits .log) (sym (s .fold) ∙ fits .two) turn
+        ∙ (λ i. halving F half inversePower (suc (fits .log)) (1 + s .scale i * j) (s .scale i * s .step i) r (λ m. f (j + m * s .step i)))
+        ∙ fold-by-halves F L ω half inversePower signs (two-halves F L signs) (inverse-power-is F L (s .powers) (long l)) b f r j (fits .log) (sym (s .fold) ∙ fits .two) turn
 
     pub sample-is : (j : ℕ) → j < oracle .step → sampleIn F pw table ac vg oracle k r j ≡ record { point = shiftPoint F ω b j; value = foldAt F ω b f r j }
     unfolding sampleIn

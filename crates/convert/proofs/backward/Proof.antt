@@ -11,7 +11,7 @@ use Rattle.definition.specs.Verdict.{_then_}
 use Rattle.list_laws.specs.Lists.{rest-all}
 use Rattle.layouts.specs.Tests.{then-passes}
 use Rattle.reading.specs.Passed.{words-there}
-use Rattle.convert.specs.Begun.{backward-begins, begun-is, begun-there}
+use Rattle.convert.proofs.Begun.{backward-begins, begun-is, begun-there}
 use Rattle.convert.specs.Stages.{ready, refused-is, written-is}
 use Rattle.convert.proofs.backward.Statement.{statement}
 use Rattle.convert.proofs.backward.Tie as tie

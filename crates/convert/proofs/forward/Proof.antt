@@ -11,7 +11,7 @@ use Rattle.definition.specs.Convert.{forward, toEdition2}
 use Rattle.definition.specs.Reading.{reading}
 use Rattle.definition.specs.Sheet.{edition1}
 use Rattle.reading.specs.Passed.{words-there}
-use Rattle.convert.specs.Begun.{begun-is, begun-there, forward-begins}
+use Rattle.convert.proofs.Begun.{begun-is, begun-there, forward-begins}
 use Rattle.convert.specs.Stages.{ready, refused-is, written-is}
 use Rattle.convert.proofs.Lent.{from-six}
 use Rattle.convert.proofs.forward.Statement.{statement}
