@@ -103,8 +103,8 @@ pub enum Inversion {
 }
 
 // The power a^(p - 2), which is the inverse where a is not 0, by Euclid's division: p is divided by a, and then each divisor by the remainder.
-// Modulo p, `before` is s times a and `rest` is t times a. For field 2 that takes about half the time of the power. The last remainder is 1 unless
-// p divides a; the power stands behind it, so that this need not be shown.
+// Modulo p, `before` is s times a and `rest` is t times a. For field 2 that takes little more than half the time of the power. The last
+// remainder is 1 unless p divides a; the power stands behind it, so that this need not be shown.
 fn by_euclid(field: u32, a: u32) -> u32
     ensures { λ r. ⌜ r ≡ power (fieldOf field) a (primeOf field - 2) ⌝ }
 {
