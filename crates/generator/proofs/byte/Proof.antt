@@ -1,10 +1,10 @@
--- `load::byte` meets its contract. Assumes nothing.
+-- `generator::byte` meets its contract. Assumes nothing.
 use mathlib.Core.Path.{refl, sym}
 use native.Mathlib.Omega.{arith}
 use lib.ListN.{List·getD-eq-default}
 use borrow.Author.Needs.{needs}
-use Rattle.load.proofs.byte.Statement.{statement}
-use Rattle.load.proofs.byte.Tie as tie
+use Rattle.generator.proofs.byte.Statement.{statement}
+use Rattle.generator.proofs.byte.Tie as tie
 
 shared-slice-read-result : tie.Need-shared-slice-read-result
 shared-slice-read-result c = search needs

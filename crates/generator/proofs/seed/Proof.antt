@@ -1,10 +1,10 @@
--- `load::seed` meets its contract. Assumes nothing.
+-- `generator::seed` meets its contract. Assumes nothing.
 use Prim.Native.Nat.{_+_, _*_}
 use mathlib.Core.Path.{_∙_}
 use borrow.Author.Needs.{needs}
-use Rattle.load.proofs.LineLaws.{seed-bytes}
-use Rattle.load.proofs.seed.Statement.{statement}
-use Rattle.load.proofs.seed.Tie as tie
+use Rattle.generator.proofs.SeedBytes.{seed-bytes}
+use Rattle.generator.proofs.seed.Statement.{statement}
+use Rattle.generator.proofs.seed.Tie as tie
 
 byte-requires : tie.Need-byte-requires
 byte-requires c κs = search needs
