@@ -16,20 +16,6 @@ pub struct Ran {
     pub next: Generator,
 }
 
-// Places for the coefficients of any sheet.
-fn coefficients_room() -> [u32; 2048]
-    ensures { λ r. ⌜ length r ≡ 2048 ⌝ }
-{
-    [0u32; 2048]
-}
-
-// Places for the coins of any sheet.
-fn coins_room() -> [u32; 309]
-    ensures { λ r. ⌜ length r ≡ 309 ⌝ }
-{
-    [0u32; 309]
-}
-
 // Places for the file of any sheet: 67 blocks.
 fn file_room() -> [u8; 34304]
     ensures { λ r. ⌜ length r ≡ 34304 ⌝ }
@@ -52,14 +38,14 @@ pub fn run(generator: Generator) -> Ran
     ensures { λ r. ⌜ verdictOf (r .verdict) ≡ verdictOn (drawInput (generator .v) .value) ⌝ }
     ensures { λ r. ⌜ r .next .v ≡ drawInput (generator .v) .next ⌝ }
 {
-    let mut w = [0u32; 12];
-    let mut coefficients = coefficients_room();
-    let mut coins = coins_room();
-    let drawn = run_input::draw(generator, &mut w, &mut coefficients, &mut coins);
-    let degree = drawn.degree;
-    let due = drawn.due;
+    let input = run_input::draw(generator);
+    let w = input.sheet;
+    let coefficients = input.coefficients;
+    let coins = input.coins;
+    let degree = input.degree;
+    let due = input.due;
+    let next = input.next;
     let verdict = honest_verdict(&w, &coefficients[..degree], &coins[..due]);
-    let next = drawn.next;
     Ran {
         verdict: verdict,
         next: next,

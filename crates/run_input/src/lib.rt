@@ -10,11 +10,28 @@ ghost use Rattle.definition.specs.Reading.{sheetTest};
 ghost use Rattle.definition.specs.Sheet.{edition1, sheetOf};
 ghost use Rattle.definition.specs.Verdict.{accepted};
 
-// How many coefficients and coins were drawn, and the generator as it then is.
-pub struct Drawn {
+// The sheet, the coefficients and the coins, these at the front of places for those of any sheet, and how many they are; and the generator as it then is.
+pub struct Input {
+    pub sheet: [u32; 12],
+    pub coefficients: [u32; 2048],
+    pub coins: [u32; 309],
     pub degree: usize,
     pub due: usize,
     pub next: Generator,
+}
+
+// Places for the coefficients of any sheet.
+fn coefficients_room() -> [u32; 2048]
+    ensures { λ r. ⌜ length r ≡ 2048 ⌝ }
+{
+    [0u32; 2048]
+}
+
+// Places for the coins of any sheet.
+fn coins_room() -> [u32; 309]
+    ensures { λ r. ⌜ length r ≡ 309 ⌝ }
+{
+    [0u32; 309]
 }
 
 // The coefficients and the coins after a sheet w: those of the run of every v that draws this sheet.
@@ -34,23 +51,22 @@ fn after_sheet(
     after_coins
 }
 
-// Draws a run's sheet, and its coefficients and coins at the front of their places.
-pub fn draw(
-    generator: Generator,
-    w: &mut [u32],
-    coefficients: &mut [u32],
-    coins: &mut [u32],
-) -> Drawn
-    requires { ⌜ (length (now w) ≡ 12) × ((length (now coefficients) ≡ 2048) × (length (now coins) ≡ 309)) ⌝ }
-    ensures { λ r. ⌜ (r .degree ≤ 2048) × (r .due ≤ 309) ⌝ }
-    ensures { λ r.
-        ⌜ record { value = record { sheet = now (w .exit); coefficients = take (r .degree) (now (coefficients .exit)); coins = take (r .due) (now (coins .exit)) }; next = r .next .v } ≡ drawInput (generator .v) ⌝ }
+// Draws a run's sheet, its coefficients and its coins.
+pub fn draw(generator: Generator) -> Input
+    ensures { λ r. ⌜ (r .degree ≤ length (r .coefficients)) × (r .due ≤ length (r .coins)) ⌝ }
+    ensures { λ r. ⌜ record { value = record { sheet = r .sheet; coefficients = take (r .degree) (r .coefficients); coins = take (r .due) (r .coins) }; next = r .next .v } ≡ drawInput (generator .v) ⌝ }
 {
-    let next = sheets::draw(generator, w);
+    let mut w = [0u32; 12];
+    let next = sheets::draw(generator, &mut w);
+    let mut coefficients = coefficients_room();
+    let mut coins = coins_room();
     let degree = w[2] as usize;
-    let due = sizes::coins_due(Edition::One, w);
-    let after = after_sheet(w, next, &mut coefficients[..degree], &mut coins[..due]);
-    Drawn {
+    let due = sizes::coins_due(Edition::One, &w);
+    let after = after_sheet(&w, next, &mut coefficients[..degree], &mut coins[..due]);
+    Input {
+        sheet: w,
+        coefficients: coefficients,
+        coins: coins,
         degree: degree,
         due: due,
         next: after,
