@@ -48,11 +48,10 @@ pub inverse-none : (field a : ℕ) {x : ℕ} → x ≡ a % primeOf field → x �
 unfolding fieldOf primeField
 inverse-none field a ex z = simp (eq-eqb (a % primeOf field) 0 (sym ex ∙ z))
 
-pub inverse-is : (field a : ℕ) {x m r : ℕ} → x ≡ a % primeOf field → (x ≡ 0 → ⊥) → m ≡ primeOf field → r ≡ power (fieldOf field) a (m - 2) → some r ≡ fieldOf field .inverse a
+pub inverse-is : (field a : ℕ) {x r : ℕ} → x ≡ a % primeOf field → (x ≡ 0 → ⊥) → r ≡ power (fieldOf field) a (primeOf field - 2) → some r ≡ fieldOf field .inverse a
 unfolding fieldOf primeField
-inverse-is field a {x} {m} ex h em er =
-    ap {B = Option ℕ} some
-    (er ∙ power-by field a (m - 2) ∙ ap (λ (n : ℕ). a ^ (n - 2) % primeOf field) em ∙ sym (powerMod-is a (primeOf field - 2) (primeOf field)))
+inverse-is field a ex h er =
+    ap {B = Option ℕ} some (er ∙ power-by field a (primeOf field - 2) ∙ sym (powerMod-is a (primeOf field - 2) (primeOf field)))
     ∙ simp (ne-eqb (a % primeOf field) 0 (λ z. h (ex ∙ z)))
 
 -- A public operation reduces its words first; the operations do not see it. So what a leaf gives, answered, is what the operation answers.

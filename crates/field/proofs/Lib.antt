@@ -1,2 +1,3 @@
 pub mod Modular
 pub mod ByNumber
+pub mod Euclid

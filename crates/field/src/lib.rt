@@ -2,7 +2,7 @@
 // Each remainder is by a constant, which the compiler turns into multiplications; a number above 2 counts as field 2 until the last step of a
 // public operation answers that it names no field.
 ghost use mathlib.Core.Path.{_≡_};
-ghost use Prim.Native.Nat.{_%_};
+ghost use Prim.Native.Nat.{_-_, _%_};
 ghost use Rattle.definition.specs.Field.{Field, primeOf, fieldOf, power, binaryDigits, inField, sum, difference, product, powerOf, powerTurnsOf, inverseOf};
 ghost use Rattle.field.specs.Answer.{elementOf, poweredOf, inversionOf, invertedOf};
 
@@ -102,7 +102,33 @@ pub enum Inversion {
     Nothing,
 }
 
-// The inverse, as a power.
+// The power a^(p - 2), which is the inverse where a is not 0, by Euclid's division: p is divided by a, and then each divisor by the remainder.
+// Modulo p, `before` is s times a and `rest` is t times a. For field 2 that takes little more than half the time of the power. The last
+// remainder is 1 unless p divides a; the power stands behind it, so that this need not be shown.
+fn by_euclid(field: u32, a: u32) -> u32
+    ensures { λ r. ⌜ r ≡ power (fieldOf field) a (primeOf field - 2) ⌝ }
+{
+    let p = modulus(field);
+    let mut before = p;
+    let mut rest = a;
+    let mut s: u32 = 0;
+    let mut t: u32 = 1;
+    while 1 < rest {
+        let q = before / rest;
+        let next = before % rest;
+        let u = add_product(field, s, q, p - t);
+        before = rest;
+        rest = next;
+        s = t;
+        t = u;
+    }
+    if rest == 1 {
+        return t;
+    }
+    pow(field, a, p - 2)
+}
+
+// The inverse, by Euclid's division.
 pub fn inv(field: u32, a: u32) -> Inversion
     ensures { λ r. ⌜ inversionOf r ≡ fieldOf field .inverse a ⌝ }
 {
@@ -110,7 +136,7 @@ pub fn inv(field: u32, a: u32) -> Inversion
     if x == 0 {
         return Inversion::Nothing;
     }
-    Inversion::Found(pow(field, a, modulus(field) - 2))
+    Inversion::Found(by_euclid(field, a))
 }
 
 // What a public operation answers: an element, or that the number names no field.

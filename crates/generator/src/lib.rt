@@ -1,8 +1,8 @@
-// The load's generator by value, and its draws below a limit.
+// The load's seed, its generator by value, and its draws below a limit.
 ghost use mathlib.Core.Path.{_≡_};
 ghost use Prim.Native.Nat.{_<_};
-ghost use lib.ListN.{length};
-ghost use Rattle.definition.specs.Load.{step as stepOf, drawBelow};
+ghost use lib.ListN.{length, getD};
+ghost use Rattle.definition.specs.Load.{step as stepOf, drawBelow, seedOf};
 ghost use Rattle.generator.specs.Draws.{drawMany};
 
 pub struct Generator {
@@ -53,4 +53,21 @@ impl Generator {
         }
         generator
     }
+}
+
+// Byte i, or 0 where it is missing.
+fn byte(bytes: &[u8], i: usize) -> u32
+    ensures { λ r. ⌜ (r ≡ getD (now (bytes .entry)) i 0) × (r < 256) ⌝ }
+{
+    if i < bytes.len() {
+        return bytes[i] as u32;
+    }
+    0
+}
+
+// The word in the first four bytes, the least significant first.
+pub fn seed(bytes: &[u8]) -> u32
+    ensures { λ r. ⌜ r ≡ seedOf (now (bytes .entry)) ⌝ }
+{
+    byte(bytes, 0) + 256 * byte(bytes, 1) + 65536 * byte(bytes, 2) + 16777216 * byte(bytes, 3)
 }

@@ -3,20 +3,19 @@ use Prim.Native.Nat.{ℕ, zero, suc, _+_, _-_, _*_, _^_, _≤_, _<_}
 use native.Mathlib.Omega.{arith}
 use mathlib.Core.List.{List, [], _∷_, _++_, append-assoc, append-nil, flatMap}
 use mathlib.Core.Path.{_≡_, refl, sym, ap, subst, _∙_}
-use lib.ListN.{length, getD, length-append}
+use lib.ListN.{length, length-append}
 use borrow.Author.Tests.{eq-eqb, ne-eqb}
-use Rattle.definition.specs.Block.{wordOf}
 use Rattle.definition.specs.Line.{decimal, lineOf, outcomeText}
-use Rattle.definition.specs.Load.{drawInput, loadLines, loadRuns, drawnInputs, seedOf, verdictOn}
-use Rattle.definition.specs.Reading.{sheetTest}
+use Rattle.definition.specs.Load.{drawInput, loadLines, loadRuns, drawnInputs, verdictOn}
 use Rattle.definition.specs.Sheet.{edition1, sheetOf}
 use Rattle.definition.specs.Verdict.{Verdict, accepted, refused}
 use Rattle.layouts.specs.DueSizes.{reads-most}
-use Rattle.completeness.specs.LoadAllowed.{draws-accepted, draws-allowed, sheet-faultless}
+use Rattle.completeness.specs.LoadAllowed.{draws-accepted, draws-allowed}
 use Rattle.completeness.specs.Numbered.{readsDue}
 use Rattle.completeness.specs.Reads.{reads-at-most}
 use Rattle.line.specs.Decimal.{long-64}
 use Rattle.load.specs.Runs.{linesFrom}
+use Rattle.load.proofs.Inputs.{drawn-faultless}
 
 pub lines-none : (v : ℕ) → linesFrom zero v ≡ []
 unfolding linesFrom drawnInputs flatMap
@@ -27,10 +26,6 @@ unfolding linesFrom drawnInputs flatMap
 lines-next runs v = refl
 
 -- ---- the reads of a run are few
-
-drawn-faultless : (v : ℕ) → (length (drawInput v .value .sheet) ≡ 12) × (sheetTest edition1 (drawInput v .value .sheet) ≡ accepted)
-unfolding drawInput
-drawn-faultless v = sheet-faultless v
 
 reads-few : (v : ℕ) → readsDue (sheetOf edition1 (drawInput v .value .sheet)) (drawInput v .value .coins) ≤ 4608
 reads-few v =
@@ -71,13 +66,3 @@ lines-refused seed h = rw (eq-eqb seed 0 h) (sym (append-nil _))
 pub lines-run : (seed : ℕ) → (seed ≡ 0 → ⊥) → linesFrom loadRuns seed ≡ flatMap (λ line. line) (loadLines seed)
 unfolding loadLines linesFrom
 lines-run seed h = rw (ne-eqb seed 0 h)
-
--- ---- the seed
-
-pub seed-bytes : (bytes : List ℕ) → getD bytes 0 0 + 256 * getD bytes 1 0 + 65536 * getD bytes 2 0 + 16777216 * getD bytes 3 0 ≡ seedOf bytes
-unfolding seedOf wordOf
-seed-bytes [] = refl
-seed-bytes (a ∷ []) = omega arith
-seed-bytes (a ∷ b ∷ []) = omega arith
-seed-bytes (a ∷ b ∷ c ∷ []) = omega arith
-seed-bytes (a ∷ b ∷ c ∷ d ∷ bytes) = omega arith

@@ -1,38 +1,19 @@
 // The stated load, whose sheets are of edition 1: one run, the lines of a thousand, and what the program prints.
-use edition::Edition;
 use generator::Generator;
 use outcome::Outcome;
 use outcome::Verdict;
 ghost use mathlib.Core.Path.{_≡_};
 ghost use mathlib.Core.List.{_++_, flatMap};
-ghost use Prim.Native.Nat.{ℕ, _+_, _*_, _≤_, _<_};
-ghost use lib.ListN.{length, getD, take};
-ghost use Rattle.definition.specs.Layout.{coinKinds, layout};
-ghost use Rattle.definition.specs.Load.{drawInput, drawSheet, loadLines, loadOutput, seedOf, verdictOn};
-ghost use Rattle.definition.specs.Reading.{sheetTest};
-ghost use Rattle.definition.specs.Sheet.{edition1, sheetOf};
-ghost use Rattle.definition.specs.Verdict.{accepted};
+ghost use Prim.Native.Nat.{ℕ, _+_, _*_, _≤_};
+ghost use lib.ListN.{length, take};
+ghost use Rattle.definition.specs.Load.{drawInput, loadLines, loadOutput, verdictOn};
 ghost use Rattle.outcome.specs.Meaning.{verdictOf};
-ghost use Rattle.load.specs.Runs.{RunFrom, linesFrom};
+ghost use Rattle.load.specs.Runs.{linesFrom};
 
 // The verdict of a run, and the generator as it then is.
 pub struct Ran {
     pub verdict: Verdict,
     pub next: Generator,
-}
-
-// Places for the coefficients of any sheet.
-fn coefficients_room() -> [u32; 2048]
-    ensures { λ r. ⌜ length r ≡ 2048 ⌝ }
-{
-    [0u32; 2048]
-}
-
-// Places for the coins of any sheet.
-fn coins_room() -> [u32; 309]
-    ensures { λ r. ⌜ length r ≡ 309 ⌝ }
-{
-    [0u32; 309]
 }
 
 // Places for the file of any sheet: 67 blocks.
@@ -42,26 +23,14 @@ fn file_room() -> [u8; 34304]
     [0u8; 34304]
 }
 
-// The coefficients and the coins after a sheet w, and the verdict on the honest file. It is the run of every v that draws this sheet.
-fn after_sheet(
-    w: &[u32],
-    generator: Generator,
-    coefficients: &mut [u32],
-    coins: &mut [u32],
-    output: &mut [u8],
-) -> Ran
-    requires { ⌜ (length (now w) ≡ 12) × (sheetTest edition1 (now w) ≡ accepted) ⌝ }
-    requires { ⌜ (length (now coefficients) ≡ sheetOf edition1 (now w) .degree) × ((length (now coins) ≡ length (coinKinds (layout (sheetOf edition1 (now w))))) × (length (now output) ≡ 34304)) ⌝ }
-    ensures { λ r. ⌜ ((v : ℕ) → record { value = now (w .entry); next = generator .v } ≡ drawSheet v → RunFrom v r) ⌝ }
+// The verdict on the honest file of what is drawn: that of every v that draws it.
+fn honest_verdict(w: &[u32], coefficients: &[u32], coins: &[u32]) -> Verdict
+    ensures { λ r.
+        ⌜ ((v : ℕ) → record { sheet = now (w .entry); coefficients = now (coefficients .entry); coins = now (coins .entry) } ≡ drawInput v .value → verdictOf r ≡ verdictOn (drawInput v .value)) ⌝ }
 {
-    let drawn = draws::coefficients(w[0], generator, coefficients);
-    let next = draws::coins(w, drawn, coins);
-    let checked = selfcheck::prove_then_verify(w, coefficients, coins, output);
-    let verdict = checked.verdict;
-    Ran {
-        verdict: verdict,
-        next: next,
-    }
+    let mut output = file_room();
+    let checked = selfcheck::prove_then_verify(w, coefficients, coins, &mut output);
+    checked.verdict
 }
 
 // One run: a sheet, coefficients and coins are drawn, the order is proved, and the honest file is judged.
@@ -69,20 +38,18 @@ pub fn run(generator: Generator) -> Ran
     ensures { λ r. ⌜ verdictOf (r .verdict) ≡ verdictOn (drawInput (generator .v) .value) ⌝ }
     ensures { λ r. ⌜ r .next .v ≡ drawInput (generator .v) .next ⌝ }
 {
-    let mut w = [0u32; 12];
-    let next = sheets::draw(generator, &mut w);
-    let mut coefficients = coefficients_room();
-    let mut coins = coins_room();
-    let mut output = file_room();
-    let d = w[2] as usize;
-    let n = sizes::coins_due(Edition::One, &w);
-    after_sheet(
-        &w,
-        next,
-        &mut coefficients[..d],
-        &mut coins[..n],
-        &mut output,
-    )
+    let input = run_input::draw(generator);
+    let w = input.sheet;
+    let coefficients = input.coefficients;
+    let coins = input.coins;
+    let degree = input.degree;
+    let due = input.due;
+    let next = input.next;
+    let verdict = honest_verdict(&w, &coefficients[..degree], &coins[..due]);
+    Ran {
+        verdict: verdict,
+        next: next,
+    }
 }
 
 // The lines of so many runs on one generator, after the first `at` bytes of the output; answers the place behind them.
@@ -119,27 +86,10 @@ pub fn lines(seed: u32, out: &mut [u8; 34000]) -> usize
     run_lines(1000, Generator { v: seed }, 0, out)
 }
 
-// Byte i, or 0 where it is missing.
-fn byte(bytes: &[u8], i: usize) -> u32
-    ensures { λ r. ⌜ (r ≡ getD (now (bytes .entry)) i 0) × (r < 256) ⌝ }
-{
-    if i < bytes.len() {
-        return bytes[i] as u32;
-    }
-    0
-}
-
-// The word in the first four bytes, the least significant first.
-fn seed(bytes: &[u8]) -> u32
-    ensures { λ r. ⌜ r ≡ seedOf (now (bytes .entry)) ⌝ }
-{
-    byte(bytes, 0) + 256 * byte(bytes, 1) + 65536 * byte(bytes, 2) + 16777216 * byte(bytes, 3)
-}
-
 // What the program prints on an input, whose first four bytes are the seed. Missing bytes are 0.
 pub fn output(bytes: &[u8], out: &mut [u8; 34000]) -> usize
     ensures { λ r. ⌜ take r (now (out .exit)) ≡ loadOutput (now (bytes .entry)) ⌝ }
     ensures { λ r. ⌜ r ≤ 34000 ⌝ }
 {
-    lines(seed(bytes), out)
+    lines(generator::seed(bytes), out)
 }

@@ -5,14 +5,19 @@ use Rattle.field.specs.declared.Element.{Element}
 use Rattle.field.specs.declared.Element.the-variants as element
 use Rattle.field.specs.declared.Inverted.{Inverted}
 use Rattle.field.specs.declared.Inverted.the-variants as inverted
-use Rattle.field.specs.Answer.{elementOf, invertedOf}
+use Rattle.field.specs.declared.PowerTurns.{PowerTurns}
+use Rattle.field.specs.declared.PowerTurns.the-variants as power-turns
+use Rattle.field.specs.Answer.{elementOf, poweredOf, invertedOf}
 use Rattle.outcome.specs.declared.Outcome.{Outcome}
 use Rattle.outcome.specs.declared.Outcome.the-variants.{Accepted, Refused}
 use Rattle.outcome.specs.declared.Answer.{Answer}
 use Rattle.outcome.specs.declared.Answer.the-variants.{Done, Refusal}
 use Rattle.outcome.specs.Meaning as meaning
 use Rattle.outcome.specs.Meaning.{outcomeOf}
-use Rattle.numbers.specs.Numbers.{AnswerNumbers, ElementNumbers, InverseNumbers, OutcomeNumbers, numberOf, placeIn, refusalOf, valueOf, fieldNamed, elementOrZero, inverseNumber, inverseOrZero}
+use Rattle.reader.specs.declared.Word.{Word}
+use Rattle.reader.specs.declared.Word.the-variants as word
+use Rattle.reader.specs.Words as words
+use Rattle.numbers.specs.Numbers.{AnswerNumbers, ElementNumbers, InverseNumbers, OutcomeNumbers, PowerNumbers, WordNumbers, numberOf, placeIn, refusalOf, valueOf, wordThere, wordOrZero, fieldNamed, elementOrZero, powerNamed, powerOrZero, turnsOrZero, inverseNumber, inverseOrZero}
 
 module _ (o : Outcome) where
   pub accepted-numbers : o ≡ Accepted → OutcomeNumbers (outcomeOf o) 0 0
@@ -40,6 +45,19 @@ module _ (a : Answer) where
       let m = ap meaning.answerOf (sym h) in
       (ap refusalOf m, ap valueOf m)
 
+module _ (a : Word) where
+  pub value-numbers : (x : ℕ) → a ≡ word.Value x → WordNumbers (words.valueOf a) 1 x
+  unfolding words.valueOf wordThere wordOrZero
+  value-numbers x h =
+      let m = ap words.valueOf (sym h) in
+      (ap wordThere m, ap wordOrZero m)
+
+  pub end-numbers : a ≡ word.End → WordNumbers (words.valueOf a) 0 0
+  unfolding words.valueOf wordThere wordOrZero
+  end-numbers h =
+      let m = ap words.valueOf (sym h) in
+      (ap wordThere m, ap wordOrZero m)
+
 module _ (a : Element) where
   pub element-numbers : (x : ℕ) → a ≡ element.Value x → ElementNumbers (elementOf a) 1 x
   unfolding fieldNamed elementOrZero
@@ -52,6 +70,19 @@ module _ (a : Element) where
   no-field-numbers h =
       let m = ap elementOf (sym h) in
       (ap fieldNamed m, ap elementOrZero m)
+
+module _ (a : PowerTurns) where
+  pub power-numbers : (x turns : ℕ) → a ≡ power-turns.Value x turns → PowerNumbers (poweredOf a) 1 x turns
+  unfolding powerNamed powerOrZero turnsOrZero
+  power-numbers x turns h =
+      let m = ap poweredOf (sym h) in
+      (ap powerNamed m, (ap powerOrZero m, ap turnsOrZero m))
+
+  pub no-power-numbers : a ≡ power-turns.NoField → PowerNumbers (poweredOf a) 0 0 0
+  unfolding powerNamed powerOrZero turnsOrZero
+  no-power-numbers h =
+      let m = ap poweredOf (sym h) in
+      (ap powerNamed m, (ap powerOrZero m, ap turnsOrZero m))
 
 module _ (a : Inverted) where
   pub inverse-found : (x : ℕ) → a ≡ inverted.Found x → InverseNumbers (invertedOf a) 1 x

@@ -76,8 +76,14 @@ VerdictNumbers v number place reads = (number ≡ numberOf (v .outcome)) × ((pl
 abbrev pub AnswerNumbers : Answer → ℕ → ℕ → Type 0
 AnswerNumbers a number value = (number ≡ refusalOf a) × (value ≡ valueOf a)
 
+abbrev pub WordNumbers : Option ℕ → ℕ → ℕ → Type 0
+WordNumbers a there word = (there ≡ wordThere a) × (word ≡ wordOrZero a)
+
 abbrev pub ElementNumbers : FieldAnswer → ℕ → ℕ → Type 0
 ElementNumbers a named value = (named ≡ fieldNamed a) × (value ≡ elementOrZero a)
+
+abbrev pub PowerNumbers : PowerAnswer → ℕ → ℕ → ℕ → Type 0
+PowerNumbers a named value turns = (named ≡ powerNamed a) × ((value ≡ powerOrZero a) × (turns ≡ turnsOrZero a))
 
 abbrev pub InverseNumbers : InverseAnswer → ℕ → ℕ → Type 0
 InverseNumbers a number value = (number ≡ inverseNumber a) × (value ≡ inverseOrZero a)

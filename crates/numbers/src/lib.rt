@@ -1,13 +1,16 @@
 // What an operation answers as numbers, for callers from C: one is answered, the others are written.
 use field::Element;
 use field::Inverted;
+use field::PowerTurns;
 use outcome::Answer;
 use outcome::Outcome;
 use outcome::Verdict;
+use reader::Word;
 ghost use mathlib.Core.Path.{_≡_};
-ghost use Rattle.field.specs.Answer.{elementOf, invertedOf};
+ghost use Rattle.field.specs.Answer.{elementOf, poweredOf, invertedOf};
 ghost use Rattle.outcome.specs.Meaning.{answerOf, outcomeOf, verdictOf};
-ghost use Rattle.numbers.specs.Numbers.{numberOf, placeIn, refusalOf, valueOf, fieldNamed, elementOrZero, inverseNumber, inverseOrZero};
+ghost use Rattle.reader.specs.Words.{valueOf as wordOf};
+ghost use Rattle.numbers.specs.Numbers.{numberOf, placeIn, refusalOf, valueOf, wordThere, wordOrZero, fieldNamed, elementOrZero, powerNamed, powerOrZero, turnsOrZero, inverseNumber, inverseOrZero};
 
 // Writes an outcome: the fault's place, 0 where accepted. Answers 0 for accepted, else the fault's number.
 pub fn write_outcome(o: Outcome, place: &mut u64) -> u32
@@ -64,6 +67,23 @@ pub fn refusal_number(answer: Answer) -> u32
     }
 }
 
+// Writes a word, or 0 where the stream had ended; answers 1 or 0.
+pub fn write_word(answer: Word, word: &mut u32) -> u32
+    ensures { λ r. ⌜ r ≡ wordThere (wordOf answer) ⌝ }
+    ensures { λ r. ⌜ now (word .exit) ≡ wordOrZero (wordOf answer) ⌝ }
+{
+    match answer {
+        Word::Value(x) => {
+            *word = x;
+            1
+        }
+        Word::End => {
+            *word = 0;
+            0
+        }
+    }
+}
+
 // Writes an element, or 0 where the number named no field; answers 1 or 0.
 pub fn write_element(answer: Element, element: &mut u32) -> u32
     ensures { λ r. ⌜ r ≡ fieldNamed (elementOf answer) ⌝ }
@@ -76,6 +96,26 @@ pub fn write_element(answer: Element, element: &mut u32) -> u32
         }
         Element::NoField => {
             *element = 0;
+            0
+        }
+    }
+}
+
+// Writes a power and the turns that its loop made, or 0 and 0 where the number named no field; answers 1 or 0.
+pub fn write_power(answer: PowerTurns, power: &mut u32, turns: &mut u32) -> u32
+    ensures { λ r. ⌜ r ≡ powerNamed (poweredOf answer) ⌝ }
+    ensures { λ r. ⌜ now (power .exit) ≡ powerOrZero (poweredOf answer) ⌝ }
+    ensures { λ r. ⌜ now (turns .exit) ≡ turnsOrZero (poweredOf answer) ⌝ }
+{
+    match answer {
+        PowerTurns::Value(x, made) => {
+            *power = x;
+            *turns = made;
+            1
+        }
+        PowerTurns::NoField => {
+            *power = 0;
+            *turns = 0;
             0
         }
     }

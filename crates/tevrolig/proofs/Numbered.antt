@@ -1,18 +1,12 @@
 -- The numbers of an answer in code are those of the definition's.
 use Prim.Native.Nat.{ℕ}
-use mathlib.Core.Path.{_≡_, sym, ap, _∙_}
+use mathlib.Core.Path.{_≡_, ap, _∙_}
 use mathlib.Core.List.{List}
 use mathlib.Core.Option.{Option}
 use Rattle.definition.specs.Verdict.{Outcome, Verdict}
 use Rattle.definition.specs.Field.{FieldAnswer, PowerAnswer, InverseAnswer}
 use Rattle.definition.specs.Prove as prove
-use Rattle.field.specs.declared.PowerTurns.{PowerTurns}
-use Rattle.field.specs.declared.PowerTurns.the-variants as power-turns
-use Rattle.field.specs.Answer.{poweredOf}
-use Rattle.reader.specs.declared.Word.{Word}
-use Rattle.reader.specs.declared.Word.the-variants as word
-use Rattle.reader.specs.Words as words
-use Rattle.numbers.specs.Numbers.{AnswerNumbers, ElementNumbers, InverseNumbers, OutcomeNumbers, VerdictNumbers, numberOf, placeIn, refusalOf, valueOf, wordThere, wordOrZero, fieldNamed, elementOrZero, powerNamed, powerOrZero, turnsOrZero, inverseNumber, inverseOrZero}
+use Rattle.numbers.specs.Numbers.{AnswerNumbers, ElementNumbers, InverseNumbers, OutcomeNumbers, PowerNumbers, VerdictNumbers, WordNumbers, numberOf, placeIn, refusalOf, valueOf, wordThere, wordOrZero, fieldNamed, elementOrZero, powerNamed, powerOrZero, turnsOrZero, inverseNumber, inverseOrZero}
 
 -- what is written of an outcome is what the definition's outcome says, and so on
 pub read-numbers : {o d : Outcome} {number place : ℕ} → OutcomeNumbers o number place → o ≡ d → OutcomeNumbers d number place
@@ -41,34 +35,8 @@ element-defined n e = (n .0 ∙ ap fieldNamed e, n .1 ∙ ap elementOrZero e)
 pub inverse-defined : {a d : InverseAnswer} {number element : ℕ} → InverseNumbers a number element → a ≡ d → InverseNumbers d number element
 inverse-defined n e = (n .0 ∙ ap inverseNumber e, n .1 ∙ ap inverseOrZero e)
 
-module _ (w : Word) {d : Option ℕ} (e : words.valueOf w ≡ d) where
-  abbrev pub WordNumbers : ℕ → ℕ → Type 0
-  WordNumbers there word = (there ≡ wordThere d) × (word ≡ wordOrZero d)
+pub word-defined : {a d : Option ℕ} {there word : ℕ} → WordNumbers a there word → a ≡ d → WordNumbers d there word
+word-defined n e = (n .0 ∙ ap wordThere e, n .1 ∙ ap wordOrZero e)
 
-  pub value-numbers : (x : ℕ) → w ≡ word.Value x → WordNumbers 1 x
-  unfolding words.valueOf wordThere wordOrZero
-  value-numbers x h =
-      let o = ap words.valueOf (sym h) ∙ e in
-      (ap wordThere o, ap wordOrZero o)
-
-  pub end-numbers : w ≡ word.End → WordNumbers 0 0
-  unfolding words.valueOf wordThere wordOrZero
-  end-numbers h =
-      let o = ap words.valueOf (sym h) ∙ e in
-      (ap wordThere o, ap wordOrZero o)
-
-module _ (a : PowerTurns) {d : PowerAnswer} (e : poweredOf a ≡ d) where
-  abbrev pub PowerNumbers : ℕ → ℕ → ℕ → Type 0
-  PowerNumbers named element turns = (named ≡ powerNamed d) × ((element ≡ powerOrZero d) × (turns ≡ turnsOrZero d))
-
-  pub power-numbers : (x turns : ℕ) → a ≡ power-turns.Value x turns → PowerNumbers 1 x turns
-  unfolding powerNamed powerOrZero turnsOrZero
-  power-numbers x turns h =
-      let o = ap poweredOf (sym h) ∙ e in
-      (ap powerNamed o, (ap powerOrZero o, ap turnsOrZero o))
-
-  pub no-power-numbers : a ≡ power-turns.NoField → PowerNumbers 0 0 0
-  unfolding powerNamed powerOrZero turnsOrZero
-  no-power-numbers h =
-      let o = ap poweredOf (sym h) ∙ e in
-      (ap powerNamed o, (ap powerOrZero o, ap turnsOrZero o))
+pub power-defined : {a d : PowerAnswer} {named element turns : ℕ} → PowerNumbers a named element turns → a ≡ d → PowerNumbers d named element turns
+power-defined n e = (n .0 ∙ ap powerNamed e, (n .1 .0 ∙ ap powerOrZero e, n .1 .1 ∙ ap turnsOrZero e))

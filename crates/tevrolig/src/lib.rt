@@ -1,7 +1,5 @@
 // The operations as C functions. Nothing is allocated and no state is kept; what is lent is lent for the call alone.
 use edition::Edition;
-use field::PowerTurns;
-use reader::Word;
 ghost use mathlib.Core.Path.{_≡_};
 ghost use Rattle.definition.specs.Reading.{reading};
 ghost use Rattle.definition.specs.Verify.{decideFile, verify, verifyIn};
@@ -78,17 +76,7 @@ pub extern "C" fn tevrolig_word(file: &[u8], number: u64, word: &mut u32) -> u32
     ensures { λ r. ⌜ r ≡ wordThere (wordIn (streamOf (now (file .entry))) number) ⌝ }
     ensures { λ r. ⌜ now (word .exit) ≡ wordOrZero (wordIn (streamOf (now (file .entry))) number) ⌝ }
 {
-    let w = reader::word_in(file, number as usize);
-    match w {
-        Word::Value(x) => {
-            *word = x;
-            1
-        }
-        Word::End => {
-            *word = 0;
-            0
-        }
-    }
+    numbers::write_word(reader::word_in(file, number as usize), word)
 }
 
 // Shows the sheet that a file holds, judged or not: writes its 12 words at the front of `output`. Answers 0; or a refusal's number, 1 where the file has no
@@ -224,17 +212,7 @@ pub extern "C" fn tevrolig_power_turns(
     ensures { λ r. ⌜ now (element .exit) ≡ powerOrZero (powerTurnsOf field a exponent) ⌝ }
     ensures { λ r. ⌜ now (turns .exit) ≡ turnsOrZero (powerTurnsOf field a exponent) ⌝ }
 {
-    *element = 0;
-    *turns = 0;
-    let answer = field::power_turns(field, a, exponent);
-    match answer {
-        PowerTurns::Value(power, made) => {
-            *element = power;
-            *turns = made;
-            1
-        }
-        PowerTurns::NoField => 0,
-    }
+    numbers::write_power(field::power_turns(field, a, exponent), element, turns)
 }
 
 // The inverse of a word in a field. Answers 1 and writes it, or answers 2 where there is none, exactly for 0, or 0 where the number names no field; `element`

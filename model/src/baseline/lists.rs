@@ -33,6 +33,22 @@ impl<const P: u64> Prime<P, true> {
         }
     }
 
+    /// The inverse of an element other than 0, by Euclid's division: modulo P the two last remainders are s and t times the element.
+    fn inverse_by_division(self, a: u32) -> u32 {
+        let (mut before, mut rest) = (P as u32, a);
+        let (mut s, mut t) = (0, 1);
+        while rest > 1 {
+            let next = self.add_product(s, before / rest, P as u32 - t);
+            (before, rest) = (rest, before % rest);
+            (s, t) = (t, next);
+        }
+        if rest == 1 {
+            t
+        } else {
+            self.inv(a)
+        }
+    }
+
     /// Each value becomes its inverse, by one inversion.
     fn invert_all(self, values: &mut [u32], before: &mut [u32]) {
         let mut product = 1;
@@ -40,7 +56,7 @@ impl<const P: u64> Prime<P, true> {
             *before = product;
             product = self.mul(product, value);
         }
-        let mut inverse = self.inv(product);
+        let mut inverse = self.inverse_by_division(product);
         for (value, &before) in values.iter_mut().zip(before.iter()).rev() {
             let here = *value;
             *value = self.mul(inverse, before);

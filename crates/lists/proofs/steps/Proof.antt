@@ -5,7 +5,7 @@ use mathlib.Core.Path.{_≡_, refl, ap, _∙_, subst}
 use lib.ListN.{length, getD, drop}
 use Rattle.definition.specs.Field.{fieldOf, reciprocal}
 use Rattle.polynomial.specs.Vanishing.{vanishAt}
-use Rattle.lists.specs.Steps.{Through}
+use Rattle.newton_step.specs.Steps.{Through}
 use Rattle.lists.proofs.Interpolating.{through-first}
 use Rattle.lists.proofs.steps.Statement.{statement}
 use Rattle.lists.proofs.steps.Tie as tie

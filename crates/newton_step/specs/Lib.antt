@@ -1,0 +1,2 @@
+-- The definition's Newton step on coefficient lists.
+pub mod Steps
