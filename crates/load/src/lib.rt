@@ -33,7 +33,7 @@ fn honest_verdict(w: &[u32], coefficients: &[u32], coins: &[u32]) -> Verdict
     checked.verdict
 }
 
-// One run: a sheet, coefficients and coins are drawn, the order is proved, and the honest file is judged.
+// One run: a sheet, coefficients and coins are drawn, their file is proved, and the file is verified.
 pub fn run(generator: Generator) -> Ran
     ensures { λ r. ⌜ verdictOf (r .verdict) ≡ verdictOn (drawInput (generator .v) .value) ⌝ }
     ensures { λ r. ⌜ r .next .v ≡ drawInput (generator .v) .next ⌝ }
