@@ -7,14 +7,14 @@ use Rattle.tevrolig.proofs.tevrolig_encode.Tie as tie
 encode-requires : tie.Need-encode-requires
 encode-requires c κs = search needs
 
-write-value-requires : tie.Need-write-value-requires
-write-value-requires c κs = search needs
+of-answer-requires : tie.Need-of-answer-requires
+of-answer-requires c κs = search needs
 
 same-length : tie.Need-same-length
 same-length c = search needs
 
 returns : tie.Need-returns
-returns c = answer-written (c .write-value .ensures) (c .before .before .before .before .encode .ensures)
+returns c = answer-written (c .of-answer .ensures) (c .before .before .before .encode .ensures)
 
 pub tevrolig-encode-spec : {M : Type 1} → statement M
-tevrolig-encode-spec = tie.close (tie.spec encode-requires write-value-requires same-length returns)
+tevrolig-encode-spec = tie.close (tie.spec encode-requires of-answer-requires same-length returns)

@@ -8,15 +8,15 @@ use Rattle.tevrolig.proofs.tevrolig_prove_2.Tie as tie
 prove-in-requires : tie.Need-prove-in-requires
 prove-in-requires c κs = search needs
 
-write-value-requires : tie.Need-write-value-requires
-write-value-requires c κs = search needs
+of-answer-requires : tie.Need-of-answer-requires
+of-answer-requires c κs = search needs
 
 same-length : tie.Need-same-length
 same-length c = search needs
 
 returns : tie.Need-returns
 unfolding editionOf
-returns c = answer-written (c .write-value .ensures) (c .before .before .before .before .prove-in .ensures)
+returns c = answer-written (c .of-answer .ensures) (c .before .before .before .prove-in .ensures)
 
 pub tevrolig-prove-2-spec : {M : Type 1} → statement M
-tevrolig-prove-2-spec = tie.close (tie.spec prove-in-requires write-value-requires same-length returns)
+tevrolig-prove-2-spec = tie.close (tie.spec prove-in-requires of-answer-requires same-length returns)

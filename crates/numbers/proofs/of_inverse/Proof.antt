@@ -1,8 +1,8 @@
--- `numbers::write_inverse` meets its contract. Assumes nothing.
+-- `numbers::of_inverse` meets its contract. Assumes nothing.
 use Rattle.numbers.proofs.Written.{inverse-found, inverse-nothing, inverse-unknown}
 use borrow.Author.Needs.{needs}
-use Rattle.numbers.proofs.write_inverse.Statement.{statement}
-use Rattle.numbers.proofs.write_inverse.Tie as tie
+use Rattle.numbers.proofs.of_inverse.Statement.{statement}
+use Rattle.numbers.proofs.of_inverse.Tie as tie
 
 enum-known-answer : tie.Need-enum-known-answer
 enum-known-answer c = search needs
@@ -22,6 +22,6 @@ returns-2 c = inverse-nothing (c .before .before .args .answer) (c .enum-told .g
 returns-3 : tie.Need-returns-3
 returns-3 c = inverse-unknown (c .before .before .args .answer) (c .enum-told2 .given .1)
 
-pub write-inverse-spec : {M : Type 1} → statement M
-write-inverse-spec =
+pub of-inverse-spec : {M : Type 1} → statement M
+of-inverse-spec =
     tie.close (tie.spec enum-known-answer enum-told enum-told-2 returns returns-2 returns-3)

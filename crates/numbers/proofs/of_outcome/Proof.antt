@@ -1,8 +1,8 @@
--- `numbers::write_outcome` meets its contract. Assumes nothing.
+-- `numbers::of_outcome` meets its contract. Assumes nothing.
 use borrow.Author.Needs.{needs}
 use Rattle.numbers.proofs.Written.{accepted-numbers, refused-numbers}
-use Rattle.numbers.proofs.write_outcome.Statement.{statement}
-use Rattle.numbers.proofs.write_outcome.Tie as tie
+use Rattle.numbers.proofs.of_outcome.Statement.{statement}
+use Rattle.numbers.proofs.of_outcome.Tie as tie
 
 enum-told : tie.Need-enum-told
 enum-told c = search needs
@@ -18,5 +18,5 @@ returns-2 c =
     let g = c .before .o .given in
     refused-numbers (c .before .before .before .args .o) (g .0 .0) (g .0 .1 .0) (g .1)
 
-pub write-outcome-spec : {M : Type 1} → statement M
-write-outcome-spec = tie.close (tie.spec enum-told enum-known-o returns returns-2)
+pub of-outcome-spec : {M : Type 1} → statement M
+of-outcome-spec = tie.close (tie.spec enum-told enum-known-o returns returns-2)

@@ -1,8 +1,8 @@
--- `numbers::write_power` meets its contract. Assumes nothing.
+-- `numbers::of_power` meets its contract. Assumes nothing.
 use borrow.Author.Needs.{needs}
 use Rattle.numbers.proofs.Written.{power-numbers, no-power-numbers}
-use Rattle.numbers.proofs.write_power.Statement.{statement}
-use Rattle.numbers.proofs.write_power.Tie as tie
+use Rattle.numbers.proofs.of_power.Statement.{statement}
+use Rattle.numbers.proofs.of_power.Tie as tie
 
 enum-known-answer : tie.Need-enum-known-answer
 enum-known-answer c = search needs
@@ -18,5 +18,5 @@ returns c =
 returns-2 : tie.Need-returns-2
 returns-2 c = no-power-numbers (c .before .before .args .answer) (c .enum-told .given .1)
 
-pub write-power-spec : {M : Type 1} → statement M
-write-power-spec = tie.close (tie.spec enum-known-answer enum-told returns returns-2)
+pub of-power-spec : {M : Type 1} → statement M
+of-power-spec = tie.close (tie.spec enum-known-answer enum-told returns returns-2)

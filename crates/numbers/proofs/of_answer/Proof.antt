@@ -1,8 +1,8 @@
--- `numbers::write_value` meets its contract. Assumes nothing.
+-- `numbers::of_answer` meets its contract. Assumes nothing.
 use borrow.Author.Needs.{needs}
 use Rattle.numbers.proofs.Written.{done-numbers, refusal-numbers}
-use Rattle.numbers.proofs.write_value.Statement.{statement}
-use Rattle.numbers.proofs.write_value.Tie as tie
+use Rattle.numbers.proofs.of_answer.Statement.{statement}
+use Rattle.numbers.proofs.of_answer.Tie as tie
 
 enum-known-answer : tie.Need-enum-known-answer
 enum-known-answer c = search needs
@@ -18,5 +18,5 @@ returns-2 c =
     let g = c .before .answer2 .given in
     refusal-numbers (c .before .before .before .args .answer) (g .0 .0) (g .0 .1 .0) (g .1)
 
-pub write-value-spec : {M : Type 1} → statement M
-write-value-spec = tie.close (tie.spec enum-known-answer enum-known-answer-2 returns returns-2)
+pub of-answer-spec : {M : Type 1} → statement M
+of-answer-spec = tie.close (tie.spec enum-known-answer enum-known-answer-2 returns returns-2)
