@@ -74,3 +74,10 @@ pub record Proved (ed : Edition) (w f coins before : List ℕ) (a : Answer) (aft
 
 pub proved : {ed : Edition} {w f coins before after : List ℕ} {a : Answer} → (a ≡ proveIn ed w f coins before .answer) × (after ≡ proveIn ed w f coins before .output) → Proved ed w f coins before a after
 proved h = record { answer = h .0; output = h .1 }
+
+-- and the same of the honest words
+pub record Streamed (ed : Edition) (w f coins words : List ℕ) : Type 0 where
+  pub are : words ≡ honestStream ed w f coins
+
+pub streamed : {ed : Edition} {w f coins words : List ℕ} → words ≡ honestStream ed w f coins → Streamed ed w f coins words
+streamed h = record { are = h }
