@@ -7,9 +7,10 @@ ghost use Prim.Native.Nat.{_+_, _*_, _≤_, _<_};
 ghost use lib.ListN.{length, getD, drop};
 ghost use Rattle.definition.specs.Layout.{wordsDue};
 ghost use Rattle.definition.specs.Prover.{honestStream};
-ghost use Rattle.definition.specs.Sheet.{sheetOf};
+ghost use Rattle.definition.specs.Sheet.{rootOfUnity, sheetOf};
 ghost use Rattle.completeness.specs.Numbered.{Allowed};
 ghost use Rattle.layouts.specs.Levels.{degreeOf};
+ghost use Rattle.domain.specs.Powers.{Powers};
 ghost use Rattle.edition.specs.Meaning.{editionOf};
 ghost use Rattle.honest_words.specs.Invariant.{CoinRunsFrom, Invariant, openingFrom, restCount, wordsFrom};
 
@@ -53,40 +54,59 @@ fn transcript(
     after_first(e, w, pw, f, coins, g, &mut out[n..]);
 }
 
-// The words of the honest stream: the sheet, table 0, fold coin 0, the rounds, the final coefficients and indices. There are places in pw for the points of
-// domain 0, and in g for the fold of f.
+// The words of the honest stream, by the table of the points of domain 0: the sheet, table 0, fold coin 0, the rounds, the final coefficients and indices.
 fn stream_by(
     e: Edition,
     w: &[u32],
+    pw: &[u32],
     f: &[u32],
     coins: &[u32],
-    pw: &mut [u32],
     g: &mut [u32],
     out: &mut [u32],
 )
-    requires { ⌜ (Allowed (editionOf e) (now w) (now f) (now coins)) × ((getD (now w) 1 0 ≤ length (now pw)) × (length (now f) ≤ 2 * length (now g))) ⌝ }
+    requires { ⌜ (Allowed (editionOf e) (now w) (now f) (now coins)) × (length (now f) ≤ 2 * length (now g)) ⌝ }
+    requires { ⌜ (Powers (getD (now w) 0 0) (rootOfUnity (sheetOf (editionOf e) (now w))) (now pw)) × (length (now pw) ≡ getD (now w) 1 0) ⌝ }
     requires { ⌜ length (now out) ≡ wordsDue (editionOf e) (sheetOf (editionOf e) (now w)) ⌝ }
     ensures { λ _. ⌜ now (out .exit) ≡ honestStream (editionOf e) (now (w .entry)) (now (f .entry)) (now (coins .entry)) ⌝ }
 {
-    let size = domain::of_sheet_within(w, pw);
     let head = edition::sheet_words(e);
     honest_words::copy(w, &mut out[..head]);
-    transcript(e, w, &pw[..size], f, coins, g, &mut out[head..]);
+    transcript(e, w, pw, f, coins, g, &mut out[head..]);
 }
 
-// The words of the honest stream of a sheet of the edition. One with at most 256 points is spared the clearing of many places.
+// The words of the honest stream, with places for every sheet.
+fn stream_with_all(e: Edition, w: &[u32], f: &[u32], coins: &[u32], out: &mut [u32])
+    requires { ⌜ Allowed (editionOf e) (now w) (now f) (now coins) ⌝ }
+    requires { ⌜ length (now out) ≡ wordsDue (editionOf e) (sheetOf (editionOf e) (now w)) ⌝ }
+    ensures { λ _. ⌜ now (out .exit) ≡ honestStream (editionOf e) (now (w .entry)) (now (f .entry)) (now (coins .entry)) ⌝ }
+{
+    let mut pw = domain::points_room();
+    let mut g = honest_round::fold_room();
+    let size = domain::of_sheet(w, &mut pw);
+    stream_by(e, w, &pw[..size], f, coins, &mut g, out);
+}
+
+// The same of a sheet with at most 256 points: a small one is spared the clearing of many places.
+fn stream_with_few(e: Edition, w: &[u32], f: &[u32], coins: &[u32], out: &mut [u32])
+    requires { ⌜ (Allowed (editionOf e) (now w) (now f) (now coins)) × (getD (now w) 1 0 ≤ 256) ⌝ }
+    requires { ⌜ length (now out) ≡ wordsDue (editionOf e) (sheetOf (editionOf e) (now w)) ⌝ }
+    ensures { λ _. ⌜ now (out .exit) ≡ honestStream (editionOf e) (now (w .entry)) (now (f .entry)) (now (coins .entry)) ⌝ }
+{
+    let mut pw = domain::few_points_room();
+    let mut g = honest_round::few_fold_room();
+    let size = domain::of_sheet_within(w, &mut pw);
+    stream_by(e, w, &pw[..size], f, coins, &mut g, out);
+}
+
+// The words of the honest stream of a sheet of the edition.
 pub fn stream(e: Edition, w: &[u32], f: &[u32], coins: &[u32], out: &mut [u32])
     requires { ⌜ Allowed (editionOf e) (now w) (now f) (now coins) ⌝ }
     requires { ⌜ length (now out) ≡ wordsDue (editionOf e) (sheetOf (editionOf e) (now w)) ⌝ }
     ensures { λ _. ⌜ now (out .exit) ≡ honestStream (editionOf e) (now (w .entry)) (now (f .entry)) (now (coins .entry)) ⌝ }
 {
     if w[1] <= 256 {
-        let mut few = domain::few_points_room();
-        let mut few_folds = honest_round::few_fold_room();
-        stream_by(e, w, f, coins, &mut few, &mut few_folds, out);
+        stream_with_few(e, w, f, coins, out);
     } else {
-        let mut pw = domain::points_room();
-        let mut g = honest_round::fold_room();
-        stream_by(e, w, f, coins, &mut pw, &mut g, out);
+        stream_with_all(e, w, f, coins, out);
     }
 }
