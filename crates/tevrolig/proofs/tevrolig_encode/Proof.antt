@@ -1,6 +1,7 @@
 -- `tevrolig::tevrolig_encode` meets its contract. Assumes nothing.
 use borrow.Author.Needs.{needs}
-use Rattle.tevrolig.proofs.Numbered.{answer-written}
+use Rattle.definition.specs.Prove.{encode}
+use Rattle.tevrolig.proofs.Numbered.{Ordered, order-written, ordered}
 use Rattle.tevrolig.proofs.tevrolig_encode.Statement.{statement}
 use Rattle.tevrolig.proofs.tevrolig_encode.Tie as tie
 
@@ -14,7 +15,10 @@ same-length : tie.Need-same-length
 same-length c = search needs
 
 returns : tie.Need-returns
-returns c = answer-written (c .of-answer .ensures) (c .before .before .before .encode .ensures)
+returns c =
+    let a = c .before .before .before .before .before .before .before .before .args in
+    let o : Ordered encode (a .sheet .now) (a .coefficients .now) (a .output .now) _ _ = ordered encode (c .before .before .before .encode .ensures) in
+    order-written (c .of-answer .ensures) o
 
 pub tevrolig-encode-spec : {M : Type 1} → statement M
 tevrolig-encode-spec = tie.close (tie.spec encode-requires of-answer-requires same-length returns)

@@ -1,7 +1,9 @@
 -- `tevrolig::tevrolig_prove_2` meets its contract. Assumes nothing.
 use borrow.Author.Needs.{needs}
+use Rattle.definition.specs.Prove.{proveIn}
+use Rattle.definition.specs.Sheet.{edition2}
 use Rattle.edition.specs.Meaning.{editionOf}
-use Rattle.tevrolig.proofs.Numbered.{answer-written}
+use Rattle.tevrolig.proofs.Numbered.{Ordered, order-written, ordered}
 use Rattle.tevrolig.proofs.tevrolig_prove_2.Statement.{statement}
 use Rattle.tevrolig.proofs.tevrolig_prove_2.Tie as tie
 
@@ -16,7 +18,10 @@ same-length c = search needs
 
 returns : tie.Need-returns
 unfolding editionOf
-returns c = answer-written (c .of-answer .ensures) (c .before .before .before .prove-in .ensures)
+returns c =
+    let a = c .before .before .before .before .before .before .before .before .before .args in
+    let o : Ordered (proveIn edition2 (a .sheet .now)) (a .coefficients .now) (a .coins .now) (a .output .now) _ _ = ordered (proveIn edition2 (a .sheet .now)) (c .before .before .before .prove-in .ensures) in
+    order-written (c .of-answer .ensures) o
 
 pub tevrolig-prove-2-spec : {M : Type 1} → statement M
 tevrolig-prove-2-spec = tie.close (tie.spec prove-in-requires of-answer-requires same-length returns)
