@@ -16,6 +16,7 @@ ghost use Rattle.definition.specs.Sheet.{edition1, edition2, sheetOf};
 ghost use Rattle.definition.specs.Verdict.{_then_};
 ghost use Rattle.outcome.specs.Meaning.{answerOf};
 ghost use Rattle.convert.specs.Stages.{Sized, Tested, outputFor};
+ghost use Rattle.convert.specs.Ways.{Converted};
 
 // Places for the words of the largest file that can be accepted, 67 blocks, and one block more, after six for a longer sheet.
 fn room() -> [u32; 8642]
@@ -86,8 +87,7 @@ fn write(words: &[u32], count: usize, output: &mut [u8]) -> Answer
 // From edition 1 to edition 2, by way of the places lent: the file's words are read from place 6 on.
 fn forward(file: &[u8], words: &mut [u32], output: &mut [u8]) -> Answer
     requires { ⌜ (127 * min (length (now file) / 512) 68 + 6 ≤ length (now words)) × (18 ≤ length (now words)) ⌝ }
-    ensures { λ r. ⌜ answerOf r ≡ toEdition2 (now (file .entry)) (now (output .entry)) .answer ⌝ }
-    ensures { λ r. ⌜ now (output .exit) ≡ toEdition2 (now (file .entry)) (now (output .entry)) .output ⌝ }
+    ensures { λ r. ⌜ (answerOf r ≡ toEdition2 (now (file .entry)) (now (output .entry)) .answer) × (now (output .exit) ≡ toEdition2 (now (file .entry)) (now (output .entry)) .output) ⌝ }
 {
     let tests = forward_tests(file, &mut words[6..], output.len());
     let Answer::Done(count) = tests else {
@@ -100,8 +100,7 @@ fn forward(file: &[u8], words: &mut [u32], output: &mut [u8]) -> Answer
 // From edition 2 to edition 1, by way of the places lent: the new file's words stand from place 6 on.
 fn backward(file: &[u8], words: &mut [u32], output: &mut [u8]) -> Answer
     requires { ⌜ (127 * min (length (now file) / 512) 68 ≤ length (now words)) × (18 ≤ length (now words)) ⌝ }
-    ensures { λ r. ⌜ answerOf r ≡ toEdition1 (now (file .entry)) (now (output .entry)) .answer ⌝ }
-    ensures { λ r. ⌜ now (output .exit) ≡ toEdition1 (now (file .entry)) (now (output .entry)) .output ⌝ }
+    ensures { λ r. ⌜ (answerOf r ≡ toEdition1 (now (file .entry)) (now (output .entry)) .answer) × (now (output .exit) ≡ toEdition1 (now (file .entry)) (now (output .entry)) .output) ⌝ }
 {
     let tests = backward_tests(file, words, output.len());
     let Answer::Done(count) = tests else {
@@ -111,17 +110,35 @@ fn backward(file: &[u8], words: &mut [u32], output: &mut [u8]) -> Answer
     write(&words[6..], count, output)
 }
 
-// A file of edition 1 as one of edition 2: the answer, and the whole output as it then is. A short file is spared the clearing of many places.
+// A file as one of the edition named, from the other, by way of the places lent.
+fn by_way(to: Edition, file: &[u8], words: &mut [u32], output: &mut [u8]) -> Answer
+    requires { ⌜ (127 * min (length (now file) / 512) 68 + 6 ≤ length (now words)) × (18 ≤ length (now words)) ⌝ }
+    ensures { λ r. ⌜ Converted to (now (file .entry)) (now (output .entry)) (answerOf r) (now (output .exit)) ⌝ }
+{
+    match to {
+        Edition::One => backward(file, words, output),
+        Edition::Two => forward(file, words, output),
+    }
+}
+
+// The same. A short file is spared the clearing of many places.
+fn convert_to(to: Edition, file: &[u8], output: &mut [u8]) -> Answer
+    ensures { λ r. ⌜ Converted to (now (file .entry)) (now (output .entry)) (answerOf r) (now (output .exit)) ⌝ }
+{
+    if file.len() <= 4096 {
+        let mut few = small_room();
+        return by_way(to, file, &mut few, output);
+    }
+    let mut words = room();
+    by_way(to, file, &mut words, output)
+}
+
+// A file of edition 1 as one of edition 2: the answer, and the whole output as it then is.
 pub fn to_edition_2(file: &[u8], output: &mut [u8]) -> Answer
     ensures { λ r. ⌜ answerOf r ≡ toEdition2 (now (file .entry)) (now (output .entry)) .answer ⌝ }
     ensures { λ r. ⌜ now (output .exit) ≡ toEdition2 (now (file .entry)) (now (output .entry)) .output ⌝ }
 {
-    if file.len() <= 4096 {
-        let mut few = small_room();
-        return forward(file, &mut few, output);
-    }
-    let mut words = room();
-    forward(file, &mut words, output)
+    convert_to(Edition::Two, file, output)
 }
 
 // And back.
@@ -129,10 +146,5 @@ pub fn to_edition_1(file: &[u8], output: &mut [u8]) -> Answer
     ensures { λ r. ⌜ answerOf r ≡ toEdition1 (now (file .entry)) (now (output .entry)) .answer ⌝ }
     ensures { λ r. ⌜ now (output .exit) ≡ toEdition1 (now (file .entry)) (now (output .entry)) .output ⌝ }
 {
-    if file.len() <= 4096 {
-        let mut few = small_room();
-        return backward(file, &mut few, output);
-    }
-    let mut words = room();
-    backward(file, &mut words, output)
+    convert_to(Edition::One, file, output)
 }

@@ -4,7 +4,7 @@ use native.Mathlib.Nat.{div-mul-le-self, mul-le-mul-left, pow-zero}
 use native.Mathlib.Omega.{arith}
 use mathlib.Core.List.{List, _∷_, _++_}
 use mathlib.Core.Path.{_≡_, sym, ap, _∙_, subst}
-use lib.ListN.{length, getD, drop, replicate, length-append, length-replicate}
+use lib.ListN.{length, getD, take, drop, replicate, length-append, length-replicate}
 use Rattle.definition.specs.Layout.{coin, coinKinds, layout, message, readCoins, readFinals, readRounds, restLayout, wordsDue}
 use Rattle.definition.specs.Prover.{honest, honestRest, honestStream, tableOf}
 use Rattle.definition.specs.Sheet.{Edition, Level, Sheet, firstLevel, laterLevels, sheetLength, sheetOf}
@@ -17,7 +17,9 @@ use Rattle.layouts.specs.Levels.{degreeOf, levelOf, outCoinCount, roundsOf, she
 use Rattle.completeness.specs.Numbered.{Allowed}
 use Rattle.domain.specs.Powers.{Powers}
 use Rattle.honest_words.specs.Sizes.{divided, half-degree, law, multiplied, numbers, size-word}
-use Rattle.honest_words.specs.Invariant.{AtLevel, CoinRunsFrom, Invariant, foldOf, levelsAfter, restCount, restFrom, wordsFrom}
+use Rattle.honest_words.specs.Invariant.{AtLevel, CoinRunsFrom, Invariant, RestAfter, foldFrom, foldOf, levelsAfter, openingFrom, restCount, restFrom, wordsFrom}
+use Rattle.list_laws.specs.LentParts.{begun, front-stays}
+use Rattle.honest.proofs.Stored.{stored, stored-join}
 
 -- fold coin 0 is due
 some-coin : (h : Sheet) → 0 < length (coinKinds (layout h))
@@ -96,3 +98,10 @@ first-fold {ed} {w} {count} {d} {room} p ec most e =
       fold = ec ∙ multiplied p ∙ ap (λ (m : ℕ). k * m) (sym degree);
       within = omega (arith, e, most, div-mul-le-self count k, mul-le-mul-left (count / k) (numbers p .least-fold));
     }
+
+-- fold coin 0 and the words after it, where the fold stands in the first d places of g
+pub opening-is : (h : Sheet) (f coins l back g front : List ℕ) (d : ℕ) {later : List ℕ} → 0 < length l → d ≤ length g → length front ≡ length (take d g) →
+    front ≡ foldFrom h 0 (getD coins 0 0) f → later ≡ drop 1 coins → RestAfter h 0 (take d (begun g front d)) later back → stored l back (getD coins 0 0) ≡ openingFrom h f coins
+opening-is h f coins l back g front d some within long fold e rest =
+    let r = getD coins 0 0 in
+    stored-join l r back some ∙ ap {B = List ℕ} (λ l. r ∷ l) (rest f r (sym (front-stays g front d within long ∙ fold)) ∙ ap (restFrom h 0 f r) e)

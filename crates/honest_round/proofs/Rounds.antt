@@ -20,10 +20,11 @@ use Rattle.layouts.specs.Levels.{degreeOf, levelOf, outCoinCount, roundsOf, she
 use Rattle.correction.specs.Corrected.{Corrected}
 use Rattle.folds.specs.PointsIn.{shiftIn, shift-in}
 use Rattle.honest_words.specs.Levels.{shifts-are}
+use Rattle.honest_words.proofs.Words.{outs-long}
 use Rattle.distinct.specs.Points.{InTable, distinct-points}
-use Rattle.honest_words.specs.Sizes.{Sizes, falls, field-word, next-place, numbers, sizes}
+use Rattle.honest_words.specs.Sizes.{Sizes, falls, fewer-points, field-word, next-place, numbers, sizes}
 use Rattle.list_laws.specs.LentParts.{begun, front-stays}
-use Rattle.honest_words.specs.Invariant.{RoundCoinsFit, Invariant, coinsNext, correctedFrom, foldAfter, foldFrom, foldOf, repetitionsOf, shiftsNext}
+use Rattle.honest_words.specs.Invariant.{AtLevel, RoundCoinsFit, Invariant, coinsNext, correctedFrom, foldAfter, foldFrom, foldOf, repetitionsOf, shiftsNext}
 
 -- the place in the table of each shift index
 shifts-inside : (h : Sheet) (i scale points : ℕ) (js : List ℕ) → Sizes h i scale points → All (λ j. j < shiftCount (levelOf h i)) js → InTable points scale js
@@ -52,12 +53,7 @@ module _ {h : Sheet} {i : ℕ} {coins : List ℕ} (runs : RoundCoinsFit h i coin
       let f : s + 2 ≡ outCoinCount h + 2 = omega (arith, es) in
       λ x. take (e x) (drop (f x) coins)
 
-  combination-is : getD coins s 0 ≡ getD (take (2 + repetitionsOf h i) (drop (outCoinCount h) coins)) 0 0
-  combination-is =
-      let e : outCoinCount h + 0 ≡ s = omega (arith, es) in
-      sym (getD-take (2 + repetitionsOf h i) (drop (outCoinCount h) coins) 0 0 (omega arith) ∙ getD-drop (outCoinCount h) coins 0 0 ∙ ap (λ (n : ℕ). getD coins n 0) e)
-
--- ---- the corrected polynomial
+-- ---- the points
 
 module _ {ed : Edition} {w pw : List ℕ} {i scale : ℕ} (st : Invariant ed w pw i scale) {coins : List ℕ} (runs : RoundCoinsFit (sheetOf ed w) i coins)
     {s t k : ℕ} (es : outCoinCount (sheetOf ed w) ≡ s) (et : repetitionsOf (sheetOf ed w) i ≡ t) (ek : k ≡ foldOf (sheetOf ed w) i) where
@@ -68,11 +64,10 @@ module _ {ed : Edition} {w pw : List ℕ} {i scale : ℕ} (st : Invariant ed w p
   js = take (s + 2 + t - (s + 2)) (drop (s + 2) coins)
 
   -- the points of G by the table of points
-  points-are : (g : List ℕ) →
-      points (distinct (sheetField h) (honestAnswers (sheetField h) (sheetRoot h) (levelOf h i) g (coinsNext h i coins)))
-      ≡ different eqb (take s coins ++ map (shiftIn 0 pw scale k) js)
+  pub points-are : (xs : List ℕ) → xs ≡ different eqb (take s coins ++ map (shiftIn 0 pw scale k) (take (s + 2 + t - (s + 2)) (drop (s + 2) coins))) →
+      (g : List ℕ) → points (distinct (sheetField (sheetOf ed w)) (honestAnswers (sheetField (sheetOf ed w)) (sheetRoot (sheetOf ed w)) (levelOf (sheetOf ed w) i) g (coinsNext (sheetOf ed w) i coins))) ≡ xs
   unfolding honestAnswers coinsNext roundCoins laterCount fieldOf primeField
-  points-are g =
+  points-are xs e g =
       let z = sizes st in
       let S = shiftPoint (fieldOf (getD w 0 0)) (sheetRoot h) (levelOf h i) in
       ap (λ (F : Field ℕ). points (distinct F (honestAnswers F (sheetRoot h) (levelOf h i) g (coinsNext h i coins)))) (sym (field-word ed w))
@@ -80,6 +75,7 @@ module _ {ed : Edition} {w pw : List ℕ} {i scale : ℕ} (st : Invariant ed w p
       ∙ (λ x. different eqb (take (es x) coins ++ map S ((shifts-are h i coins ∙ sym (shifts-is runs es et)) x)))
       ∙ ap (λ (xs : List ℕ). different eqb (take s coins ++ xs)) (map-agree S (shiftIn 0 pw scale k) js
       (λ j. sym (shift-in (fieldOf (getD w 0 0)) (st .powers) (levelOf h i) (st .scaled) (laws (getD w 0 0)) {k = k} ek j (omega (arith, ek, numbers (st .place) .least-fold)) (z .some-points))))
+      ∙ sym e
 
   -- each shift point stands in it
   pub shifts-in : InTable (length pw) scale (take (s + 2 + t - (s + 2)) (drop (s + 2) coins))
@@ -87,13 +83,29 @@ module _ {ed : Edition} {w pw : List ℕ} {i scale : ℕ} (st : Invariant ed w p
       subst (InTable (length pw) scale) (sym (shifts-is runs es et))
       (shifts-inside h i scale (length pw) (shiftsNext h i coins) (sizes st) (runs .below))
 
-  pub corrected-is : (g xs out : List ℕ) →
-      xs ≡ different eqb (take s coins ++ map (shiftIn 0 pw scale k) (take (s + 2 + t - (s + 2)) (drop (s + 2) coins))) →
-      Corrected (fieldOf (getD w 0 0)) xs (getD coins s 0) g out → out ≡ correctedFrom (sheetOf ed w) i g coins
+  -- there are fewer of them than coefficients
+  pub points-few : (room r : ℕ) → i < roundsOf (sheetOf ed w) → room ≤ r + (length (take s coins) + length (take (s + 2 + t - (s + 2)) (drop (s + 2) coins))) →
+      room - r < degreeOf (sheetOf ed w) (i + 1)
+  points-few room r l most = omega (arith, most, fewer-points st l, outs-long runs es et, shifts-long runs es et, es, et)
+
+-- ---- the corrected polynomial
+
+module _ {ed : Edition} {w : List ℕ} {i : ℕ} (place : AtLevel ed w i) {coins : List ℕ} (runs : RoundCoinsFit (sheetOf ed w) i coins) where
+  abbrev h′ : Sheet
+  h′ = sheetOf ed w
+
+  combination-is : getD coins (getD w 5 0 + 0) 0 ≡ getD (take (2 + repetitionsOf h′ i) (drop (outCoinCount h′) coins)) 0 0
+  combination-is =
+      let e : outCoinCount h′ + 0 ≡ getD w 5 0 + 0 = omega (arith, numbers place .outs) in
+      sym (getD-take (2 + repetitionsOf h′ i) (drop (outCoinCount h′) coins) 0 0 (omega arith) ∙ getD-drop (outCoinCount h′) coins 0 0 ∙ ap (λ (n : ℕ). getD coins n 0) e)
+
+  pub corrected-is : (g xs out : List ℕ) {c : ℕ} → c ≡ getD coins (getD w 5 0 + 0) 0 →
+      ((g : List ℕ) → points (distinct (sheetField (sheetOf ed w)) (honestAnswers (sheetField (sheetOf ed w)) (sheetRoot (sheetOf ed w)) (levelOf (sheetOf ed w) i) g (coinsNext (sheetOf ed w) i coins))) ≡ xs) →
+      Corrected (fieldOf (getD w 0 0)) xs c g out → out ≡ correctedFrom (sheetOf ed w) i g coins
   unfolding correctedFrom nextPoly coinsNext roundCoins laterCount
-  corrected-is g xs out e c =
-      let G = distinct (sheetField h) (honestAnswers (sheetField h) (sheetRoot h) (levelOf h i) g (coinsNext h i coins)) in
-      c G (points-are g ∙ sym e) ∙ (λ x. correctedPoly (field-word ed w x) G (combination-is runs es et x) g)
+  corrected-is g xs out ec e c =
+      let G = distinct (sheetField h′) (honestAnswers (sheetField h′) (sheetRoot h′) (levelOf h′ i) g (coinsNext h′ i coins)) in
+      c G (e g) ∙ (λ x. correctedPoly (field-word ed w x) G ((ec ∙ combination-is) x) g)
 
 -- what a round leaves: the fold of the corrected polynomial, which stood in the first d places of next
 pub folded-next : (h : Sheet) (i d folded : ℕ) (coins g g₁ next front back : List ℕ) {r : ℕ} → d ≤ length next → length front ≡ length (take d next) →

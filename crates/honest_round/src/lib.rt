@@ -2,12 +2,15 @@
 // 0: point j of level i stands at scale·j in it, where scale is 2^i.
 use edition::Edition;
 ghost use mathlib.Core.Path.{_≡_};
-ghost use Prim.Native.Nat.{_+_, _*_, _/_, _≤_, _<_};
-ghost use lib.ListN.{length, getD, take};
+ghost use mathlib.Core.List.{List};
+ghost use Prim.Native.Nat.{ℕ, _+_, _-_, _*_, _/_, _≤_, _<_};
+ghost use lib.ListN.{length, getD, take, drop};
+ghost use Rattle.definition.specs.Polynomial.{distinct, points};
+ghost use Rattle.definition.specs.Prover.{honestAnswers};
 ghost use Rattle.definition.specs.Sheet.{sheetOf};
-ghost use Rattle.layouts.specs.Levels.{degreeOf, roundsOf};
+ghost use Rattle.layouts.specs.Levels.{degreeOf, levelOf, roundsOf, sheetField, sheetRoot};
 ghost use Rattle.edition.specs.Meaning.{editionOf};
-ghost use Rattle.honest_words.specs.Invariant.{AtLevel, RoundCoinsFit, Invariant, correctedFrom, foldAfter, foldFrom, foldOf, roundCount, roundFrom};
+ghost use Rattle.honest_words.specs.Invariant.{AtLevel, RoundCoinsFit, Invariant, coinsNext, correctedFrom, foldAfter, foldFrom, foldOf, roundCount, roundFrom};
 
 // Places for the points of a round, at most 2 + 48.
 fn points_room() -> [u32; 50]
@@ -22,6 +25,42 @@ fn folding_number(e: Edition, w: &[u32], level: usize) -> usize
     ensures { λ r. ⌜ r ≡ foldOf (sheetOf (editionOf e) (now (w .entry))) level ⌝ }
 {
     edition::fold(e, w, level)
+}
+
+// Coin number n of the round after its out coins: 0 is the combination coin, 1 the fold coin of the next round.
+fn coin(w: &[u32], coins: &[u32], n: usize) -> u32
+    requires { ⌜ (12 ≤ length (now w)) × (getD (now w) 5 0 + n < length (now coins)) ⌝ }
+    ensures { λ r. ⌜ r ≡ getD (now (coins .entry)) (getD (now (w .entry)) 5 0 + n) 0 ⌝ }
+{
+    coins[w[5] as usize + n]
+}
+
+// The points of the round's samples, without repeats, in the last places of xs. They do not depend on the round's polynomial.
+fn sample_points(
+    e: Edition,
+    w: &[u32],
+    pw: &[u32],
+    level: usize,
+    scale: usize,
+    coins: &[u32],
+    xs: &mut [u32],
+) -> usize
+    requires { ⌜ (Invariant (editionOf e) (now w) (now pw) level scale) × (level < roundsOf (sheetOf (editionOf e) (now w))) ⌝ }
+    requires { ⌜ (RoundCoinsFit (sheetOf (editionOf e) (now w)) level (now coins)) × (length (now xs) ≡ 50) ⌝ }
+    ensures { λ r. ⌜ ((g : List ℕ) → points (distinct (sheetField (sheetOf (editionOf e) (now (w .entry)))) (honestAnswers (sheetField (sheetOf (editionOf e) (now (w .entry)))) (sheetRoot (sheetOf (editionOf e) (now (w .entry)))) (levelOf (sheetOf (editionOf e) (now (w .entry))) level) g (coinsNext (sheetOf (editionOf e) (now (w .entry))) level (now (coins .entry))))) ≡ drop r (now (xs .exit))) ⌝ }
+    ensures { λ r. ⌜ (r ≤ length (now (xs .entry))) × (length (now (xs .entry)) - r < degreeOf (sheetOf (editionOf e) (now (w .entry))) (level + 1)) ⌝ }
+{
+    let s = w[5] as usize;
+    let t = w[6 + level] as usize;
+    let first = s + 2;
+    distinct::points(
+        pw,
+        scale,
+        folding_number(e, w, level),
+        &coins[..s],
+        &coins[first..first + t],
+        xs,
+    )
 }
 
 // The corrected polynomial of the next level, where g holds the round's polynomial. What g holds afterwards is of no use.
@@ -40,13 +79,10 @@ fn correct(
     requires { ⌜ (RoundCoinsFit (sheetOf (editionOf e) (now w)) level (now coins)) × (length (now next) ≤ length (now g)) ⌝ }
     ensures { λ _. ⌜ now (next .exit) ≡ correctedFrom (sheetOf (editionOf e) (now (w .entry))) level (take (length (now (next .entry))) (now (g .entry))) (now (coins .entry)) ⌝ }
 {
-    let s = w[5] as usize;
-    let t = w[6 + level] as usize;
-    let d = next.len();
-    let k = folding_number(e, w, level);
     let mut xs = points_room();
-    let from = distinct::points(pw, scale, k, &coins[..s], &coins[s + 2..s + 2 + t], &mut xs);
-    correction::corrected(w[0], &xs, from, coins[s], g, d, next);
+    let from = sample_points(e, w, pw, level, scale, coins, &mut xs);
+    let d = next.len();
+    correction::corrected(w[0], &xs, from, coin(w, coins, 0), g, d, next);
 }
 
 // The number of coefficients of the fold of n coefficients at a level.
@@ -65,17 +101,9 @@ pub fn fold(e: Edition, w: &[u32], level: usize, r: u32, f: &[u32], out: &mut [u
     correction::fold(w[0], folding_number(e, w, level), r, f, out);
 }
 
-// The fold coin of the next round.
-fn fold_coin(w: &[u32], coins: &[u32]) -> u32
-    requires { ⌜ (12 ≤ length (now w)) × (getD (now w) 5 0 + 1 < length (now coins)) ⌝ }
-    ensures { λ r. ⌜ r ≡ getD (now (coins .entry)) (getD (now (w .entry)) 5 0 + 1) 0 ⌝ }
-{
-    coins[w[5] as usize + 1]
-}
-
-// One round after a level whose polynomial's fold, of d coefficients, stands at the front of g: its words; the corrected polynomial of the next level, in
-// the first d places of next; and that polynomial's fold, of `folded` coefficients, at the front of g again.
-fn step_by(
+// What a round leaves, after a level whose polynomial's fold, of d coefficients, stands at the front of g: the corrected polynomial of the next level, in the
+// first d places of next; and that polynomial's fold, of `folded` coefficients, at the front of g again.
+fn next_fold(
     e: Edition,
     w: &[u32],
     pw: &[u32],
@@ -86,22 +114,18 @@ fn step_by(
     coins: &[u32],
     g: &mut [u32],
     next: &mut [u32],
-    out: &mut [u32],
 )
     requires { ⌜ (Invariant (editionOf e) (now w) (now pw) level scale) × (level < roundsOf (sheetOf (editionOf e) (now w))) ⌝ }
     requires { ⌜ (d ≡ degreeOf (sheetOf (editionOf e) (now w)) (level + 1)) × (folded ≡ degreeOf (sheetOf (editionOf e) (now w)) (level + 1 + 1)) ⌝ }
     requires { ⌜ (RoundCoinsFit (sheetOf (editionOf e) (now w)) level (now coins)) × ((d ≤ length (now g)) × (d ≤ length (now next))) ⌝ }
-    requires { ⌜ length (now out) ≡ roundCount (sheetOf (editionOf e) (now w)) level ⌝ }
-    ensures { λ _. ⌜ now (out .exit) ≡ roundFrom (sheetOf (editionOf e) (now (w .entry))) level (take d (now (g .entry))) (now (coins .entry)) ⌝ }
     ensures { λ _. ⌜ take folded (now (g .exit)) ≡ foldAfter (sheetOf (editionOf e) (now (w .entry))) level (take d (now (g .entry))) (now (coins .entry)) ⌝ }
 {
-    honest_words::round(e, w, pw, level, scale, &g[..d], coins, out);
     correct(e, w, pw, level, scale, coins, g, &mut next[..d]);
     fold(
         e,
         w,
         level + 1,
-        fold_coin(w, coins),
+        coin(w, coins, 1),
         &next[..d],
         &mut g[..folded],
     );
@@ -121,7 +145,7 @@ pub fn few_fold_room() -> [u32; 64]
     [0u32; 64]
 }
 
-// The round, with places of its own for the next polynomial. A small one is spared the clearing of many.
+// One round after such a level: its words, and what it leaves, with places of its own for the next polynomial. A small one is spared the clearing of many.
 pub fn step(
     e: Edition,
     w: &[u32],
@@ -141,11 +165,12 @@ pub fn step(
     ensures { λ _. ⌜ now (out .exit) ≡ roundFrom (sheetOf (editionOf e) (now (w .entry))) level (take d (now (g .entry))) (now (coins .entry)) ⌝ }
     ensures { λ _. ⌜ take folded (now (g .exit)) ≡ foldAfter (sheetOf (editionOf e) (now (w .entry))) level (take d (now (g .entry))) (now (coins .entry)) ⌝ }
 {
+    honest_words::round(e, w, pw, level, scale, &g[..d], coins, out);
     if d <= 64 {
         let mut few = few_fold_room();
-        step_by(e, w, pw, level, scale, d, folded, coins, g, &mut few, out);
+        next_fold(e, w, pw, level, scale, d, folded, coins, g, &mut few);
     } else {
         let mut next = fold_room();
-        step_by(e, w, pw, level, scale, d, folded, coins, g, &mut next, out);
+        next_fold(e, w, pw, level, scale, d, folded, coins, g, &mut next);
     }
 }

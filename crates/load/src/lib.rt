@@ -52,21 +52,19 @@ pub fn run(generator: Generator) -> Ran
     }
 }
 
-// The lines of so many runs on one generator, after the first `at` bytes of the output; answers the place behind them.
-fn run_lines(runs: usize, generator: Generator, at: usize, out: &mut [u8; 34000]) -> usize
-    requires { ⌜ at + 34 * runs ≤ 34000 ⌝ }
-    ensures { λ r. ⌜ take r (now (out .exit)) ≡ take at (now (out .entry)) ++ linesFrom runs (generator .v) ⌝ }
+// The lines of so many runs on one generator, at the front of the output; answers the place behind them.
+fn run_lines(mut runs: usize, mut generator: Generator, out: &mut [u8; 34000]) -> usize
+    requires { ⌜ 34 * runs ≤ 34000 ⌝ }
+    ensures { λ r. ⌜ take r (now (out .exit)) ≡ linesFrom runs (generator .v) ⌝ }
     ensures { λ r. ⌜ r ≤ 34000 ⌝ }
 {
-    let mut state = generator;
-    let mut place = at;
-    let mut left = runs;
-    while 0 < left {
-        let done = run(state);
+    let mut place = 0;
+    while 0 < runs {
+        let done = run(generator);
         let verdict = done.verdict;
-        state = done.next;
+        generator = done.next;
         place = line::write(line::of_verdict(verdict), place, out);
-        left -= 1;
+        runs -= 1;
     }
     place
 }
@@ -83,7 +81,7 @@ pub fn lines(seed: u32, out: &mut [u8; 34000]) -> usize
         };
         return line::write(line::of_verdict(refused), 0, out);
     }
-    run_lines(1000, Generator { v: seed }, 0, out)
+    run_lines(1000, Generator { v: seed }, out)
 }
 
 // What the program prints on an input, whose first four bytes are the seed. Missing bytes are 0.

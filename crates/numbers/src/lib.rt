@@ -1,4 +1,4 @@
-// What an operation answers as numbers, for callers from C: one is answered, the others are written.
+// What an operation answers as numbers, for callers from C, by value: whoever is lent places writes them himself, since a loan passed on makes a proof longer.
 use field::Element;
 use field::Inverted;
 use field::PowerTurns;
@@ -12,48 +12,81 @@ ghost use Rattle.outcome.specs.Meaning.{answerOf, outcomeOf, verdictOf};
 ghost use Rattle.reader.specs.Words.{valueOf as wordOf};
 ghost use Rattle.numbers.specs.Numbers.{numberOf, placeIn, refusalOf, valueOf, wordThere, wordOrZero, fieldNamed, elementOrZero, powerNamed, powerOrZero, turnsOrZero, inverseNumber, inverseOrZero};
 
-// Writes an outcome: the fault's place, 0 where accepted. Answers 0 for accepted, else the fault's number.
-pub fn write_outcome(o: Outcome, place: &mut u64) -> u32
-    ensures { λ r. ⌜ r ≡ numberOf (outcomeOf o) ⌝ }
-    ensures { λ r. ⌜ now (place .exit) ≡ placeIn (outcomeOf o) ⌝ }
+// An outcome: 0 for accepted, else the fault's number; and its place, 0 where accepted.
+pub struct Fault {
+    pub number: u32,
+    pub place: u64,
+}
+
+// A verdict: an outcome, and the count of reads.
+pub struct Judged {
+    pub number: u32,
+    pub place: u64,
+    pub reads: u64,
+}
+
+// An answer to an order: 0 where done, else the refusal's number; and the count, or the refusal's place.
+pub struct Answered {
+    pub number: u32,
+    pub value: u64,
+}
+
+// A word that may be there: 1 and the word, else another number and 0.
+pub struct Shown {
+    pub number: u32,
+    pub word: u32,
+}
+
+// A power and the turns that its loop made, with 1; or three times 0 where the number named no field.
+pub struct Raised {
+    pub number: u32,
+    pub power: u32,
+    pub turns: u32,
+}
+
+pub fn of_outcome(o: Outcome) -> Fault
+    ensures { λ r. ⌜ r .number ≡ numberOf (outcomeOf o) ⌝ }
+    ensures { λ r. ⌜ r .place ≡ placeIn (outcomeOf o) ⌝ }
 {
     match o {
-        Outcome::Accepted => {
-            *place = 0;
-            0
-        }
-        Outcome::Refused(number, at) => {
-            *place = at as u64;
-            number
-        }
+        Outcome::Accepted => Fault {
+            number: 0,
+            place: 0,
+        },
+        Outcome::Refused(number, at) => Fault {
+            number: number,
+            place: at as u64,
+        },
     }
 }
 
-// Writes a verdict: the outcome, and the count of reads.
-pub fn write_verdict(v: Verdict, place: &mut u64, reads: &mut u64) -> u32
-    ensures { λ r. ⌜ r ≡ numberOf (verdictOf v .outcome) ⌝ }
-    ensures { λ r. ⌜ now (place .exit) ≡ placeIn (verdictOf v .outcome) ⌝ }
-    ensures { λ r. ⌜ now (reads .exit) ≡ verdictOf v .reads ⌝ }
+pub fn of_verdict(v: Verdict) -> Judged
+    ensures { λ r. ⌜ r .number ≡ numberOf (verdictOf v .outcome) ⌝ }
+    ensures { λ r. ⌜ r .place ≡ placeIn (verdictOf v .outcome) ⌝ }
+    ensures { λ r. ⌜ r .reads ≡ verdictOf v .reads ⌝ }
 {
-    *reads = v.reads as u64;
     let o = v.outcome;
-    write_outcome(o, place)
+    let f = of_outcome(o);
+    Judged {
+        number: f.number,
+        place: f.place,
+        reads: v.reads as u64,
+    }
 }
 
-// Writes an answer's value: the count where done, else the refusal's place. Answers 0 where done, else the refusal's number.
-pub fn write_value(answer: Answer, value: &mut u64) -> u32
-    ensures { λ r. ⌜ r ≡ refusalOf (answerOf answer) ⌝ }
-    ensures { λ r. ⌜ now (value .exit) ≡ valueOf (answerOf answer) ⌝ }
+pub fn of_answer(answer: Answer) -> Answered
+    ensures { λ r. ⌜ r .number ≡ refusalOf (answerOf answer) ⌝ }
+    ensures { λ r. ⌜ r .value ≡ valueOf (answerOf answer) ⌝ }
 {
     match answer {
-        Answer::Done(count) => {
-            *value = count as u64;
-            0
-        }
-        Answer::Refusal(number, place) => {
-            *value = place as u64;
-            number
-        }
+        Answer::Done(count) => Answered {
+            number: 0,
+            value: count as u64,
+        },
+        Answer::Refusal(number, place) => Answered {
+            number: number,
+            value: place as u64,
+        },
     }
 }
 
@@ -67,72 +100,55 @@ pub fn refusal_number(answer: Answer) -> u32
     }
 }
 
-// Writes a word, or 0 where the stream had ended; answers 1 or 0.
-pub fn write_word(answer: Word, word: &mut u32) -> u32
-    ensures { λ r. ⌜ r ≡ wordThere (wordOf answer) ⌝ }
-    ensures { λ r. ⌜ now (word .exit) ≡ wordOrZero (wordOf answer) ⌝ }
+// 0 where the stream had ended.
+pub fn of_word(answer: Word) -> Shown
+    ensures { λ r. ⌜ r .number ≡ wordThere (wordOf answer) ⌝ }
+    ensures { λ r. ⌜ r .word ≡ wordOrZero (wordOf answer) ⌝ }
 {
     match answer {
-        Word::Value(x) => {
-            *word = x;
-            1
-        }
-        Word::End => {
-            *word = 0;
-            0
-        }
+        Word::Value(x) => Shown { number: 1, word: x },
+        Word::End => Shown { number: 0, word: 0 },
     }
 }
 
-// Writes an element, or 0 where the number named no field; answers 1 or 0.
-pub fn write_element(answer: Element, element: &mut u32) -> u32
-    ensures { λ r. ⌜ r ≡ fieldNamed (elementOf answer) ⌝ }
-    ensures { λ r. ⌜ now (element .exit) ≡ elementOrZero (elementOf answer) ⌝ }
+// 0 where the number named no field.
+pub fn of_element(answer: Element) -> Shown
+    ensures { λ r. ⌜ r .number ≡ fieldNamed (elementOf answer) ⌝ }
+    ensures { λ r. ⌜ r .word ≡ elementOrZero (elementOf answer) ⌝ }
 {
     match answer {
-        Element::Value(x) => {
-            *element = x;
-            1
-        }
-        Element::NoField => {
-            *element = 0;
-            0
-        }
+        Element::Value(x) => Shown { number: 1, word: x },
+        Element::NoField => Shown { number: 0, word: 0 },
     }
 }
 
-// Writes a power and the turns that its loop made, or 0 and 0 where the number named no field; answers 1 or 0.
-pub fn write_power(answer: PowerTurns, power: &mut u32, turns: &mut u32) -> u32
-    ensures { λ r. ⌜ r ≡ powerNamed (poweredOf answer) ⌝ }
-    ensures { λ r. ⌜ now (power .exit) ≡ powerOrZero (poweredOf answer) ⌝ }
-    ensures { λ r. ⌜ now (turns .exit) ≡ turnsOrZero (poweredOf answer) ⌝ }
+pub fn of_power(answer: PowerTurns) -> Raised
+    ensures { λ r. ⌜ r .number ≡ powerNamed (poweredOf answer) ⌝ }
+    ensures { λ r. ⌜ r .power ≡ powerOrZero (poweredOf answer) ⌝ }
+    ensures { λ r. ⌜ r .turns ≡ turnsOrZero (poweredOf answer) ⌝ }
 {
     match answer {
-        PowerTurns::Value(x, made) => {
-            *power = x;
-            *turns = made;
-            1
-        }
-        PowerTurns::NoField => {
-            *power = 0;
-            *turns = 0;
-            0
-        }
+        PowerTurns::Value(x, made) => Raised {
+            number: 1,
+            power: x,
+            turns: made,
+        },
+        PowerTurns::NoField => Raised {
+            number: 0,
+            power: 0,
+            turns: 0,
+        },
     }
 }
 
-// Writes an inverse that was found, else 0; answers 1 where it was found, 2 where there is none, 0 where the number named no field.
-pub fn write_inverse(answer: Inverted, element: &mut u32) -> u32
-    ensures { λ r. ⌜ r ≡ inverseNumber (invertedOf answer) ⌝ }
-    ensures { λ r. ⌜ now (element .exit) ≡ inverseOrZero (invertedOf answer) ⌝ }
+// 2 where there is no inverse, 0 where the number named no field.
+pub fn of_inverse(answer: Inverted) -> Shown
+    ensures { λ r. ⌜ r .number ≡ inverseNumber (invertedOf answer) ⌝ }
+    ensures { λ r. ⌜ r .word ≡ inverseOrZero (invertedOf answer) ⌝ }
 {
-    *element = 0;
     match answer {
-        Inverted::Found(u) => {
-            *element = u;
-            1
-        }
-        Inverted::Nothing => 2,
-        Inverted::NoField => 0,
+        Inverted::Found(u) => Shown { number: 1, word: u },
+        Inverted::Nothing => Shown { number: 2, word: 0 },
+        Inverted::NoField => Shown { number: 0, word: 0 },
     }
 }

@@ -84,7 +84,7 @@ pub fn next<'a>(r: Reader<'a>) -> Step
 
 // One step at the word with number n of the stream that a file holds, by a reader.
 pub fn step_in(file: &[u8], n: usize) -> Step
-    ensures { λ r. ⌜ (valueOf (r .word) ≡ wordIn (streamOf (now (file .entry))) n) × (r .next ≡ numberAfter (streamOf (now (file .entry))) n) ⌝ }
+    ensures { λ s. ⌜ (valueOf (s .word) ≡ wordIn (streamOf (now (file .entry))) n) × (s .next ≡ numberAfter (streamOf (now (file .entry))) n) ⌝ }
 {
     next(moved(new(file), n))
 }

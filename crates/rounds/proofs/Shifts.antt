@@ -17,7 +17,7 @@ use Rattle.list_laws.specs.Backwards.{drop-back}
 use Rattle.samples.specs.Samples.{put, distinctOrClash, Room}
 use Rattle.samples.specs.declared.Gathered.{Gathered}
 use Rattle.samples.specs.declared.Gathered.the-variants.{Clash, From}
-use Rattle.samples.specs.SampleLaws.{put-ok, clash-drop, distinct-nil}
+use Rattle.samples.specs.SampleLaws.{put-ok, clash-drop, clash-append, distinct-nil}
 use Rattle.fractions.specs.declared.Oracle.{Oracle}
 use Rattle.folds.specs.Halving.{halving, exponentOf}
 use Rattle.folds.specs.HalvingLaw.{halving-same}
@@ -48,13 +48,12 @@ module _ {A : Type 0} (F : Field A) (pw roots : List A) (oracle : Oracle) where
       ∙ halving-same F (halfOf F) (inversePowerIn 𝟘 pw) (exponentOf k) (1 + oracle .scale * j) d r w (λ m. getD roots (i * k + m) 𝟘)
       (λ m l. there m (omega (arith, power-of fits)) ∙ ap (λ (n : ℕ). getD roots (i * k + n) 𝟘) (Nat.one-mul m))
 
-  pub sampled : (k : ℕ) (r : A) (i j : ℕ) {x y : A} → x ≡ shiftIn 𝟘 pw (oracle .scale) k j → y ≡ foldBy F pw roots oracle k r i j →
-      record { point = x; value = y } ≡ sampleBy F pw roots oracle k r i j
+  -- the sample by as many values as roots, at the index as it was read
+  pub sampled : (k : ℕ) (r : A) (i : ℕ) {k′ j j′ : ℕ} {x y : A} → j ≡ j′ → k′ ≡ k → x ≡ shiftIn 𝟘 pw (oracle .scale) k j → y ≡ foldBy F pw roots oracle k′ r i j →
+      record { point = x; value = y } ≡ sampleBy F pw roots oracle k r i j′
   unfolding sampleBy
-  sampled k r i j ex ey = λ z. record { point = ex z; value = ey z }
-
-  pub sample-for : (r : A) (k i : ℕ) {k′ j j′ : ℕ} {s : Sample A} → s ≡ sampleBy F pw roots oracle k r i j → k ≡ k′ → j ≡ j′ → s ≡ sampleBy F pw roots oracle k′ r i j′
-  sample-for r k i e ek ej = e ∙ (λ z. sampleBy F pw roots oracle (ek z) r i (ej z))
+  sampled k r i {j = j} ej ek ex ey =
+      (λ z. record { point = ex z; value = (ey ∙ ap (λ (k : ℕ). foldBy F pw roots oracle k r i j) ek) z }) ∙ ap (sampleBy F pw roots oracle k r i) ej
 
 -- ---- numbered elements
 
@@ -127,8 +126,12 @@ module _ {A : Type 0} (F : Field A) (S : ℕ → ℕ → Sample A) (shifts : Lis
       ∙ ap (λ (t : Sample A). distinctOrClash F (t ∷ numbered S i (drop i shifts))) es
       ∙ ap (distinctOrClash F) (sym (numbered-back S shifts i h l))
 
-  pub shifts-clash : (i : ℕ) → none ≡ distinctOrClash F (numbered S i (drop i shifts)) → none ≡ distinctOrClash F (numbered S 0 shifts)
-  shifts-clash i e = clash-drop F i (numbered S 0 shifts) (e ∙ ap (distinctOrClash F) (sym (numbered-drop S i shifts)))
+  -- a clash among the samples from number i on is one of all, whatever stands before them
+  pub shifts-clash : (before : List (Sample A)) (i : ℕ) → none ≡ distinctOrClash F (numbered S i (drop i shifts)) → none ≡ distinctOrClash F (before ++ numbered S 0 shifts)
+  shifts-clash before i e = clash-append F before (numbered S 0 shifts) (clash-drop F i (numbered S 0 shifts) (e ∙ ap (distinctOrClash F) (sym (numbered-drop S i shifts))))
+
+  pub shifts-all : (i : ℕ) → i ≡ 0 → {o : Option (List (Sample A))} → o ≡ distinctOrClash F (numbered S i (drop i shifts)) → o ≡ distinctOrClash F (numbered S 0 shifts)
+  shifts-all i z e = e ∙ ap (λ (n : ℕ). distinctOrClash F (numbered S n (drop n shifts))) z
 
 -- samples put in front of samples
 pub room-add : {n k : ℕ} (t u : ℕ) (r : Gathered) → (n ≤ k + t) × (k ≤ n) → Room k u r → Room n (u + t) r

@@ -7,7 +7,7 @@ use samples::Gathered;
 ghost use mathlib.Core.Path.{_≡_};
 ghost use mathlib.Core.List.{_++_};
 ghost use Prim.Native.Nat.{ℕ, _+_, _*_, _≤_, _<_};
-ghost use lib.ListN.{length};
+ghost use lib.ListN.{length, getD};
 ghost use Rattle.definition.specs.Field.{fieldOf};
 ghost use Rattle.definition.specs.Polynomial.{pair};
 ghost use Rattle.fractions.specs.Values.{Fits, Below, Clear};
@@ -48,95 +48,63 @@ struct Point {
     y: u32,
 }
 
-// The sample at shift index j, number i of a list: the shift point, and the fold there.
+// The sample at shift index number i: the shift point, and the fold there. The k words of scratch for a fold stand here, so that no function above lends them on.
 fn sample_at(
     field: u32,
     pw: &[u32],
     roots: &[u32],
     oracle: Oracle,
-    i: usize,
-    j: usize,
+    k: usize,
     r: u32,
-    values: &mut [u32],
+    shifts: &[u32],
+    i: usize,
 ) -> Point
-    requires { ⌜ i * length (now values) + length (now values) ≤ length (now roots) ⌝ }
-    requires { ⌜ Fits (length (now pw)) (length (now values) * oracle .step) oracle (length (now values)) ⌝ }
-    requires { ⌜ j < oracle .step ⌝ }
-    ensures { λ v. ⌜ record { point = v .x; value = v .y } ≡ sampleBy (fieldOf field) (now (pw .entry)) (now (roots .entry)) oracle (length (now (values .entry))) r i j ⌝ }
+    requires { ⌜ i < length (now shifts) ⌝ }
+    requires { ⌜ length (now shifts) * k ≤ length (now roots) ⌝ }
+    requires { ⌜ Fits (length (now pw)) (k * oracle .step) oracle k ⌝ }
+    requires { ⌜ Below (oracle .step) (now shifts) ⌝ }
+    ensures { λ v. ⌜ record { point = v .x; value = v .y } ≡ sampleBy (fieldOf field) (now (pw .entry)) (now (roots .entry)) oracle k r i (getD (now (shifts .entry)) i 0) ⌝ }
 {
-    let x = folds::shift_point(pw, oracle.scale, j, values.len());
-    let y = fold_at(field, pw, roots, oracle, i, j, r, values);
+    let j = folds::wide(shifts[i]);
+    let x = folds::shift_point(pw, oracle.scale, j, k);
+    let mut values = fractions::roots();
+    let y = fold_at(field, pw, roots, oracle, i, j, r, &mut values[..k]);
     Point { x: x, y: y }
 }
 
-// The samples at the shift points, without repeats, in the last places of px and py.
-fn put_shifts(
-    field: u32,
-    pw: &[u32],
-    roots: &[u32],
-    oracle: Oracle,
-    r: u32,
-    shifts: &[u32],
-    values: &mut [u32],
-    px: &mut [u32],
-    py: &mut [u32],
-) -> Gathered
-    requires { ⌜ length (now shifts) * length (now values) ≤ length (now roots) ⌝ }
-    requires { ⌜ Fits (length (now pw)) (length (now values) * oracle .step) oracle (length (now values)) ⌝ }
-    requires { ⌜ Below (oracle .step) (now shifts) ⌝ }
-    requires { ⌜ (length (now py) ≡ length (now px)) × (length (now shifts) ≤ length (now px)) ⌝ }
-    ensures { λ v. ⌜ kept v (now (px .exit)) (now (py .exit)) ≡ distinctOrClash (fieldOf field) (numbered (sampleBy (fieldOf field) (now (pw .entry)) (now (roots .entry)) oracle (length (now (values .entry))) r) 0 (now (shifts .entry))) ⌝ }
-    ensures { λ v. ⌜ Room (length (now (px .entry))) (length (now (shifts .entry))) v ⌝ }
-{
-    let mut k = px.len();
-    let mut i = shifts.len();
-    while 0 < i {
-        i -= 1;
-        let s = sample_at(
-            field,
-            pw,
-            roots,
-            oracle,
-            i,
-            folds::wide(shifts[i]),
-            r,
-            values,
-        );
-        let f = samples::push(px, py, k, s.x, s.y);
-        let Gathered::From(j) = f else {
-            return Gathered::Clash;
-        };
-        k = j;
-    }
-    Gathered::From(k)
-}
-
-// G of a round by the values at the roots: the out coins with their replies, then the shift points with the folds there.
+// G of a round by the values at the roots: the out coins with their replies, then the shift points with the folds there, put from the last to the first.
 fn gather_by_roots(
     field: u32,
     pw: &[u32],
     roots: &[u32],
     oracle: Oracle,
+    k: usize,
     r: u32,
     shifts: &[u32],
     outs: &[u32],
     replies: &[u32],
-    values: &mut [u32],
     px: &mut [u32],
     py: &mut [u32],
 ) -> Gathered
-    requires { ⌜ length (now shifts) * length (now values) ≤ length (now roots) ⌝ }
-    requires { ⌜ Fits (length (now pw)) (length (now values) * oracle .step) oracle (length (now values)) ⌝ }
+    requires { ⌜ length (now shifts) * k ≤ length (now roots) ⌝ }
+    requires { ⌜ Fits (length (now pw)) (k * oracle .step) oracle k ⌝ }
     requires { ⌜ Below (oracle .step) (now shifts) ⌝ }
     requires { ⌜ (length (now py) ≡ length (now px)) × ((length (now replies) ≡ length (now outs)) × (length (now outs) + length (now shifts) ≤ length (now px))) ⌝ }
-    ensures { λ v. ⌜ kept v (now (px .exit)) (now (py .exit)) ≡ distinctOrClash (fieldOf field) (pair (now (outs .entry)) (now (replies .entry)) ++ numbered (sampleBy (fieldOf field) (now (pw .entry)) (now (roots .entry)) oracle (length (now (values .entry))) r) 0 (now (shifts .entry))) ⌝ }
+    ensures { λ v. ⌜ kept v (now (px .exit)) (now (py .exit)) ≡ distinctOrClash (fieldOf field) (pair (now (outs .entry)) (now (replies .entry)) ++ numbered (sampleBy (fieldOf field) (now (pw .entry)) (now (roots .entry)) oracle k r) 0 (now (shifts .entry))) ⌝ }
     ensures { λ v. ⌜ Room (length (now (px .entry))) (length (now (outs .entry)) + length (now (shifts .entry))) v ⌝ }
 {
-    let s = put_shifts(field, pw, roots, oracle, r, shifts, values, px, py);
-    let Gathered::From(k) = s else {
-        return Gathered::Clash;
-    };
-    samples::push_all(outs, replies, px, py, k)
+    let mut from = px.len();
+    let mut i = shifts.len();
+    while 0 < i {
+        i -= 1;
+        let s = sample_at(field, pw, roots, oracle, k, r, shifts, i);
+        let f = samples::push(px, py, from, s.x, s.y);
+        let Gathered::From(j) = f else {
+            return Gathered::Clash;
+        };
+        from = j;
+    }
+    samples::push_all(outs, replies, px, py, from)
 }
 
 // G of a round in the last places of px and py: the out coins with their replies, then the shift points with the folds there. The caller lends places for the
@@ -180,18 +148,5 @@ pub fn gather_samples(
         bottoms,
         behind,
     );
-    let mut values = fractions::roots();
-    gather_by_roots(
-        field,
-        pw,
-        tops,
-        oracle,
-        r,
-        shifts,
-        outs,
-        replies,
-        &mut values[..k],
-        px,
-        py,
-    )
+    gather_by_roots(field, pw, tops, oracle, k, r, shifts, outs, replies, px, py)
 }

@@ -37,3 +37,16 @@ module _ (ed : Edition) (w f coins output : List ℕ) where
   accepted-by a e q count d =
       q ∙ ap (λ (b : Answer). verifyIn ed (take (512 * blocksWritten b) (proveIn ed w f coins output .output))) d
       ∙ prove-accepted ed w f coins output count (sym e ∙ d)
+
+-- what proving and judging an order of an edition answers and leaves. Being a record it is of one order alone: another is refused as it stands, where for two
+-- values of the definition antt would first unfold all that the definition is made of
+pub record Both (ed : Edition) (w f coins before : List ℕ) (a : Answer) (v : Verdict) (after : List ℕ) : Type 0 where
+  pub answer : a ≡ proveIn ed w f coins before .answer
+  pub output : after ≡ proveIn ed w f coins before .output
+  pub verdict : v ≡ verifyIn ed (take (512 * blocksWritten a) after)
+  pub due : (count : ℕ) → a ≡ done count → v ≡ record { outcome = accepted; reads = readsDue (sheetOf ed w) coins }
+
+pub both : {ed : Edition} {w f coins before after : List ℕ} {a : Answer} {v : Verdict} → (a ≡ proveIn ed w f coins before .answer) × ((after ≡ proveIn ed w f coins before .output) ×
+    ((v ≡ verifyIn ed (take (512 * blocksWritten a) after)) × ((count : ℕ) → a ≡ done count → v ≡ record { outcome = accepted; reads = readsDue (sheetOf ed w) coins }))) →
+    Both ed w f coins before a v after
+both h = record { answer = h .0; output = h .1 .0; verdict = h .1 .1 .0; due = h .1 .1 .1 }

@@ -1,17 +1,16 @@
 -- `honest::after_first` meets its contract: the fold of the polynomial, fold coin 0, and the words after it. Assumes nothing.
 use Prim.Native.Nat.{ℕ, _*_}
 use native.Mathlib.Omega.{arith}
-use mathlib.Core.List.{List, _∷_}
 use mathlib.Core.Path.{_∙_, ap, subst, sym}
 use lib.ListN.{getD, length-set}
 use lib.Seq.{length-take-le}
-use Rattle.list_laws.specs.LentParts.{begun-long, front-stays}
+use Rattle.list_laws.specs.LentParts.{begun-long}
 use Rattle.definition.specs.Sheet.{sheetOf}
 use Rattle.list_laws.specs.Lists.{rest-all}
 use Rattle.edition.specs.Meaning.{editionOf}
-use Rattle.honest_words.specs.Invariant.{CoinRunsFrom, foldOf, restFrom}
-use Rattle.honest.proofs.Beginning.{first-fold}
-use Rattle.honest.proofs.Stored.{stored-join, stored-long, stored-others}
+use Rattle.honest_words.specs.Invariant.{CoinRunsFrom, foldOf}
+use Rattle.honest.proofs.Beginning.{first-fold, opening-is}
+use Rattle.honest.proofs.Stored.{stored-long, stored-others}
 use borrow.Author.Needs.{needs}
 use Rattle.honest.proofs.after_first.Statement.{statement}
 use Rattle.honest.proofs.after_first.Tie as tie
@@ -92,12 +91,10 @@ returns c =
     let s = c .before .before .before .before .before .before .before .before .before .before .before .before .before .before .before .before .before .before .before .before in
     let a = s .args in
     let p = first-fold (s .pre .0 .0 .place) (s .pre .0 .1 .0) (s .pre .0 .1 .1) (c .before .before .before .before .before .before .before .before .before .before .before .before .fold-length .ensures) in
-    let r = getD (a .coins .now) 0 0 in
     let q = c .before .before .before .before .before .before .before .before .before .before .fold in
     let v = c .before .before .before .before .rest in
-    let g = front-stays (a .g .now) (q .last .1 .1 .1 .1 .1 .0) (c .before .before .before .before .before .before .before .before .before .before .before .before .fold-length .result) (p .within) (q .kept .1 .1 .1 .1 .1 .0) ∙ q .ensures in
-    stored-join (a .out .now) r (v .last .1 .1 .1 .1 .1 .1 .1 .1 .0) (omega (arith, s .pre .1 .1 .1))
-    ∙ ap {B = List ℕ} (λ l. r ∷ l) (v .ensures (a .f .now) r (sym g) ∙ ap (restFrom (sheetOf (editionOf (a .e)) (a .w .now)) 0 (a .f .now) r) (rest-all 1 (a .coins .now)))
+    opening-is (sheetOf (editionOf (a .e)) (a .w .now)) (a .f .now) (a .coins .now) (a .out .now) (v .last .1 .1 .1 .1 .1 .1 .1 .1 .0) (a .g .now) (q .last .1 .1 .1 .1 .1 .0)
+    (c .before .before .before .before .before .before .before .before .before .before .before .before .fold-length .result) (omega (arith, s .pre .1 .1 .1)) (p .within) (q .kept .1 .1 .1 .1 .1 .0) (q .ensures) (rest-all 1 (a .coins .now)) (v .ensures)
 
 pub after-first-spec : {M : Type 1} → statement M
 after-first-spec =

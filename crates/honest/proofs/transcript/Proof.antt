@@ -3,9 +3,10 @@ use native.Mathlib.Omega.{arith}
 use mathlib.Core.Path.{_∙_, refl, sym}
 use lib.ListN.{length}
 use lib.Seq.{length-take-le}
+use Rattle.definition.specs.Prover.{tableOf}
 use Rattle.definition.specs.Sheet.{sheetOf}
 use Rattle.layouts.specs.LevelsByNumber.{undivided}
-use Rattle.layouts.specs.Levels.{levelOf}
+use Rattle.layouts.specs.Levels.{levelOf, sheetField, sheetRoot}
 use Rattle.list_laws.specs.LentParts.{joined, others-long}
 use Rattle.edition.specs.Meaning.{editionOf}
 use Rattle.honest_words.specs.Invariant.{openingFrom}
@@ -65,6 +66,7 @@ returns c =
     let v = c .before .before .before .before .after-first in
     let own = t .ensures (levelOf (sheetOf (editionOf (a .e)) (a .w .now)) 0) refl (sym (n ∙ s .pre .0 .0 .points ∙ sym (undivided (sheetOf (editionOf (a .e)) (a .w .now) .size)))) in
     joined (a .out .now) (t .last .1 .1 .1 .1 .1 .0) (length (a .pw .now)) (omega (arith, s .pre .1 .1 .1)) (t .kept .1 .1 .1 .1 .1 .0) (v .last .1 .1 .1 .1 .1 .1 .0)
+    {x = tableOf (sheetField (sheetOf (editionOf (a .e)) (a .w .now))) (sheetRoot (sheetOf (editionOf (a .e)) (a .w .now))) (levelOf (sheetOf (editionOf (a .e)) (a .w .now)) 0) (a .f .now)}
     {y = openingFrom (sheetOf (editionOf (a .e)) (a .w .now)) (a .f .now) (a .coins .now)} own (v .ensures)
 
 pub transcript-spec : {M : Type 1} → statement M

@@ -1,6 +1,8 @@
 -- `prove::prove` meets its contract. Assumes nothing.
 use borrow.Author.Needs.{needs}
+use Rattle.definition.specs.Sheet.{edition1}
 use Rattle.edition.specs.Meaning.{editionOf}
+use Rattle.prove.proofs.Stages.{Proved, proved}
 use Rattle.prove.proofs.prove.Statement.{statement}
 use Rattle.prove.proofs.prove.Tie as tie
 
@@ -12,7 +14,11 @@ same-length c = search needs
 
 returns : tie.Need-returns
 unfolding editionOf
-returns c = c .before .before .prove-in .ensures
+returns c =
+    let a = c .before .before .before .before .before .before .before .before .args in
+    let p = proved (c .before .before .prove-in .ensures) in
+    let q : Proved edition1 (a .sheet .now) (a .coefficients .now) (a .coins .now) (a .output .now) _ _ = p in
+    (q .answer, q .output)
 
 pub prove-spec : {M : Type 1} → statement M
 prove-spec = tie.close (tie.spec prove-in-requires same-length returns)

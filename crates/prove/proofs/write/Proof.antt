@@ -7,7 +7,9 @@ use lib.ListN.{length, drop}
 use lib.Seq.{length-take-le}
 use Rattle.definition.specs.Block.{blockCount, fileOf}
 use Rattle.list_laws.specs.LentParts.{begun-long, front-stays}
+use Rattle.edition.specs.Meaning.{editionOf}
 use Rattle.outcome.specs.Meaning.{answerOf}
+use Rattle.prove.proofs.Stages.{Streamed, streamed}
 use borrow.Author.Needs.{needs}
 use Rattle.prove.proofs.write.Statement.{statement}
 use Rattle.prove.proofs.write.Tie as tie
@@ -49,7 +51,9 @@ returns c =
     let s = c .before .before .before .before .before .before .before .before .before .before .before .before .before .before in
     let a = s .args in
     let p = c .before .before .before .before .before .before .before .stream in
-    let e = front-stays (a .words .now) (p .last .1 .1 .1 .1 .0) (a .due) (s .pre .1 .1 .0) (p .kept .1 .1 .1 .1 .0) ∙ p .ensures in
+    let h = streamed (p .ensures) in
+    let q : Streamed (editionOf (a .e)) (a .sheet .now) (a .coefficients .now) (a .coins .now) _ = h in
+    let e = front-stays (a .words .now) (p .last .1 .1 .1 .1 .0) (a .due) (s .pre .1 .1 .0) (p .kept .1 .1 .1 .1 .0) ∙ q .are in
     (refl, c .before .before .write-file .ensures ∙ ap (λ (v : List ℕ). fileOf v ++ drop (length (fileOf v)) (a .output .now)) e)
 
 pub write-spec : {M : Type 1} → statement M

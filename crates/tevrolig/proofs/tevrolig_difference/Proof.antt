@@ -7,11 +7,11 @@ use Rattle.tevrolig.proofs.tevrolig_difference.Tie as tie
 difference-requires : tie.Need-difference-requires
 difference-requires c κs = search needs
 
-write-element-requires : tie.Need-write-element-requires
-write-element-requires c κs = search needs
+of-element-requires : tie.Need-of-element-requires
+of-element-requires c κs = search needs
 
 returns : tie.Need-returns
-returns c = element-defined (c .write-element .ensures) (c .before .before .difference .ensures)
+returns c = element-defined (c .of-element .ensures) (c .before .difference .ensures)
 
 pub tevrolig-difference-spec : {M : Type 1} → statement M
-tevrolig-difference-spec = tie.close (tie.spec difference-requires write-element-requires returns)
+tevrolig-difference-spec = tie.close (tie.spec difference-requires of-element-requires returns)

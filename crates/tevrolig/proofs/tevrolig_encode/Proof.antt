@@ -1,20 +1,24 @@
 -- `tevrolig::tevrolig_encode` meets its contract. Assumes nothing.
 use borrow.Author.Needs.{needs}
-use Rattle.tevrolig.proofs.Numbered.{answer-written}
+use Rattle.definition.specs.Prove.{encode}
+use Rattle.tevrolig.proofs.Numbered.{Ordered, order-written, ordered}
 use Rattle.tevrolig.proofs.tevrolig_encode.Statement.{statement}
 use Rattle.tevrolig.proofs.tevrolig_encode.Tie as tie
 
 encode-requires : tie.Need-encode-requires
 encode-requires c κs = search needs
 
-write-value-requires : tie.Need-write-value-requires
-write-value-requires c κs = search needs
+of-answer-requires : tie.Need-of-answer-requires
+of-answer-requires c κs = search needs
 
 same-length : tie.Need-same-length
 same-length c = search needs
 
 returns : tie.Need-returns
-returns c = answer-written (c .write-value .ensures) (c .before .before .before .before .encode .ensures)
+returns c =
+    let a = c .before .before .before .before .before .before .before .before .args in
+    let o : Ordered encode (a .sheet .now) (a .coefficients .now) (a .output .now) _ _ = ordered encode (c .before .before .before .encode .ensures) in
+    order-written (c .of-answer .ensures) o
 
 pub tevrolig-encode-spec : {M : Type 1} → statement M
-tevrolig-encode-spec = tie.close (tie.spec encode-requires write-value-requires same-length returns)
+tevrolig-encode-spec = tie.close (tie.spec encode-requires of-answer-requires same-length returns)

@@ -7,11 +7,11 @@ use Rattle.tevrolig.proofs.tevrolig_inverse.Tie as tie
 inverse-requires : tie.Need-inverse-requires
 inverse-requires c κs = search needs
 
-write-inverse-requires : tie.Need-write-inverse-requires
-write-inverse-requires c κs = search needs
+of-inverse-requires : tie.Need-of-inverse-requires
+of-inverse-requires c κs = search needs
 
 returns : tie.Need-returns
-returns c = inverse-defined (c .write-inverse .ensures) (c .before .before .inverse .ensures)
+returns c = inverse-defined (c .of-inverse .ensures) (c .before .inverse .ensures)
 
 pub tevrolig-inverse-spec : {M : Type 1} → statement M
-tevrolig-inverse-spec = tie.close (tie.spec inverse-requires write-inverse-requires returns)
+tevrolig-inverse-spec = tie.close (tie.spec inverse-requires of-inverse-requires returns)

@@ -7,11 +7,11 @@ use Rattle.tevrolig.proofs.tevrolig_power_turns.Tie as tie
 power-turns-requires : tie.Need-power-turns-requires
 power-turns-requires c κs = search needs
 
-write-power-requires : tie.Need-write-power-requires
-write-power-requires c κs = search needs
+of-power-requires : tie.Need-of-power-requires
+of-power-requires c κs = search needs
 
 returns : tie.Need-returns
-returns c = power-defined (c .write-power .ensures) (c .before .before .before .power-turns .ensures)
+returns c = power-defined (c .of-power .ensures) (c .before .power-turns .ensures)
 
 pub tevrolig-power-turns-spec : {M : Type 1} → statement M
-tevrolig-power-turns-spec = tie.close (tie.spec power-turns-requires write-power-requires returns)
+tevrolig-power-turns-spec = tie.close (tie.spec power-turns-requires of-power-requires returns)

@@ -7,11 +7,11 @@ use Rattle.tevrolig.proofs.tevrolig_product.Tie as tie
 product-requires : tie.Need-product-requires
 product-requires c κs = search needs
 
-write-element-requires : tie.Need-write-element-requires
-write-element-requires c κs = search needs
+of-element-requires : tie.Need-of-element-requires
+of-element-requires c κs = search needs
 
 returns : tie.Need-returns
-returns c = element-defined (c .write-element .ensures) (c .before .before .product .ensures)
+returns c = element-defined (c .of-element .ensures) (c .before .product .ensures)
 
 pub tevrolig-product-spec : {M : Type 1} → statement M
-tevrolig-product-spec = tie.close (tie.spec product-requires write-element-requires returns)
+tevrolig-product-spec = tie.close (tie.spec product-requires of-element-requires returns)

@@ -1,20 +1,24 @@
 -- `tevrolig::tevrolig_prove` meets its contract. Assumes nothing.
 use borrow.Author.Needs.{needs}
-use Rattle.tevrolig.proofs.Numbered.{answer-written}
+use Rattle.definition.specs.Prove.{prove}
+use Rattle.tevrolig.proofs.Numbered.{Ordered, order-written, ordered}
 use Rattle.tevrolig.proofs.tevrolig_prove.Statement.{statement}
 use Rattle.tevrolig.proofs.tevrolig_prove.Tie as tie
 
 prove-requires : tie.Need-prove-requires
 prove-requires c κs = search needs
 
-write-value-requires : tie.Need-write-value-requires
-write-value-requires c κs = search needs
+of-answer-requires : tie.Need-of-answer-requires
+of-answer-requires c κs = search needs
 
 same-length : tie.Need-same-length
 same-length c = search needs
 
 returns : tie.Need-returns
-returns c = answer-written (c .write-value .ensures) (c .before .before .before .before .prove .ensures)
+returns c =
+    let a = c .before .before .before .before .before .before .before .before .before .args in
+    let o : Ordered (prove (a .sheet .now)) (a .coefficients .now) (a .coins .now) (a .output .now) _ _ = ordered (prove (a .sheet .now)) (c .before .before .before .prove .ensures) in
+    order-written (c .of-answer .ensures) o
 
 pub tevrolig-prove-spec : {M : Type 1} → statement M
-tevrolig-prove-spec = tie.close (tie.spec prove-requires write-value-requires same-length returns)
+tevrolig-prove-spec = tie.close (tie.spec prove-requires of-answer-requires same-length returns)

@@ -1,22 +1,27 @@
 -- `tevrolig::tevrolig_prove_2` meets its contract. Assumes nothing.
 use borrow.Author.Needs.{needs}
+use Rattle.definition.specs.Prove.{proveIn}
+use Rattle.definition.specs.Sheet.{edition2}
 use Rattle.edition.specs.Meaning.{editionOf}
-use Rattle.tevrolig.proofs.Numbered.{answer-written}
+use Rattle.tevrolig.proofs.Numbered.{Ordered, order-written, ordered}
 use Rattle.tevrolig.proofs.tevrolig_prove_2.Statement.{statement}
 use Rattle.tevrolig.proofs.tevrolig_prove_2.Tie as tie
 
 prove-in-requires : tie.Need-prove-in-requires
 prove-in-requires c κs = search needs
 
-write-value-requires : tie.Need-write-value-requires
-write-value-requires c κs = search needs
+of-answer-requires : tie.Need-of-answer-requires
+of-answer-requires c κs = search needs
 
 same-length : tie.Need-same-length
 same-length c = search needs
 
 returns : tie.Need-returns
 unfolding editionOf
-returns c = answer-written (c .write-value .ensures) (c .before .before .before .before .prove-in .ensures)
+returns c =
+    let a = c .before .before .before .before .before .before .before .before .before .args in
+    let o : Ordered (proveIn edition2 (a .sheet .now)) (a .coefficients .now) (a .coins .now) (a .output .now) _ _ = ordered (proveIn edition2 (a .sheet .now)) (c .before .before .before .prove-in .ensures) in
+    order-written (c .of-answer .ensures) o
 
 pub tevrolig-prove-2-spec : {M : Type 1} → statement M
-tevrolig-prove-2-spec = tie.close (tie.spec prove-in-requires write-value-requires same-length returns)
+tevrolig-prove-2-spec = tie.close (tie.spec prove-in-requires of-answer-requires same-length returns)

@@ -7,11 +7,11 @@ use Rattle.tevrolig.proofs.tevrolig_sum.Tie as tie
 sum-requires : tie.Need-sum-requires
 sum-requires c κs = search needs
 
-write-element-requires : tie.Need-write-element-requires
-write-element-requires c κs = search needs
+of-element-requires : tie.Need-of-element-requires
+of-element-requires c κs = search needs
 
 returns : tie.Need-returns
-returns c = element-defined (c .write-element .ensures) (c .before .before .sum .ensures)
+returns c = element-defined (c .of-element .ensures) (c .before .sum .ensures)
 
 pub tevrolig-sum-spec : {M : Type 1} → statement M
-tevrolig-sum-spec = tie.close (tie.spec sum-requires write-element-requires returns)
+tevrolig-sum-spec = tie.close (tie.spec sum-requires of-element-requires returns)

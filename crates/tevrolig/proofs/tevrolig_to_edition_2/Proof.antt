@@ -7,14 +7,14 @@ use Rattle.tevrolig.proofs.tevrolig_to_edition_2.Tie as tie
 to-edition-2-requires : tie.Need-to-edition-2-requires
 to-edition-2-requires c κs = search needs
 
-write-value-requires : tie.Need-write-value-requires
-write-value-requires c κs = search needs
+of-answer-requires : tie.Need-of-answer-requires
+of-answer-requires c κs = search needs
 
 same-length : tie.Need-same-length
 same-length c = search needs
 
 returns : tie.Need-returns
-returns c = answer-written (c .write-value .ensures) (c .before .before .before .before .to-edition-2 .ensures)
+returns c = answer-written (c .of-answer .ensures) (c .before .before .before .to-edition-2 .ensures)
 
 pub tevrolig-to-edition-2-spec : {M : Type 1} → statement M
-tevrolig-to-edition-2-spec = tie.close (tie.spec to-edition-2-requires write-value-requires same-length returns)
+tevrolig-to-edition-2-spec = tie.close (tie.spec to-edition-2-requires of-answer-requires same-length returns)

@@ -1,0 +1,10 @@
+-- `line::empty` meets its contract. Assumes nothing.
+use mathlib.Core.Path.{refl}
+use Rattle.line.proofs.empty.Statement.{statement}
+use Rattle.line.proofs.empty.Tie as tie
+
+returns : tie.Need-returns
+returns c = refl
+
+pub empty-spec : {M : Type 1} → statement M
+empty-spec = tie.close (tie.spec returns)
