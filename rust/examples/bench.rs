@@ -237,6 +237,7 @@ fn main() {
             writeln!(rows, "{kind} {value} {proved:.2} {plain:.2}").expect("a string");
         }
     }
+    std::fs::create_dir_all(&folder).expect("the folder can be made");
     for (name, rows) in ["verify", "prove", "encode"].iter().zip(rows) {
         std::fs::write(folder.join(format!("{name}.rows")), rows).expect("the rows are written");
     }

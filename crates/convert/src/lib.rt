@@ -14,9 +14,10 @@ ghost use Rattle.definition.specs.Prove.{done};
 ghost use Rattle.definition.specs.Reading.{reading};
 ghost use Rattle.definition.specs.Sheet.{edition1, edition2, sheetOf};
 ghost use Rattle.definition.specs.Verdict.{_then_};
+ghost use Rattle.outcome.specs.Gives.{Gives};
 ghost use Rattle.outcome.specs.Meaning.{answerOf};
 ghost use Rattle.convert.specs.Stages.{Sized, Tested, outputFor};
-ghost use Rattle.convert.specs.Ways.{Converted};
+ghost use Rattle.convert.specs.Ways.{converted};
 
 // Places for the words of the largest file that can be accepted, 67 blocks, and one block more, after six for a longer sheet.
 fn room() -> [u32; 8642]
@@ -113,7 +114,7 @@ fn backward(file: &[u8], words: &mut [u32], output: &mut [u8]) -> Answer
 // A file as one of the edition named, from the other, by way of the places lent.
 fn by_way(to: Edition, file: &[u8], words: &mut [u32], output: &mut [u8]) -> Answer
     requires { ⌜ (127 * min (length (now file) / 512) 68 + 6 ≤ length (now words)) × (18 ≤ length (now words)) ⌝ }
-    ensures { λ r. ⌜ Converted to (now (file .entry)) (now (output .entry)) (answerOf r) (now (output .exit)) ⌝ }
+    ensures { λ r. ⌜ Gives (converted to (now (file .entry))) (now (output .entry)) (answerOf r) (now (output .exit)) ⌝ }
 {
     match to {
         Edition::One => backward(file, words, output),
@@ -123,7 +124,7 @@ fn by_way(to: Edition, file: &[u8], words: &mut [u32], output: &mut [u8]) -> Ans
 
 // The same. A short file is spared the clearing of many places.
 fn convert_to(to: Edition, file: &[u8], output: &mut [u8]) -> Answer
-    ensures { λ r. ⌜ Converted to (now (file .entry)) (now (output .entry)) (answerOf r) (now (output .exit)) ⌝ }
+    ensures { λ r. ⌜ Gives (converted to (now (file .entry))) (now (output .entry)) (answerOf r) (now (output .exit)) ⌝ }
 {
     if file.len() <= 4096 {
         let mut few = small_room();

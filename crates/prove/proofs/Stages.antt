@@ -66,16 +66,7 @@ written-is p e ea eo = (
   eo ∙ sym (ap (λ (x : Result). x .output) (p .result)),
 )
 
--- an answer and the output after it are the definition's, of one order. Being a record it is of one order alone: another order is refused as it stands, where
--- for two values of the definition antt would first unfold all that the definition is made of
-pub record Proved (ed : Edition) (w f coins before : List ℕ) (a : Answer) (after : List ℕ) : Type 0 where
-  pub answer : a ≡ proveIn ed w f coins before .answer
-  pub output : after ≡ proveIn ed w f coins before .output
-
-pub proved : {ed : Edition} {w f coins before after : List ℕ} {a : Answer} → (a ≡ proveIn ed w f coins before .answer) × (after ≡ proveIn ed w f coins before .output) → Proved ed w f coins before a after
-proved h = record { answer = h .0; output = h .1 }
-
--- and the same of the honest words
+-- the words are the honest ones of this sheet, polynomial and coins. A record, as `Gives` is
 pub record Streamed (ed : Edition) (w f coins words : List ℕ) : Type 0 where
   pub are : words ≡ honestStream ed w f coins
 

@@ -38,8 +38,7 @@ module _ (ed : Edition) (w f coins output : List ℕ) where
       q ∙ ap (λ (b : Answer). verifyIn ed (take (512 * blocksWritten b) (proveIn ed w f coins output .output))) d
       ∙ prove-accepted ed w f coins output count (sym e ∙ d)
 
--- what proving and judging an order of an edition answers and leaves. Being a record it is of one order alone: another is refused as it stands, where for two
--- values of the definition antt would first unfold all that the definition is made of
+-- what proving and judging an order of an edition answers and leaves. A record, as `Gives` is
 pub record Both (ed : Edition) (w f coins before : List ℕ) (a : Answer) (v : Verdict) (after : List ℕ) : Type 0 where
   pub answer : a ≡ proveIn ed w f coins before .answer
   pub output : after ≡ proveIn ed w f coins before .output

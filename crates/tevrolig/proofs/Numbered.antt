@@ -6,6 +6,7 @@ use mathlib.Core.Option.{Option}
 use Rattle.definition.specs.Verdict.{Outcome, Verdict}
 use Rattle.definition.specs.Field.{FieldAnswer, PowerAnswer, InverseAnswer}
 use Rattle.definition.specs.Prove as prove
+use Rattle.outcome.specs.Gives.{Gives}
 use Rattle.numbers.specs.Numbers.{AnswerNumbers, ElementNumbers, InverseNumbers, OutcomeNumbers, PowerNumbers, VerdictNumbers, WordNumbers, numberOf, placeIn, refusalOf, valueOf, wordThere, wordOrZero, fieldNamed, elementOrZero, powerNamed, powerOrZero, turnsOrZero, inverseNumber, inverseOrZero}
 
 -- what is written of an outcome is what the definition's outcome says, and so on
@@ -25,17 +26,8 @@ ResultNumbers d number value output = (number ≡ refusalOf (d .answer)) × ((va
 pub answer-written : {a : prove.Answer} {d : prove.Result} {number value : ℕ} {output : List ℕ} → AnswerNumbers a number value → (a ≡ d .answer) × (output ≡ d .output) → ResultNumbers d number value output
 answer-written n e = (n .0 ∙ ap refusalOf (e .0), (n .1 ∙ ap valueOf (e .0), e .1))
 
--- what an order of two lists answered, and the output after it. Being a record it is of these lists in these places alone: others are refused as they stand,
--- where for two values of the definition antt would first unfold all that it is made of
-pub record Ordered (order : List ℕ → List ℕ → List ℕ → prove.Result) (f g before : List ℕ) (a : prove.Answer) (after : List ℕ) : Type 0 where
-  pub answer : a ≡ order f g before .answer
-  pub output : after ≡ order f g before .output
-
-pub ordered : (order : List ℕ → List ℕ → List ℕ → prove.Result) {f g before after : List ℕ} {a : prove.Answer} → (a ≡ order f g before .answer) × (after ≡ order f g before .output) → Ordered order f g before a after
-ordered order e = record { answer = e .0; output = e .1 }
-
-pub order-written : {order : List ℕ → List ℕ → List ℕ → prove.Result} {f g before after : List ℕ} {a : prove.Answer} {number value : ℕ} → AnswerNumbers a number value → Ordered order f g before a after → ResultNumbers (order f g before) number value after
-order-written n o = answer-written n (o .answer, o .output)
+pub given-written : {result : List ℕ → prove.Result} {before after : List ℕ} {a : prove.Answer} {number value : ℕ} → AnswerNumbers a number value → Gives result before a after → ResultNumbers (result before) number value after
+given-written n g = answer-written n (g .answer, g .output)
 
 -- or the number of an answer alone
 pub output-written : {a : prove.Answer} {d : prove.Result} {number : ℕ} {output : List ℕ} → number ≡ refusalOf a → (a ≡ d .answer) × (output ≡ d .output) → (number ≡ refusalOf (d .answer)) × (output ≡ d .output)

@@ -23,7 +23,7 @@ same-length-2 : tie.Need-same-length-2
 same-length-2 c = search needs
 
 returns : tie.Need-returns
-returns c = let v = c .before .before .before .before in to-one (v .before .before .before .enum-told .given .1) (v .backward .ensures)
+returns c = let v = c .before .before .before .before in to-one _ (v .before .before .before .enum-told .given .1) (v .backward .ensures)
 
 same-length-3 : tie.Need-same-length-3
 same-length-3 c = search needs
@@ -32,7 +32,7 @@ same-length-4 : tie.Need-same-length-4
 same-length-4 c = search needs
 
 returns-2 : tie.Need-returns-2
-returns-2 c = let v = c .before .before .before .before in to-two (v .before .before .before .enum-told2 .given .1) (v .forward .ensures)
+returns-2 c = let v = c .before .before .before .before in to-two _ (v .before .before .before .enum-told2 .given .1) (v .forward .ensures)
 
 pub by-way-spec : {M : Type 1} → statement M
 by-way-spec =

@@ -1,8 +1,9 @@
 -- `prove::prove` meets its contract. Assumes nothing.
 use borrow.Author.Needs.{needs}
+use Rattle.definition.specs.Prove.{proveIn}
 use Rattle.definition.specs.Sheet.{edition1}
 use Rattle.edition.specs.Meaning.{editionOf}
-use Rattle.prove.proofs.Stages.{Proved, proved}
+use Rattle.outcome.specs.Gives.{Gives, gives}
 use Rattle.prove.proofs.prove.Statement.{statement}
 use Rattle.prove.proofs.prove.Tie as tie
 
@@ -16,9 +17,8 @@ returns : tie.Need-returns
 unfolding editionOf
 returns c =
     let a = c .before .before .before .before .before .before .before .before .args in
-    let p = proved (c .before .before .prove-in .ensures) in
-    let q : Proved edition1 (a .sheet .now) (a .coefficients .now) (a .coins .now) (a .output .now) _ _ = p in
-    (q .answer, q .output)
+    let g : Gives (proveIn edition1 (a .sheet .now) (a .coefficients .now) (a .coins .now)) (a .output .now) _ _ = gives (c .before .before .prove-in .ensures) in
+    (g .answer, g .output)
 
 pub prove-spec : {M : Type 1} → statement M
 prove-spec = tie.close (tie.spec prove-in-requires same-length returns)

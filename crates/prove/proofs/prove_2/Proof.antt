@@ -1,8 +1,9 @@
 -- `prove::prove_2` meets its contract. Assumes nothing.
 use borrow.Author.Needs.{needs}
+use Rattle.definition.specs.Prove.{proveIn}
 use Rattle.definition.specs.Sheet.{edition2}
 use Rattle.edition.specs.Meaning.{editionOf}
-use Rattle.prove.proofs.Stages.{Proved, proved}
+use Rattle.outcome.specs.Gives.{Gives, gives}
 use Rattle.prove.proofs.prove_2.Statement.{statement}
 use Rattle.prove.proofs.prove_2.Tie as tie
 
@@ -16,9 +17,8 @@ returns : tie.Need-returns
 unfolding editionOf
 returns c =
     let a = c .before .before .before .before .before .before .before .before .args in
-    let p = proved (c .before .before .prove-in .ensures) in
-    let q : Proved edition2 (a .sheet .now) (a .coefficients .now) (a .coins .now) (a .output .now) _ _ = p in
-    (q .answer, q .output)
+    let g : Gives (proveIn edition2 (a .sheet .now) (a .coefficients .now) (a .coins .now)) (a .output .now) _ _ = gives (c .before .before .prove-in .ensures) in
+    (g .answer, g .output)
 
 pub prove-2-spec : {M : Type 1} → statement M
 prove-2-spec = tie.close (tie.spec prove-in-requires same-length returns)

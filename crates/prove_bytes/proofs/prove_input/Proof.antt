@@ -2,7 +2,8 @@
 use borrow.Author.Needs.{needs}
 use Rattle.definition.specs.Sheet.{edition1}
 use Rattle.edition.specs.Meaning.{editionOf}
-use Rattle.prove_bytes.proofs.Answered.{Answered, answered}
+use Rattle.outcome.specs.Gives.{Gives, gives}
+use Rattle.word_input.specs.Input.{proveInputIn}
 use Rattle.prove_bytes.proofs.prove_input.Statement.{statement}
 use Rattle.prove_bytes.proofs.prove_input.Tie as tie
 
@@ -16,9 +17,8 @@ returns : tie.Need-returns
 unfolding editionOf
 returns c =
     let a = c .before .before .before .before .before .before .args in
-    let p = answered (c .before .before .prove-input-in .ensures) in
-    let q : Answered edition1 (a .bytes .now) (a .output .now) _ _ = p in
-    (q .answer, q .output)
+    let g : Gives (proveInputIn edition1 (a .bytes .now)) (a .output .now) _ _ = gives (c .before .before .prove-input-in .ensures) in
+    (g .answer, g .output)
 
 pub prove-input-spec : {M : Type 1} → statement M
 prove-input-spec = tie.close (tie.spec prove-input-in-requires same-length returns)

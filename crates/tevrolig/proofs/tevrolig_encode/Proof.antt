@@ -1,7 +1,8 @@
 -- `tevrolig::tevrolig_encode` meets its contract. Assumes nothing.
 use borrow.Author.Needs.{needs}
 use Rattle.definition.specs.Prove.{encode}
-use Rattle.tevrolig.proofs.Numbered.{Ordered, order-written, ordered}
+use Rattle.outcome.specs.Gives.{Gives, gives}
+use Rattle.tevrolig.proofs.Numbered.{given-written}
 use Rattle.tevrolig.proofs.tevrolig_encode.Statement.{statement}
 use Rattle.tevrolig.proofs.tevrolig_encode.Tie as tie
 
@@ -17,8 +18,8 @@ same-length c = search needs
 returns : tie.Need-returns
 returns c =
     let a = c .before .before .before .before .before .before .before .before .args in
-    let o : Ordered encode (a .sheet .now) (a .coefficients .now) (a .output .now) _ _ = ordered encode (c .before .before .before .encode .ensures) in
-    order-written (c .of-answer .ensures) o
+    let g : Gives (encode (a .sheet .now) (a .coefficients .now)) (a .output .now) _ _ = gives (c .before .before .before .encode .ensures) in
+    given-written (c .of-answer .ensures) g
 
 pub tevrolig-encode-spec : {M : Type 1} → statement M
 tevrolig-encode-spec = tie.close (tie.spec encode-requires of-answer-requires same-length returns)

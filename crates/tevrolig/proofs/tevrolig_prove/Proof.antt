@@ -1,7 +1,8 @@
 -- `tevrolig::tevrolig_prove` meets its contract. Assumes nothing.
 use borrow.Author.Needs.{needs}
 use Rattle.definition.specs.Prove.{prove}
-use Rattle.tevrolig.proofs.Numbered.{Ordered, order-written, ordered}
+use Rattle.outcome.specs.Gives.{Gives, gives}
+use Rattle.tevrolig.proofs.Numbered.{given-written}
 use Rattle.tevrolig.proofs.tevrolig_prove.Statement.{statement}
 use Rattle.tevrolig.proofs.tevrolig_prove.Tie as tie
 
@@ -17,8 +18,8 @@ same-length c = search needs
 returns : tie.Need-returns
 returns c =
     let a = c .before .before .before .before .before .before .before .before .before .args in
-    let o : Ordered (prove (a .sheet .now)) (a .coefficients .now) (a .coins .now) (a .output .now) _ _ = ordered (prove (a .sheet .now)) (c .before .before .before .prove .ensures) in
-    order-written (c .of-answer .ensures) o
+    let g : Gives (prove (a .sheet .now) (a .coefficients .now) (a .coins .now)) (a .output .now) _ _ = gives (c .before .before .before .prove .ensures) in
+    given-written (c .of-answer .ensures) g
 
 pub tevrolig-prove-spec : {M : Type 1} → statement M
 tevrolig-prove-spec = tie.close (tie.spec prove-requires of-answer-requires same-length returns)

@@ -3,7 +3,8 @@ use borrow.Author.Needs.{needs}
 use Rattle.definition.specs.Prove.{proveIn}
 use Rattle.definition.specs.Sheet.{edition2}
 use Rattle.edition.specs.Meaning.{editionOf}
-use Rattle.tevrolig.proofs.Numbered.{Ordered, order-written, ordered}
+use Rattle.outcome.specs.Gives.{Gives, gives}
+use Rattle.tevrolig.proofs.Numbered.{given-written}
 use Rattle.tevrolig.proofs.tevrolig_prove_2.Statement.{statement}
 use Rattle.tevrolig.proofs.tevrolig_prove_2.Tie as tie
 
@@ -20,8 +21,8 @@ returns : tie.Need-returns
 unfolding editionOf
 returns c =
     let a = c .before .before .before .before .before .before .before .before .before .args in
-    let o : Ordered (proveIn edition2 (a .sheet .now)) (a .coefficients .now) (a .coins .now) (a .output .now) _ _ = ordered (proveIn edition2 (a .sheet .now)) (c .before .before .before .prove-in .ensures) in
-    order-written (c .of-answer .ensures) o
+    let g : Gives (proveIn edition2 (a .sheet .now) (a .coefficients .now) (a .coins .now)) (a .output .now) _ _ = gives (c .before .before .before .prove-in .ensures) in
+    given-written (c .of-answer .ensures) g
 
 pub tevrolig-prove-2-spec : {M : Type 1} → statement M
 tevrolig-prove-2-spec = tie.close (tie.spec prove-in-requires of-answer-requires same-length returns)
