@@ -85,7 +85,7 @@ pub extern "C" fn tevrolig_decide_2(file: &[u8], place: &mut u64, reads: &mut u6
     n.number
 }
 
-// Shows a word of the stream, as the place of a refusal 5, 6 or 7 names it. Answers 1 and writes the word, or 0 where the file's whole
+// Shows a word of the stream, as the place of a refusal 5, 6, 7 or 14 names it. Answers 1 and writes the word, or 0 where the file's whole
 // blocks hold no word of that number, and then `word` is 0.
 #[no_mangle]
 pub extern "C" fn tevrolig_word(file: &[u8], number: u64, word: &mut u32) -> u32
