@@ -32,7 +32,7 @@ fn final_value(
     let n = coefficients.len();
     if 8 < n {
         if n < 66 {
-            let mut powers = lists::places();
+            let mut powers = [0u32; lists::PLACES];
             fractions::shift_powers(pw, scale, k, j, &mut powers[..n + 1]);
             return sums::sum(field, coefficients, &powers[..n + 1]);
         }
@@ -106,7 +106,7 @@ pub fn first_difference(
         bottoms,
         behind,
     );
-    let mut values = fractions::roots();
+    let mut values = [0u32; fractions::ROOTS];
     compare_by_roots(
         field,
         pw,

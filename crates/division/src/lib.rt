@@ -94,7 +94,7 @@ pub fn divide_all(field: u32, xs: &[u32], from: usize, f: &mut [u32], count: usi
     ensures { λ _. ⌜ take (count - (length (now (xs .entry)) - from)) (now (f .exit)) ≡ quotient (fieldOf field) (take count (now (f .entry))) (drop from (now (xs .entry))) ⌝ }
 {
     let e = xs.len() - from;
-    let mut w = lists::places();
+    let mut w = [0u32; lists::PLACES];
     factors(field, xs, from, &mut w);
     by_sums(field, lists::part(&w, 1, e), f, count);
     move_down(f, e, count - e);

@@ -55,18 +55,10 @@ fn from_stored(table: &[u32], step: usize, out: &mut [u32])
 }
 
 // Places for the points of domain 0, at most 4,096.
-pub fn points_room() -> [u32; 4096]
-    ensures { λ r. ⌜ length r ≡ 4096 ⌝ }
-{
-    [0u32; 4096]
-}
+pub const POINTS: usize = 4096;
 
 // The same, at most 256: a small sheet is spared the clearing of many places.
-pub fn few_points_room() -> [u32; 256]
-    ensures { λ r. ⌜ length r ≡ 256 ⌝ }
-{
-    [0u32; 256]
-}
+pub const FEW_POINTS: usize = 256;
 
 // The points of domain 0, which are the powers of ω from the first on. The larger field reads them from a stored table, the smaller where it is enough.
 fn points(field: u32, size: usize, out: &mut [u32])

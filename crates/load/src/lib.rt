@@ -17,18 +17,14 @@ pub struct Ran {
 }
 
 // Places for the file of any sheet: 67 blocks.
-fn file_room() -> [u8; 34304]
-    ensures { λ r. ⌜ length r ≡ 34304 ⌝ }
-{
-    [0u8; 34304]
-}
+const FILE: usize = 34304;
 
 // The verdict on the honest file of what is drawn: that of every v that draws it.
 fn honest_verdict(w: &[u32], coefficients: &[u32], coins: &[u32]) -> Verdict
     ensures { λ r.
         ⌜ ((v : ℕ) → record { sheet = now (w .entry); coefficients = now (coefficients .entry); coins = now (coins .entry) } ≡ drawInput v .value → verdictOf r ≡ verdictOn (drawInput v .value)) ⌝ }
 {
-    let mut output = file_room();
+    let mut output = [0u8; FILE];
     let checked = selfcheck::prove_then_verify(w, coefficients, coins, &mut output);
     checked.verdict
 }

@@ -67,7 +67,7 @@ fn sample_at(
 {
     let j = folds::wide(shifts[i]);
     let x = folds::shift_point(pw, oracle.scale, j, k);
-    let mut values = fractions::roots();
+    let mut values = [0u32; fractions::ROOTS];
     let y = fold_at(field, pw, roots, oracle, i, j, r, &mut values[..k]);
     Point { x: x, y: y }
 }
