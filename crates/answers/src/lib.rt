@@ -11,9 +11,10 @@ ghost use Rattle.outcome.specs.Meaning.{placeOf};
 ghost use Rattle.rounds.specs.RoundLaws.{Answered, Compared};
 ghost use Rattle.samples.specs.Samples.{kept, Room};
 
-// Places for the fractions of a round, at most 50 coins with 16 roots each; and for those of a small one.
+// Places for the fractions of a round, at most 50 coins with 16 roots each.
 const MANY: usize = 800;
 
+// The same of a small round.
 const FEW: usize = 64;
 
 // G of a round in the last places of px and py.

@@ -18,7 +18,7 @@ ghost use Rattle.level_words.specs.Inside.{FinalInside, Written};
 ghost use Rattle.decide_rounds.specs.Invariant.{Decided, Invariant, Represented};
 
 // Places for the samples of a round, at most 48 + 2.
-const ROOM: usize = 50;
+const SAMPLES: usize = 50;
 
 // The final comparison. All final coins are treated, or those up to and with the failing one.
 fn decide_final(
@@ -74,8 +74,8 @@ pub fn decide_rest(
     }
     let next = level_words::next_state(e, w, state);
     let now = level_words::reads_after_round(e, w, state, reads);
-    let mut px = [0u32; ROOM];
-    let mut py = [0u32; ROOM];
+    let mut px = [0u32; SAMPLES];
+    let mut py = [0u32; SAMPLES];
     let g = round_words::next_samples(e, w, pw, state, r, oracle, ac, vg, &mut px, &mut py);
     let Gathered::From(j) = g else {
         return Verdict {

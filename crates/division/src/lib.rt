@@ -3,7 +3,7 @@
 // are points; and w begins with 1.
 ghost use mathlib.Core.Path.{_≡_};
 ghost use mathlib.Core.List.{List, [], _∷_};
-ghost use Prim.Native.Nat.{ℕ, suc, _+_, _-_, _≤_, _<_};
+ghost use Prim.Native.Nat.{ℕ, _+_, _-_, _≤_, _<_};
 ghost use lib.ListN.{length, take, drop, getD};
 ghost use Rattle.definition.specs.Field.{Field, fieldOf};
 ghost use Rattle.definition.specs.Polynomial.{quotient};

@@ -6,7 +6,7 @@
 ghost use mathlib.Core.Path.{_≡_};
 ghost use Prim.Native.Nat.{ℕ, _+_, _*_, _≤_, _<_};
 ghost use lib.ListN.{length, getD, take};
-ghost use Rattle.definition.specs.Field.{Field, fieldOf};
+ghost use Rattle.definition.specs.Field.{fieldOf};
 ghost use Rattle.definition.specs.Polynomial.{evaluate};
 ghost use Rattle.list_laws.specs.Filled.{Filled};
 ghost use Rattle.fractions.specs.Fraction.{Fraction};
@@ -24,7 +24,7 @@ pub struct Oracle {
 pub const ROOTS: usize = 16;
 
 // Places for the powers of a shift point, at most 66 / 2.
-const COLUMNS: usize = 33;
+const POWERS: usize = 33;
 
 // The values of a polynomial at the k roots of a point, whose powers are given, into the first k words of out. Its coefficients are the first words of f, k for each
 // power. The roots stand in pw from place `at` on, step places apart. k sums of products give a polynomial of k coefficients that has its values there, and its
@@ -128,7 +128,7 @@ pub fn fractions(
     let k = tops.len();
     gather(table, oracle.step, j, tops);
     let count = oracle.words / k;
-    let mut powers = [0u32; COLUMNS];
+    let mut powers = [0u32; POWERS];
     shift_powers(pw, oracle.scale, k, j, &mut powers[..count]);
     quotients(
         field,

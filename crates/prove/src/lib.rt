@@ -16,10 +16,10 @@ ghost use Rattle.edition.specs.Meaning.{editionOf};
 ghost use Rattle.outcome.specs.Meaning.{answerOf};
 
 // Places for the words of the longest stream.
-const ROOM: usize = 8509;
+const ANY_WORDS: usize = 8509;
 
 // Places for the words of 8 blocks.
-const SMALL_ROOM: usize = 1016;
+const SMALL_WORDS: usize = 1016;
 
 // Writes the honest file at the front of the output, by way of the places lent for the stream's words, of which it has `due`. The answer is its number of blocks.
 fn write(
@@ -59,10 +59,10 @@ pub fn prove_in(
     }
     let due = sizes::words_due(e, sheet);
     if due <= 1016 {
-        let mut few = [0u32; SMALL_ROOM];
+        let mut few = [0u32; SMALL_WORDS];
         return write(e, sheet, coefficients, coins, due, &mut few, output);
     }
-    let mut words = [0u32; ROOM];
+    let mut words = [0u32; ANY_WORDS];
     write(e, sheet, coefficients, coins, due, &mut words, output)
 }
 

@@ -12,26 +12,26 @@ ghost use Rattle.edition.specs.Meaning.{editionOf};
 ghost use Rattle.outcome.specs.Meaning.{outcomeOf, verdictOf};
 
 // Places for the words of the largest file that can be accepted, 67 blocks, and one block more.
-const ROOM: usize = 8636;
+const ANY_WORDS: usize = 8636;
 
 // Places for the words of 8 blocks.
-const SMALL_ROOM: usize = 1016;
+const SMALL_WORDS: usize = 1016;
 
 // Places for the words of 32 blocks.
-const MIDDLE_ROOM: usize = 4064;
+const MIDDLE_WORDS: usize = 4064;
 
 // Places for the words of one block.
-const BLOCK_ROOM: usize = 127;
+const BLOCK_WORDS: usize = 127;
 
 // What reading says of a file of the edition: accepted, or one of the refusals 1 to 6. A short one is spared the clearing of many places.
 pub fn read_in(e: Edition, file: &[u8]) -> Outcome
     ensures { λ r. ⌜ outcomeOf r ≡ reading (editionOf e) (now (file .entry)) ⌝ }
 {
     if file.len() <= 4096 {
-        let mut words = [0u32; SMALL_ROOM];
+        let mut words = [0u32; SMALL_WORDS];
         return reading::read(e, file, &mut words);
     }
-    let mut words = [0u32; ROOM];
+    let mut words = [0u32; ANY_WORDS];
     reading::read(e, file, &mut words)
 }
 
@@ -55,7 +55,7 @@ fn judge_block(e: Edition, file: &[u8]) -> Verdict
     requires { ⌜ length (now file) ≤ 512 ⌝ }
     ensures { λ r. ⌜ verdictOf r ≡ verifyIn (editionOf e) (now (file .entry)) ⌝ }
 {
-    let mut words = [0u32; BLOCK_ROOM];
+    let mut words = [0u32; BLOCK_WORDS];
     verify_with(e, file, &mut words)
 }
 
@@ -64,7 +64,7 @@ fn judge_small(e: Edition, file: &[u8]) -> Verdict
     requires { ⌜ length (now file) ≤ 4096 ⌝ }
     ensures { λ r. ⌜ verdictOf r ≡ verifyIn (editionOf e) (now (file .entry)) ⌝ }
 {
-    let mut words = [0u32; SMALL_ROOM];
+    let mut words = [0u32; SMALL_WORDS];
     verify_with(e, file, &mut words)
 }
 
@@ -73,7 +73,7 @@ fn judge_middle(e: Edition, file: &[u8]) -> Verdict
     requires { ⌜ length (now file) ≤ 16384 ⌝ }
     ensures { λ r. ⌜ verdictOf r ≡ verifyIn (editionOf e) (now (file .entry)) ⌝ }
 {
-    let mut words = [0u32; MIDDLE_ROOM];
+    let mut words = [0u32; MIDDLE_WORDS];
     verify_with(e, file, &mut words)
 }
 
@@ -81,7 +81,7 @@ fn judge_middle(e: Edition, file: &[u8]) -> Verdict
 fn judge_any(e: Edition, file: &[u8]) -> Verdict
     ensures { λ r. ⌜ verdictOf r ≡ verifyIn (editionOf e) (now (file .entry)) ⌝ }
 {
-    let mut words = [0u32; ROOM];
+    let mut words = [0u32; ANY_WORDS];
     verify_with(e, file, &mut words)
 }
 
