@@ -11,18 +11,11 @@ ghost use Rattle.outcome.specs.Meaning.{placeOf};
 ghost use Rattle.rounds.specs.RoundLaws.{Answered, Compared};
 ghost use Rattle.samples.specs.Samples.{kept, Room};
 
-// Places for the fractions of a round, at most 50 coins with 16 roots each; and for those of a small one.
-fn many() -> [u32; 800]
-    ensures { λ r. ⌜ length r ≡ 800 ⌝ }
-{
-    [0u32; 800]
-}
+// Places for the fractions of a round, at most 50 coins with 16 roots each.
+const MANY: usize = 800;
 
-fn few() -> [u32; 64]
-    ensures { λ r. ⌜ length r ≡ 64 ⌝ }
-{
-    [0u32; 64]
-}
+// The same of a small round.
+const FEW: usize = 64;
 
 // G of a round in the last places of px and py.
 pub fn gather_round(
@@ -49,9 +42,9 @@ pub fn gather_round(
     ensures { λ v. ⌜ Room (length (now (px .entry))) (length (now (outs .entry)) + length (now (shifts .entry))) v ⌝ }
 {
     if shifts.len() * k <= 64 {
-        let mut tops = few();
-        let mut bottoms = few();
-        let mut behind = few();
+        let mut tops = [0u32; FEW];
+        let mut bottoms = [0u32; FEW];
+        let mut behind = [0u32; FEW];
         return rounds::gather_samples(
             field,
             pw,
@@ -71,9 +64,9 @@ pub fn gather_round(
             py,
         );
     }
-    let mut tops = many();
-    let mut bottoms = many();
-    let mut behind = many();
+    let mut tops = [0u32; MANY];
+    let mut bottoms = [0u32; MANY];
+    let mut behind = [0u32; MANY];
     rounds::gather_samples(
         field,
         pw,
@@ -113,9 +106,9 @@ pub fn compare_finals(
     ensures { λ v. ⌜ Compared field (now (pw .entry)) (now (table .entry)) (now (ac .entry)) (now (vg .entry)) oracle k r (now (coefficients .entry)) (now (finals .entry)) (placeOf v) ⌝ }
 {
     if finals.len() * k <= 64 {
-        let mut tops = few();
-        let mut bottoms = few();
-        let mut behind = few();
+        let mut tops = [0u32; FEW];
+        let mut bottoms = [0u32; FEW];
+        let mut behind = [0u32; FEW];
         return comparison::first_difference(
             field,
             pw,
@@ -132,9 +125,9 @@ pub fn compare_finals(
             &mut behind,
         );
     }
-    let mut tops = many();
-    let mut bottoms = many();
-    let mut behind = many();
+    let mut tops = [0u32; MANY];
+    let mut bottoms = [0u32; MANY];
+    let mut behind = [0u32; MANY];
     comparison::first_difference(
         field,
         pw,

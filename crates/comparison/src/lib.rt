@@ -4,7 +4,7 @@
 use fractions::Oracle;
 use outcome::Found;
 ghost use mathlib.Core.Path.{_≡_};
-ghost use Prim.Native.Nat.{ℕ, _+_, _*_, _≤_, _<_};
+ghost use Prim.Native.Nat.{_+_, _*_, _≤_, _<_};
 ghost use lib.ListN.{length};
 ghost use Rattle.definition.specs.Field.{fieldOf};
 ghost use Rattle.definition.specs.Lists.{firstTrue};
@@ -32,7 +32,7 @@ fn final_value(
     let n = coefficients.len();
     if 8 < n {
         if n < 66 {
-            let mut powers = lists::places();
+            let mut powers = [0u32; lists::PLACES];
             fractions::shift_powers(pw, scale, k, j, &mut powers[..n + 1]);
             return sums::sum(field, coefficients, &powers[..n + 1]);
         }
@@ -106,7 +106,7 @@ pub fn first_difference(
         bottoms,
         behind,
     );
-    let mut values = fractions::roots();
+    let mut values = [0u32; fractions::ROOTS];
     compare_by_roots(
         field,
         pw,

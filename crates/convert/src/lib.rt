@@ -20,18 +20,10 @@ ghost use Rattle.convert.specs.Stages.{Sized, Tested, outputFor};
 ghost use Rattle.convert.specs.Ways.{converted};
 
 // Places for the words of the largest file that can be accepted, 67 blocks, and one block more, after six for a longer sheet.
-fn room() -> [u32; 8642]
-    ensures { λ r. ⌜ length r ≡ 8642 ⌝ }
-{
-    [0u32; 8642]
-}
+const ANY_WORDS: usize = 8642;
 
 // Places for the words of 8 blocks, after six.
-fn small_room() -> [u32; 1022]
-    ensures { λ r. ⌜ length r ≡ 1022 ⌝ }
-{
-    [0u32; 1022]
-}
+const SMALL_WORDS: usize = 1022;
 
 // Refusal 11, of the number of words to write and the number of bytes of the output; or that number of words.
 fn output_test(count: usize, size: usize) -> Answer
@@ -127,10 +119,10 @@ fn convert_to(to: Edition, file: &[u8], output: &mut [u8]) -> Answer
     ensures { λ r. ⌜ Gives (converted to (now (file .entry))) (now (output .entry)) (answerOf r) (now (output .exit)) ⌝ }
 {
     if file.len() <= 4096 {
-        let mut few = small_room();
+        let mut few = [0u32; SMALL_WORDS];
         return by_way(to, file, &mut few, output);
     }
-    let mut words = room();
+    let mut words = [0u32; ANY_WORDS];
     by_way(to, file, &mut words, output)
 }
 

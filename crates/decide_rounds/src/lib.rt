@@ -18,11 +18,7 @@ ghost use Rattle.level_words.specs.Inside.{FinalInside, Written};
 ghost use Rattle.decide_rounds.specs.Invariant.{Decided, Invariant, Represented};
 
 // Places for the samples of a round, at most 48 + 2.
-fn room() -> [u32; 50]
-    ensures { λ r. ⌜ length r ≡ 50 ⌝ }
-{
-    [0u32; 50]
-}
+const SAMPLES: usize = 50;
 
 // The final comparison. All final coins are treated, or those up to and with the failing one.
 fn decide_final(
@@ -78,8 +74,8 @@ pub fn decide_rest(
     }
     let next = level_words::next_state(e, w, state);
     let now = level_words::reads_after_round(e, w, state, reads);
-    let mut px = room();
-    let mut py = room();
+    let mut px = [0u32; SAMPLES];
+    let mut py = [0u32; SAMPLES];
     let g = round_words::next_samples(e, w, pw, state, r, oracle, ac, vg, &mut px, &mut py);
     let Gathered::From(j) = g else {
         return Verdict {
@@ -87,8 +83,8 @@ pub fn decide_rest(
             reads: now,
         };
     };
-    let mut pa = lists::places();
-    let mut pv = lists::double_places();
+    let mut pa = [0u32; lists::PLACES];
+    let mut pv = [0u32; lists::DOUBLE_PLACES];
     let words = round_words::correction(e, w, state, &px, &py, j, &mut pa, &mut pv);
     decide_rest(
         e,

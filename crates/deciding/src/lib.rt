@@ -27,8 +27,8 @@ fn decide_past_out_tests(e: Edition, w: &[u32], pw: &[u32]) -> Verdict
     ensures { λ v.
         ⌜ verdictOf v ≡ counted (decideBy (primeField ((sheetOf (editionOf e) (now (w .entry))) .prime)) (rootOfUnity (sheetOf (editionOf e) (now (w .entry)))) (firstLevel (sheetOf (editionOf e) (now (w .entry)))) (readTranscript (sheetOf (editionOf e) (now (w .entry))) (drop (sheetLength (editionOf e)) (now (w .entry))))) ⌝ }
 {
-    let ac = lists::places();
-    let vg = lists::double_places();
+    let ac = [0u32; lists::PLACES];
+    let vg = [0u32; lists::DOUBLE_PLACES];
     decide_rounds::decide_rest(
         e,
         w,
@@ -66,11 +66,11 @@ pub fn deciding(e: Edition, w: &[u32]) -> Verdict
     ensures { λ v. ⌜ verdictOf v ≡ decidingOf (editionOf e) (now (w .entry)) ⌝ }
 {
     if w[1] <= 256 {
-        let mut few = domain::few_points_room();
+        let mut few = [0u32; domain::FEW_POINTS];
         let count = domain::of_sheet_within(w, &mut few);
         return test_outs_then_decide(e, w, &few[..count]);
     }
-    let mut pw = domain::points_room();
+    let mut pw = [0u32; domain::POINTS];
     let size = domain::of_sheet(w, &mut pw);
     test_outs_then_decide(e, w, &pw[..size])
 }

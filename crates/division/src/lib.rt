@@ -3,7 +3,7 @@
 // are points; and w begins with 1.
 ghost use mathlib.Core.Path.{_≡_};
 ghost use mathlib.Core.List.{List, [], _∷_};
-ghost use Prim.Native.Nat.{ℕ, suc, _+_, _-_, _≤_, _<_};
+ghost use Prim.Native.Nat.{ℕ, _+_, _-_, _≤_, _<_};
 ghost use lib.ListN.{length, take, drop, getD};
 ghost use Rattle.definition.specs.Field.{Field, fieldOf};
 ghost use Rattle.definition.specs.Polynomial.{quotient};
@@ -94,7 +94,7 @@ pub fn divide_all(field: u32, xs: &[u32], from: usize, f: &mut [u32], count: usi
     ensures { λ _. ⌜ take (count - (length (now (xs .entry)) - from)) (now (f .exit)) ≡ quotient (fieldOf field) (take count (now (f .entry))) (drop from (now (xs .entry))) ⌝ }
 {
     let e = xs.len() - from;
-    let mut w = lists::places();
+    let mut w = [0u32; lists::PLACES];
     factors(field, xs, from, &mut w);
     by_sums(field, lists::part(&w, 1, e), f, count);
     move_down(f, e, count - e);

@@ -181,7 +181,7 @@ pub fn coins(w: &[u32], generator: Generator, out: &mut [u32]) -> Generator
     ensures { λ r.
         ⌜ record { value = now (out .exit); next = r .v } ≡ drawKinds (sheetOf edition1 (now (w .entry))) none (coinKinds (layout (sheetOf edition1 (now (w .entry))))) (generator .v) ⌝ }
 {
-    let mut pw = domain::points_room();
+    let mut pw = [0u32; domain::POINTS];
     let size = domain::of_sheet(w, &mut pw);
     from_first(w, &pw[..size], generator, out)
 }

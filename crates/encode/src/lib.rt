@@ -19,11 +19,11 @@ fn first_table(w: &[u32], f: &[u32], out: &mut [u32])
     ensures { λ _. ⌜ now (out .exit) ≡ tableOf (primeField (sheetOf edition1 (now (w .entry)) .prime)) (rootOfUnity (sheetOf edition1 (now (w .entry)))) (firstLevel (sheetOf edition1 (now (w .entry)))) (now (f .entry)) ⌝ }
 {
     if w[1] <= 256 {
-        let mut few = domain::few_points_room();
+        let mut few = [0u32; domain::FEW_POINTS];
         let count = domain::of_sheet_within(w, &mut few);
         tables::on_domain(w[0], f, &few[..count], 1, out);
     } else {
-        let mut pw = domain::points_room();
+        let mut pw = [0u32; domain::POINTS];
         let size = domain::of_sheet(w, &mut pw);
         tables::on_domain(w[0], f, &pw[..size], 1, out);
     }

@@ -6,7 +6,7 @@
 ghost use mathlib.Core.Path.{_≡_};
 ghost use Prim.Native.Nat.{ℕ, _+_, _*_, _≤_, _<_};
 ghost use lib.ListN.{length, getD, take};
-ghost use Rattle.definition.specs.Field.{Field, fieldOf};
+ghost use Rattle.definition.specs.Field.{fieldOf};
 ghost use Rattle.definition.specs.Polynomial.{evaluate};
 ghost use Rattle.list_laws.specs.Filled.{Filled};
 ghost use Rattle.fractions.specs.Fraction.{Fraction};
@@ -21,18 +21,10 @@ pub struct Oracle {
 }
 
 // Places for the values at the roots of a shift point, at most 16.
-pub fn roots() -> [u32; 16]
-    ensures { λ r. ⌜ length r ≡ 16 ⌝ }
-{
-    [0u32; 16]
-}
+pub const ROOTS: usize = 16;
 
 // Places for the powers of a shift point, at most 66 / 2.
-fn columns() -> [u32; 33]
-    ensures { λ r. ⌜ length r ≡ 33 ⌝ }
-{
-    [0u32; 33]
-}
+const POWERS: usize = 33;
 
 // The values of a polynomial at the k roots of a point, whose powers are given, into the first k words of out. Its coefficients are the first words of f, k for each
 // power. The roots stand in pw from place `at` on, step places apart. k sums of products give a polynomial of k coefficients that has its values there, and its
@@ -51,7 +43,7 @@ fn at_roots(
     requires { ⌜ (k * length (now powers) ≤ length (now f)) × (k ≤ length (now out)) ⌝ }
     ensures { λ _. ⌜ ((m : ℕ) → m < k → getD (now (out .exit)) m 0 ≡ evaluate (fieldOf field) (take (k * length (now (powers .entry))) (now (f .entry))) (getD (now (pw .entry)) (at + step * m) 0)) ⌝ }
 {
-    let mut sums = roots();
+    let mut sums = [0u32; ROOTS];
     sums::residues(field, f, powers, &mut sums[..k]);
     tables::on_roots(field, &sums[..k], pw, at, step, &mut out[..k]);
 }
@@ -88,8 +80,8 @@ fn quotients(
     ensures { λ _. ⌜ ((m : ℕ) → m < length (now (tops .entry)) → getD (now (bottoms .exit)) m 0 ≡ evaluate (fieldOf field) (vanishingIn (length (now (tops .entry)) * length (now (powers .entry))) (now (vg .entry))) (getD (now (pw .entry)) (at + step * m) 0)) ⌝ }
 {
     let k = tops.len();
-    let mut a = roots();
-    let mut g = roots();
+    let mut a = [0u32; ROOTS];
+    let mut g = [0u32; ROOTS];
     at_roots(field, ac, powers, pw, at, step, k, &mut a);
     at_roots(field, vg, powers, pw, at, step, k, bottoms);
     at_roots(field, &vg[66..], powers, pw, at, step, k, &mut g);
@@ -136,7 +128,7 @@ pub fn fractions(
     let k = tops.len();
     gather(table, oracle.step, j, tops);
     let count = oracle.words / k;
-    let mut powers = columns();
+    let mut powers = [0u32; POWERS];
     shift_powers(pw, oracle.scale, k, j, &mut powers[..count]);
     quotients(
         field,

@@ -80,8 +80,8 @@ fn stream_with_all(e: Edition, w: &[u32], f: &[u32], coins: &[u32], out: &mut [u
     requires { ⌜ length (now out) ≡ wordsDue (editionOf e) (sheetOf (editionOf e) (now w)) ⌝ }
     ensures { λ _. ⌜ now (out .exit) ≡ honestStream (editionOf e) (now (w .entry)) (now (f .entry)) (now (coins .entry)) ⌝ }
 {
-    let mut pw = domain::points_room();
-    let mut g = honest_round::fold_room();
+    let mut pw = [0u32; domain::POINTS];
+    let mut g = [0u32; honest_round::FOLD];
     let size = domain::of_sheet(w, &mut pw);
     stream_by(e, w, &pw[..size], f, coins, &mut g, out);
 }
@@ -92,8 +92,8 @@ fn stream_with_few(e: Edition, w: &[u32], f: &[u32], coins: &[u32], out: &mut [u
     requires { ⌜ length (now out) ≡ wordsDue (editionOf e) (sheetOf (editionOf e) (now w)) ⌝ }
     ensures { λ _. ⌜ now (out .exit) ≡ honestStream (editionOf e) (now (w .entry)) (now (f .entry)) (now (coins .entry)) ⌝ }
 {
-    let mut pw = domain::few_points_room();
-    let mut g = honest_round::few_fold_room();
+    let mut pw = [0u32; domain::FEW_POINTS];
+    let mut g = [0u32; honest_round::FEW_FOLD];
     let size = domain::of_sheet_within(w, &mut pw);
     stream_by(e, w, &pw[..size], f, coins, &mut g, out);
 }

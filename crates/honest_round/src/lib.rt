@@ -13,11 +13,7 @@ ghost use Rattle.edition.specs.Meaning.{editionOf};
 ghost use Rattle.honest_words.specs.Invariant.{AtLevel, RoundCoinsFit, Invariant, coinsNext, correctedFrom, foldAfter, foldFrom, foldOf, roundCount, roundFrom};
 
 // Places for the points of a round, at most 2 + 48.
-fn points_room() -> [u32; 50]
-    ensures { λ r. ⌜ length r ≡ 50 ⌝ }
-{
-    [0u32; 50]
-}
+const POINTS: usize = 50;
 
 // The folding number of a level.
 fn folding_number(e: Edition, w: &[u32], level: usize) -> usize
@@ -79,7 +75,7 @@ fn correct(
     requires { ⌜ (RoundCoinsFit (sheetOf (editionOf e) (now w)) level (now coins)) × (length (now next) ≤ length (now g)) ⌝ }
     ensures { λ _. ⌜ now (next .exit) ≡ correctedFrom (sheetOf (editionOf e) (now (w .entry))) level (take (length (now (next .entry))) (now (g .entry))) (now (coins .entry)) ⌝ }
 {
-    let mut xs = points_room();
+    let mut xs = [0u32; POINTS];
     let from = sample_points(e, w, pw, level, scale, coins, &mut xs);
     let d = next.len();
     correction::corrected(w[0], &xs, from, coin(w, coins, 0), g, d, next);
@@ -132,18 +128,10 @@ fn next_fold(
 }
 
 // Places for the fold of a polynomial of at most 2,048 coefficients, or for the next polynomial.
-pub fn fold_room() -> [u32; 1024]
-    ensures { λ r. ⌜ length r ≡ 1024 ⌝ }
-{
-    [0u32; 1024]
-}
+pub const FOLD: usize = 1024;
 
 // The same, of at most 128.
-pub fn few_fold_room() -> [u32; 64]
-    ensures { λ r. ⌜ length r ≡ 64 ⌝ }
-{
-    [0u32; 64]
-}
+pub const FEW_FOLD: usize = 64;
 
 // One round after such a level: its words, and what it leaves, with places of its own for the next polynomial. A small one is spared the clearing of many.
 pub fn step(
@@ -167,10 +155,10 @@ pub fn step(
 {
     honest_words::round(e, w, pw, level, scale, &g[..d], coins, out);
     if d <= 64 {
-        let mut few = few_fold_room();
+        let mut few = [0u32; FEW_FOLD];
         next_fold(e, w, pw, level, scale, d, folded, coins, g, &mut few);
     } else {
-        let mut next = fold_room();
+        let mut next = [0u32; FOLD];
         next_fold(e, w, pw, level, scale, d, folded, coins, g, &mut next);
     }
 }

@@ -41,11 +41,11 @@ fn coin_tests(e: Edition, w: &[u32], coins: &[u32]) -> Outcome
     ensures { λ r. ⌜ outcomeOf r ≡ (coinDomainTest (sheetOf (editionOf e) (now (w .entry))) (now (coins .entry)) then coinEqualTest (sheetOf (editionOf e) (now (w .entry))) (now (coins .entry))) ⌝ }
 {
     if w[1] <= 256 {
-        let mut few = domain::few_points_room();
+        let mut few = [0u32; domain::FEW_POINTS];
         let count = domain::of_sheet_within(w, &mut few);
         return out_coins::coin_tests(e, w, &few[..count], coins);
     }
-    let mut pw = domain::points_room();
+    let mut pw = [0u32; domain::POINTS];
     let size = domain::of_sheet(w, &mut pw);
     out_coins::coin_tests(e, w, &pw[..size], coins)
 }

@@ -12,3 +12,4 @@ pub mod Overwriting
 pub mod Filled
 pub mod Backwards
 pub mod LentParts
+pub mod Zeros

@@ -86,7 +86,7 @@ fn kept(w: &[u32], out: &mut [u8; 131072]) -> usize
     ensures { λ r. ⌜ take r (now (out .exit)) ≡ domainsText (sheetOf edition1 (now (w .entry))) ⌝ }
     ensures { λ r. ⌜ r ≤ 131072 ⌝ }
 {
-    let mut pw = domain::points_room();
+    let mut pw = [0u32; domain::POINTS];
     let size = domain::of_sheet(w, &mut pw);
     let rounds = w[4] as usize;
     let begun = line::write(line::text(line::empty(), b"keeps its rules\n"), 0, out);

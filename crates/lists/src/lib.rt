@@ -20,18 +20,10 @@ pub fn part(w: &[u32], at: usize, count: usize) -> &[u32]
 }
 
 // Places for the coefficients of a round, at most 50 + 16.
-pub fn places() -> [u32; 66]
-    ensures { λ r. ⌜ length r ≡ 66 ⌝ }
-{
-    [0u32; 66]
-}
+pub const PLACES: usize = 66;
 
 // Places for two such lists.
-pub fn double_places() -> [u32; 132]
-    ensures { λ r. ⌜ length r ≡ 132 ⌝ }
-{
-    [0u32; 132]
-}
+pub const DOUBLE_PLACES: usize = 132;
 
 // A and V of no samples: 0 and 1.
 fn start(field: u32, q: &mut [u32], v: &mut [u32])
@@ -73,8 +65,8 @@ fn interpolated(field: u32, xs: &[u32], ys: &[u32], q: &mut [u32], v: &mut [u32]
     ensures { λ _. ⌜ Through (fieldOf field) (now (xs .entry)) (now (ys .entry)) (now (q .exit)) (now (v .exit)) ⌝ }
 {
     let n = xs.len();
-    let mut us = places();
-    let mut room = places();
+    let mut us = [0u32; PLACES];
+    let mut room = [0u32; PLACES];
     differences::divisors(field, xs, &mut us[..n], &mut room);
     steps(field, xs, ys, &us[..n], &mut room, q, v);
 }

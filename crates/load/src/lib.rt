@@ -3,9 +3,9 @@ use generator::Generator;
 use outcome::Outcome;
 use outcome::Verdict;
 ghost use mathlib.Core.Path.{_≡_};
-ghost use mathlib.Core.List.{_++_, flatMap};
+ghost use mathlib.Core.List.{flatMap};
 ghost use Prim.Native.Nat.{ℕ, _+_, _*_, _≤_};
-ghost use lib.ListN.{length, take};
+ghost use lib.ListN.{take};
 ghost use Rattle.definition.specs.Load.{drawInput, loadLines, loadOutput, verdictOn};
 ghost use Rattle.outcome.specs.Meaning.{verdictOf};
 ghost use Rattle.load.specs.Runs.{linesFrom};
@@ -17,18 +17,14 @@ pub struct Ran {
 }
 
 // Places for the file of any sheet: 67 blocks.
-fn file_room() -> [u8; 34304]
-    ensures { λ r. ⌜ length r ≡ 34304 ⌝ }
-{
-    [0u8; 34304]
-}
+const FILE_BYTES: usize = 34304;
 
 // The verdict on the honest file of what is drawn: that of every v that draws it.
 fn honest_verdict(w: &[u32], coefficients: &[u32], coins: &[u32]) -> Verdict
     ensures { λ r.
         ⌜ ((v : ℕ) → record { sheet = now (w .entry); coefficients = now (coefficients .entry); coins = now (coins .entry) } ≡ drawInput v .value → verdictOf r ≡ verdictOn (drawInput v .value)) ⌝ }
 {
-    let mut output = file_room();
+    let mut output = [0u8; FILE_BYTES];
     let checked = selfcheck::prove_then_verify(w, coefficients, coins, &mut output);
     checked.verdict
 }

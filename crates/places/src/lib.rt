@@ -37,12 +37,8 @@ fn count_few(js: &[u32]) -> usize
     count
 }
 
-// A mark for each index that a level may have, none of them set.
-fn room() -> [u8; 2048]
-    ensures { λ r. ⌜ r ≡ replicate 2048 0 ⌝ }
-{
-    [0u8; 2048]
-}
+// The indices that a level may have: each has a mark.
+const INDICES: usize = 2048;
 
 // Marks an index. Was it marked before?
 fn mark(marks: &mut [u8], j: usize) -> bool
@@ -77,7 +73,7 @@ fn count_many(js: &[u32]) -> usize
     requires { ⌜ All (λ j. j < 2048) (now js) ⌝ }
     ensures { λ r. ⌜ r ≡ length (different eqb (now (js .entry))) ⌝ }
 {
-    let mut marks = room();
+    let mut marks = [0u8; INDICES];
     count_by(js, &mut marks)
 }
 

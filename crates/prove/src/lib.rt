@@ -16,18 +16,10 @@ ghost use Rattle.edition.specs.Meaning.{editionOf};
 ghost use Rattle.outcome.specs.Meaning.{answerOf};
 
 // Places for the words of the longest stream.
-fn room() -> [u32; 8509]
-    ensures { λ r. ⌜ length r ≡ 8509 ⌝ }
-{
-    [0u32; 8509]
-}
+const ANY_WORDS: usize = 8509;
 
 // Places for the words of 8 blocks.
-fn small_room() -> [u32; 1016]
-    ensures { λ r. ⌜ length r ≡ 1016 ⌝ }
-{
-    [0u32; 1016]
-}
+const SMALL_WORDS: usize = 1016;
 
 // Writes the honest file at the front of the output, by way of the places lent for the stream's words, of which it has `due`. The answer is its number of blocks.
 fn write(
@@ -67,10 +59,10 @@ pub fn prove_in(
     }
     let due = sizes::words_due(e, sheet);
     if due <= 1016 {
-        let mut few = small_room();
+        let mut few = [0u32; SMALL_WORDS];
         return write(e, sheet, coefficients, coins, due, &mut few, output);
     }
-    let mut words = room();
+    let mut words = [0u32; ANY_WORDS];
     write(e, sheet, coefficients, coins, due, &mut words, output)
 }
 

@@ -6,7 +6,7 @@ use fractions::Oracle;
 use samples::Gathered;
 ghost use mathlib.Core.Path.{_≡_};
 ghost use mathlib.Core.List.{_++_};
-ghost use Prim.Native.Nat.{ℕ, _+_, _*_, _≤_, _<_};
+ghost use Prim.Native.Nat.{_+_, _*_, _≤_, _<_};
 ghost use lib.ListN.{length, getD};
 ghost use Rattle.definition.specs.Field.{fieldOf};
 ghost use Rattle.definition.specs.Polynomial.{pair};
@@ -67,7 +67,7 @@ fn sample_at(
 {
     let j = folds::wide(shifts[i]);
     let x = folds::shift_point(pw, oracle.scale, j, k);
-    let mut values = fractions::roots();
+    let mut values = [0u32; fractions::ROOTS];
     let y = fold_at(field, pw, roots, oracle, i, j, r, &mut values[..k]);
     Point { x: x, y: y }
 }

@@ -21,18 +21,10 @@ pub struct Input {
 }
 
 // Places for the coefficients of any sheet.
-fn coefficients_room() -> [u32; 2048]
-    ensures { λ r. ⌜ length r ≡ 2048 ⌝ }
-{
-    [0u32; 2048]
-}
+const COEFFICIENTS: usize = 2048;
 
 // Places for the coins of any sheet.
-fn coins_room() -> [u32; 309]
-    ensures { λ r. ⌜ length r ≡ 309 ⌝ }
-{
-    [0u32; 309]
-}
+const COINS: usize = 309;
 
 // The coefficients and the coins after a sheet w: those of the run of every v that draws this sheet.
 fn after_sheet(
@@ -58,8 +50,8 @@ pub fn draw(generator: Generator) -> Input
 {
     let mut w = [0u32; 12];
     let next = sheets::draw(generator, &mut w);
-    let mut coefficients = coefficients_room();
-    let mut coins = coins_room();
+    let mut coefficients = [0u32; COEFFICIENTS];
+    let mut coins = [0u32; COINS];
     let degree = w[2] as usize;
     let due = sizes::coins_due(Edition::One, &w);
     let after = after_sheet(&w, next, &mut coefficients[..degree], &mut coins[..due]);

@@ -77,11 +77,7 @@ fn worked(w: &mut [u32])
 }
 
 // Places for the values that a rule permits.
-fn room() -> [u32; 56]
-    ensures { λ r. ⌜ length r ≡ 56 ⌝ }
-{
-    [0u32; 56]
-}
+const VALUES: usize = 56;
 
 // Draws a sheet, one step for each word; answers the generator as it then is. Where a word has no value left, it takes no step, the worked sheet is used and no
 // later word is drawn.
@@ -89,7 +85,7 @@ pub fn draw(generator: Generator, w: &mut [u32]) -> Generator
     requires { ⌜ length (now w) ≡ 12 ⌝ }
     ensures { λ r. ⌜ record { value = now (w .exit); next = r .v } ≡ drawSheet (generator .v) ⌝ }
 {
-    let mut values = room();
+    let mut values = [0u32; VALUES];
     let mut generator = generator;
     let mut j = 0;
     while j < 12 {

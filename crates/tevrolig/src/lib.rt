@@ -31,7 +31,7 @@ pub extern "C" fn tevrolig_verify_2(file: &[u8], place: &mut u64, reads: &mut u6
     ensures { λ r. ⌜ now (place .exit) ≡ placeIn (verifyIn edition2 (now (file .entry)) .outcome) ⌝ }
     ensures { λ r. ⌜ now (reads .exit) ≡ verifyIn edition2 (now (file .entry)) .reads ⌝ }
 {
-    let n = numbers::of_verdict(verify::verify_in(Edition::Two, file));
+    let n = numbers::of_verdict(verify::verify_2(file));
     *place = n.place;
     *reads = n.reads;
     n.number
@@ -66,7 +66,7 @@ pub extern "C" fn tevrolig_decide(file: &[u8], place: &mut u64, reads: &mut u64)
     ensures { λ r. ⌜ now (place .exit) ≡ placeIn (decideFile edition1 (now (file .entry)) .outcome) ⌝ }
     ensures { λ r. ⌜ now (reads .exit) ≡ decideFile edition1 (now (file .entry)) .reads ⌝ }
 {
-    let n = numbers::of_verdict(steps::decide_in(Edition::One, file));
+    let n = numbers::of_verdict(verify::verify(file));
     *place = n.place;
     *reads = n.reads;
     n.number
@@ -79,7 +79,7 @@ pub extern "C" fn tevrolig_decide_2(file: &[u8], place: &mut u64, reads: &mut u6
     ensures { λ r. ⌜ now (place .exit) ≡ placeIn (decideFile edition2 (now (file .entry)) .outcome) ⌝ }
     ensures { λ r. ⌜ now (reads .exit) ≡ decideFile edition2 (now (file .entry)) .reads ⌝ }
 {
-    let n = numbers::of_verdict(steps::decide_in(Edition::Two, file));
+    let n = numbers::of_verdict(verify::verify_2(file));
     *place = n.place;
     *reads = n.reads;
     n.number
@@ -140,7 +140,7 @@ pub extern "C" fn tevrolig_prove_2(
     ensures { λ r. ⌜ now (value .exit) ≡ valueOf (proveIn edition2 (now (sheet .entry)) (now (coefficients .entry)) (now (coins .entry)) (now (output .entry)) .answer) ⌝ }
     ensures { λ r. ⌜ now (output .exit) ≡ proveIn edition2 (now (sheet .entry)) (now (coefficients .entry)) (now (coins .entry)) (now (output .entry)) .output ⌝ }
 {
-    let answer = prove::prove_in(Edition::Two, sheet, coefficients, coins, output);
+    let answer = prove::prove_2(sheet, coefficients, coins, output);
     let n = numbers::of_answer(answer);
     *value = n.value;
     n.number

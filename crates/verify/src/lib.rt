@@ -12,42 +12,26 @@ ghost use Rattle.edition.specs.Meaning.{editionOf};
 ghost use Rattle.outcome.specs.Meaning.{outcomeOf, verdictOf};
 
 // Places for the words of the largest file that can be accepted, 67 blocks, and one block more.
-fn room() -> [u32; 8636]
-    ensures { λ r. ⌜ length r ≡ 8636 ⌝ }
-{
-    [0u32; 8636]
-}
+const ANY_WORDS: usize = 8636;
 
 // Places for the words of 8 blocks.
-fn small_room() -> [u32; 1016]
-    ensures { λ r. ⌜ length r ≡ 1016 ⌝ }
-{
-    [0u32; 1016]
-}
+const SMALL_WORDS: usize = 1016;
 
 // Places for the words of 32 blocks.
-fn middle_room() -> [u32; 4064]
-    ensures { λ r. ⌜ length r ≡ 4064 ⌝ }
-{
-    [0u32; 4064]
-}
+const MIDDLE_WORDS: usize = 4064;
 
 // Places for the words of one block.
-fn block_room() -> [u32; 127]
-    ensures { λ r. ⌜ length r ≡ 127 ⌝ }
-{
-    [0u32; 127]
-}
+const BLOCK_WORDS: usize = 127;
 
 // What reading says of a file of the edition: accepted, or one of the refusals 1 to 6. A short one is spared the clearing of many places.
 pub fn read_in(e: Edition, file: &[u8]) -> Outcome
     ensures { λ r. ⌜ outcomeOf r ≡ reading (editionOf e) (now (file .entry)) ⌝ }
 {
     if file.len() <= 4096 {
-        let mut words = small_room();
+        let mut words = [0u32; SMALL_WORDS];
         return reading::read(e, file, &mut words);
     }
-    let mut words = room();
+    let mut words = [0u32; ANY_WORDS];
     reading::read(e, file, &mut words)
 }
 
@@ -71,7 +55,7 @@ fn judge_block(e: Edition, file: &[u8]) -> Verdict
     requires { ⌜ length (now file) ≤ 512 ⌝ }
     ensures { λ r. ⌜ verdictOf r ≡ verifyIn (editionOf e) (now (file .entry)) ⌝ }
 {
-    let mut words = block_room();
+    let mut words = [0u32; BLOCK_WORDS];
     verify_with(e, file, &mut words)
 }
 
@@ -80,7 +64,7 @@ fn judge_small(e: Edition, file: &[u8]) -> Verdict
     requires { ⌜ length (now file) ≤ 4096 ⌝ }
     ensures { λ r. ⌜ verdictOf r ≡ verifyIn (editionOf e) (now (file .entry)) ⌝ }
 {
-    let mut words = small_room();
+    let mut words = [0u32; SMALL_WORDS];
     verify_with(e, file, &mut words)
 }
 
@@ -89,7 +73,7 @@ fn judge_middle(e: Edition, file: &[u8]) -> Verdict
     requires { ⌜ length (now file) ≤ 16384 ⌝ }
     ensures { λ r. ⌜ verdictOf r ≡ verifyIn (editionOf e) (now (file .entry)) ⌝ }
 {
-    let mut words = middle_room();
+    let mut words = [0u32; MIDDLE_WORDS];
     verify_with(e, file, &mut words)
 }
 
@@ -97,7 +81,7 @@ fn judge_middle(e: Edition, file: &[u8]) -> Verdict
 fn judge_any(e: Edition, file: &[u8]) -> Verdict
     ensures { λ r. ⌜ verdictOf r ≡ verifyIn (editionOf e) (now (file .entry)) ⌝ }
 {
-    let mut words = room();
+    let mut words = [0u32; ANY_WORDS];
     verify_with(e, file, &mut words)
 }
 

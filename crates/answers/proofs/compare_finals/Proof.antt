@@ -3,6 +3,7 @@ use Prim.Native.Nat.{_≤_}
 use native.Mathlib.Omega.{arith}
 use lib.ListN.{length}
 use borrow.Author.Needs.{needs}
+use Rattle.list_laws.specs.Zeros.{length-zeros}
 use Rattle.answers.proofs.Sizes.{most-places}
 use Rattle.answers.proofs.compare_finals.Statement.{statement}
 use Rattle.answers.proofs.compare_finals.Tie as tie
@@ -13,15 +14,6 @@ mul-if1 c =
     let a = s .args in
     let l : length (a .finals .now) ≤ 50 = s .pre .1 .1 .1 in
     omega (arith, most-places (length (a .finals .now)) (a .k) l (s .pre .1 .0 .few))
-
-few-requires : tie.Need-few-requires
-few-requires c κs = search needs
-
-few-requires-2 : tie.Need-few-requires-2
-few-requires-2 c κs = search needs
-
-few-requires-3 : tie.Need-few-requires-3
-few-requires-3 c κs = search needs
 
 slice-aggregate-first-difference : tie.Need-slice-aggregate-first-difference
 slice-aggregate-first-difference c = search needs
@@ -34,22 +26,13 @@ slice-aggregate-first-difference-3 c = search needs
 
 first-difference-requires : tie.Need-first-difference-requires
 first-difference-requires c κs =
-    let s = c .before .before .before .before .before .before .before .before .before .before .before .before .before in
+    let s = c .before .before .before .before .before .before .before .before .before .before in
     let a = s .args in
     let l : length (a .finals .now) ≤ 50 = s .pre .1 .1 .1 in
-    (s .pre .0, (s .pre .1 .0, (s .pre .1 .1 .0, (omega (arith, c .before .before .before .before .before .before .if1 .taken, c .before .before .before .before .before .few .ensures), (omega (arith, c .before .before .before .before .before .before .if1 .taken, c .before .before .before .before .few2 .ensures), (omega (arith, c .before .before .before .before .before .before .if1 .taken, c .before .before .before .few3 .ensures), omega (arith, l)))))))
+    (s .pre .0, (s .pre .1 .0, (s .pre .1 .1 .0, (omega (arith, c .before .before .before .if1 .taken, length-zeros 64), (omega (arith, c .before .before .before .if1 .taken, length-zeros 64), (omega (arith, c .before .before .before .if1 .taken, length-zeros 64), omega (arith, l)))))))
 
 returns : tie.Need-returns
 returns c = search needs
-
-many-requires : tie.Need-many-requires
-many-requires c κs = search needs
-
-many-requires-2 : tie.Need-many-requires-2
-many-requires-2 c κs = search needs
-
-many-requires-3 : tie.Need-many-requires-3
-many-requires-3 c κs = search needs
 
 slice-aggregate-first-difference-4 : tie.Need-slice-aggregate-first-difference-4
 slice-aggregate-first-difference-4 c = search needs
@@ -62,10 +45,10 @@ slice-aggregate-first-difference-6 c = search needs
 
 first-difference-requires-2 : tie.Need-first-difference-requires-2
 first-difference-requires-2 c κs =
-    let s = c .before .before .before .before .before .before .before .before .before .before .before .before .before in
+    let s = c .before .before .before .before .before .before .before .before .before .before in
     let a = s .args in
     let l : length (a .finals .now) ≤ 50 = s .pre .1 .1 .1 in
-    (s .pre .0, (s .pre .1 .0, (s .pre .1 .1 .0, (omega (arith, most-places (length (a .finals .now)) (a .k) l (s .pre .1 .0 .few), c .before .before .before .before .before .many .ensures), (omega (arith, most-places (length (a .finals .now)) (a .k) l (s .pre .1 .0 .few), c .before .before .before .before .many2 .ensures), (omega (arith, most-places (length (a .finals .now)) (a .k) l (s .pre .1 .0 .few), c .before .before .before .many3 .ensures), omega (arith, l)))))))
+    (s .pre .0, (s .pre .1 .0, (s .pre .1 .1 .0, (omega (arith, most-places (length (a .finals .now)) (a .k) l (s .pre .1 .0 .few), length-zeros 800), (omega (arith, most-places (length (a .finals .now)) (a .k) l (s .pre .1 .0 .few), length-zeros 800), (omega (arith, most-places (length (a .finals .now)) (a .k) l (s .pre .1 .0 .few), length-zeros 800), omega (arith, l)))))))
 
 returns-2 : tie.Need-returns-2
 returns-2 c = search needs
@@ -75,17 +58,11 @@ compare-finals-spec =
     tie.close
     (tie.spec
     mul-if1
-    few-requires
-    few-requires-2
-    few-requires-3
     slice-aggregate-first-difference
     slice-aggregate-first-difference-2
     slice-aggregate-first-difference-3
     first-difference-requires
     returns
-    many-requires
-    many-requires-2
-    many-requires-3
     slice-aggregate-first-difference-4
     slice-aggregate-first-difference-5
     slice-aggregate-first-difference-6

@@ -3,6 +3,7 @@ use Prim.Native.Nat.{_≤_}
 use native.Mathlib.Omega.{arith}
 use lib.ListN.{length}
 use borrow.Author.Needs.{needs}
+use Rattle.list_laws.specs.Zeros.{length-zeros}
 use Rattle.answers.proofs.Sizes.{most-places}
 use Rattle.answers.proofs.gather_round.Statement.{statement}
 use Rattle.answers.proofs.gather_round.Tie as tie
@@ -13,15 +14,6 @@ mul-if1 c =
     let a = s .args in
     let l : length (a .shifts .now) ≤ 50 = omega (arith, s .pre .1 .1 .1 .0 .1 .1, s .pre .1 .1 .1 .1) in
     omega (arith, most-places (length (a .shifts .now)) (a .k) l (s .pre .1 .0 .few))
-
-few-requires : tie.Need-few-requires
-few-requires c κs = search needs
-
-few-requires-2 : tie.Need-few-requires-2
-few-requires-2 c κs = search needs
-
-few-requires-3 : tie.Need-few-requires-3
-few-requires-3 c κs = search needs
 
 slice-aggregate-gather-samples : tie.Need-slice-aggregate-gather-samples
 slice-aggregate-gather-samples c = search needs
@@ -34,10 +26,10 @@ slice-aggregate-gather-samples-3 c = search needs
 
 gather-samples-requires : tie.Need-gather-samples-requires
 gather-samples-requires c κs =
-    let s = c .before .before .before .before .before .before .before .before .before .before .before .before .before .before .before .before .before .before in
+    let s = c .before .before .before .before .before .before .before .before .before .before .before .before .before .before .before in
     let a = s .args in
     let l : length (a .shifts .now) ≤ 50 = omega (arith, s .pre .1 .1 .1 .0 .1 .1, s .pre .1 .1 .1 .1) in
-    (s .pre .0, (s .pre .1 .0, (s .pre .1 .1 .0, (s .pre .1 .1 .1 .0, (omega (arith, c .before .before .before .before .before .before .before .before .if1 .taken, c .before .before .before .before .before .before .before .few .ensures), (omega (arith, c .before .before .before .before .before .before .before .before .if1 .taken, c .before .before .before .before .before .before .few2 .ensures), (omega (arith, c .before .before .before .before .before .before .before .before .if1 .taken, c .before .before .before .before .before .few3 .ensures), omega (arith, l))))))))
+    (s .pre .0, (s .pre .1 .0, (s .pre .1 .1 .0, (s .pre .1 .1 .1 .0, (omega (arith, c .before .before .before .before .before .if1 .taken, length-zeros 64), (omega (arith, c .before .before .before .before .before .if1 .taken, length-zeros 64), (omega (arith, c .before .before .before .before .before .if1 .taken, length-zeros 64), omega (arith, l))))))))
 
 same-length : tie.Need-same-length
 same-length c = search needs
@@ -47,15 +39,6 @@ same-length-2 c = search needs
 
 returns : tie.Need-returns
 returns c = search needs
-
-many-requires : tie.Need-many-requires
-many-requires c κs = search needs
-
-many-requires-2 : tie.Need-many-requires-2
-many-requires-2 c κs = search needs
-
-many-requires-3 : tie.Need-many-requires-3
-many-requires-3 c κs = search needs
 
 slice-aggregate-gather-samples-4 : tie.Need-slice-aggregate-gather-samples-4
 slice-aggregate-gather-samples-4 c = search needs
@@ -68,10 +51,10 @@ slice-aggregate-gather-samples-6 c = search needs
 
 gather-samples-requires-2 : tie.Need-gather-samples-requires-2
 gather-samples-requires-2 c κs =
-    let s = c .before .before .before .before .before .before .before .before .before .before .before .before .before .before .before .before .before .before in
+    let s = c .before .before .before .before .before .before .before .before .before .before .before .before .before .before .before in
     let a = s .args in
     let l : length (a .shifts .now) ≤ 50 = omega (arith, s .pre .1 .1 .1 .0 .1 .1, s .pre .1 .1 .1 .1) in
-    (s .pre .0, (s .pre .1 .0, (s .pre .1 .1 .0, (s .pre .1 .1 .1 .0, (omega (arith, most-places (length (a .shifts .now)) (a .k) l (s .pre .1 .0 .few), c .before .before .before .before .before .before .before .many .ensures), (omega (arith, most-places (length (a .shifts .now)) (a .k) l (s .pre .1 .0 .few), c .before .before .before .before .before .before .many2 .ensures), (omega (arith, most-places (length (a .shifts .now)) (a .k) l (s .pre .1 .0 .few), c .before .before .before .before .before .many3 .ensures), omega (arith, l))))))))
+    (s .pre .0, (s .pre .1 .0, (s .pre .1 .1 .0, (s .pre .1 .1 .1 .0, (omega (arith, most-places (length (a .shifts .now)) (a .k) l (s .pre .1 .0 .few), length-zeros 800), (omega (arith, most-places (length (a .shifts .now)) (a .k) l (s .pre .1 .0 .few), length-zeros 800), (omega (arith, most-places (length (a .shifts .now)) (a .k) l (s .pre .1 .0 .few), length-zeros 800), omega (arith, l))))))))
 
 same-length-3 : tie.Need-same-length-3
 same-length-3 c = search needs
@@ -87,9 +70,6 @@ gather-round-spec =
     tie.close
     (tie.spec
     mul-if1
-    few-requires
-    few-requires-2
-    few-requires-3
     slice-aggregate-gather-samples
     slice-aggregate-gather-samples-2
     slice-aggregate-gather-samples-3
@@ -97,9 +77,6 @@ gather-round-spec =
     same-length
     same-length-2
     returns
-    many-requires
-    many-requires-2
-    many-requires-3
     slice-aggregate-gather-samples-4
     slice-aggregate-gather-samples-5
     slice-aggregate-gather-samples-6

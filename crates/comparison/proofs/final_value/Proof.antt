@@ -4,6 +4,7 @@ use native.Mathlib.Omega.{arith}
 use mathlib.Core.Path.{sym, ap, _∙_}
 use lib.ListN.{length}
 use lib.Seq.{length-front, length-take-le}
+use Rattle.list_laws.specs.Zeros.{zeros, length-zeros}
 use Rattle.definition.specs.Field.{fieldOf, primeField}
 use Rattle.definition.specs.Polynomial.{evaluate}
 use Rattle.algebra.specs.PrimeField.{laws}
@@ -14,9 +15,6 @@ use borrow.Author.Needs.{needs}
 use Rattle.comparison.proofs.final_value.Statement.{statement}
 use Rattle.comparison.proofs.final_value.Tie as tie
 
-places-requires : tie.Need-places-requires
-places-requires c κs = search needs
-
 add-powers : tie.Need-add-powers
 add-powers c = search needs
 
@@ -25,13 +23,13 @@ array-borrow-prefix-powers c = search needs
 
 slice-aggregate-shift-powers : tie.Need-slice-aggregate-shift-powers
 slice-aggregate-shift-powers c =
-    sym (length-take-le (length (c .before .before .before .before .before .before .args .coefficients .now) + 1) (c .before .places .result) (omega (arith, c .before .places .ensures, c .before .before .if2 .taken)))
+    sym (length-take-le (length (c .before .before .before .before .before .args .coefficients .now) + 1) (zeros 66) (omega (arith, length-zeros 66, c .before .if2 .taken)))
 
 shift-powers-requires : tie.Need-shift-powers-requires
 shift-powers-requires c κs =
-    let s = c .before .before .before .before .before .before in
+    let s = c .before .before .before .before .before in
     let p = s .pre .0 in
-    let long = length-take-le (length (s .args .coefficients .now) + 1) (c .before .places .result) (omega (arith, c .before .places .ensures, c .before .before .if2 .taken)) in
+    let long = length-take-le (length (s .args .coefficients .now) + 1) (zeros 66) (omega (arith, length-zeros 66, c .before .if2 .taken)) in
     (p .0, (p .1 .0, (p .1 .1 .1, omega (arith, long))))
 
 add-powers-2 : tie.Need-add-powers-2
@@ -39,26 +37,25 @@ add-powers-2 c = search needs
 
 array-share-prefix-powers : tie.Need-array-share-prefix-powers
 array-share-prefix-powers c =
-    let room = c .before .before .before .places in
     let q = c .before .shift-powers in
-    omega (arith, length-front (room .result) (q .last .1 .1 .1 .1 .0) (length (c .before .before .before .before .before .before .before .before .args .coefficients .now) + 1) (q .kept .1 .1 .1 .1 .0), room .ensures, c .before .before .before .before .if2 .taken)
+    omega (arith, length-front (zeros 66) (q .last .1 .1 .1 .1 .0) (length (c .before .before .before .before .before .before .before .args .coefficients .now) + 1) (q .kept .1 .1 .1 .1 .0), length-zeros 66, c .before .before .before .if2 .taken)
 
 slice-aggregate-sum : tie.Need-slice-aggregate-sum
 slice-aggregate-sum c =
-    let w = front-whole (length (c .before .before .before .before .before .before .before .before .before .args .coefficients .now) + 1) (c .before .before .before .before .places .result) (c .before .before .shift-powers .last .1 .1 .1 .1 .0) (omega (arith, c .before .before .before .before .places .ensures, c .before .before .before .before .before .if2 .taken)) (c .before .before .shift-powers .kept .1 .1 .1 .1 .0) in
+    let w = front-whole (length (c .before .before .before .before .before .before .before .before .args .coefficients .now) + 1) (zeros 66) (c .before .before .shift-powers .last .1 .1 .1 .1 .0) (omega (arith, length-zeros 66, c .before .before .before .before .if2 .taken)) (c .before .before .shift-powers .kept .1 .1 .1 .1 .0) in
     sym (ap length (w .0) ∙ w .1)
 
 sum-requires : tie.Need-sum-requires
 sum-requires c κs =
-    let w = front-whole (length (c .before .before .before .before .before .before .before .before .before .args .coefficients .now) + 1) (c .before .before .before .before .places .result) (c .before .before .shift-powers .last .1 .1 .1 .1 .0) (omega (arith, c .before .before .before .before .places .ensures, c .before .before .before .before .before .if2 .taken)) (c .before .before .shift-powers .kept .1 .1 .1 .1 .0) in
-    (omega (arith, ap length (w .0), w .1), omega (arith, c .before .before .before .before .before .if2 .taken))
+    let w = front-whole (length (c .before .before .before .before .before .before .before .before .args .coefficients .now) + 1) (zeros 66) (c .before .before .shift-powers .last .1 .1 .1 .1 .0) (omega (arith, length-zeros 66, c .before .before .before .before .if2 .taken)) (c .before .before .shift-powers .kept .1 .1 .1 .1 .0) in
+    (omega (arith, ap length (w .0), w .1), omega (arith, c .before .before .before .before .if2 .taken))
 
 returns : tie.Need-returns
 unfolding fieldOf primeField
 returns c =
-    let s = c .before .before .before .before .before .before .before .before .before .before in
+    let s = c .before .before .before .before .before .before .before .before .before in
     let a = s .args in
-    let w = front-whole (length (c .before .before .before .before .before .before .before .before .before .before .args .coefficients .now) + 1) (c .before .before .before .before .before .places .result) (c .before .before .before .shift-powers .last .1 .1 .1 .1 .0) (omega (arith, c .before .before .before .before .before .places .ensures, c .before .before .before .before .before .before .if2 .taken)) (c .before .before .before .shift-powers .kept .1 .1 .1 .1 .0) in
+    let w = front-whole (length (c .before .before .before .before .before .before .before .before .before .args .coefficients .now) + 1) (zeros 66) (c .before .before .before .shift-powers .last .1 .1 .1 .1 .0) (omega (arith, length-zeros 66, c .before .before .before .before .before .if2 .taken)) (c .before .before .before .shift-powers .kept .1 .1 .1 .1 .0) in
     let q = c .before .before .before .shift-powers in
     final-is (fieldOf (a .field)) (laws (a .field)) (s .pre .1 .0) (a .pw .now) (a .scale) (a .k) (a .j) (a .coefficients .now) (q .last .1 .1 .1 .1 .0) (s .pre .1 .1) (s .pre .0 .1 .1 .0) (omega (arith, s .pre .0 .0))
     (q .ensures (a .field) (s .pre .1 .0) (s .pre .1 .1)) (omega (arith, w .1)) (c .sum .ensures ∙ ap (products (fieldOf (a .field)) (a .coefficients .now)) (w .0))
@@ -78,7 +75,6 @@ pub final-value-spec : {M : Type 1} → statement M
 final-value-spec =
     tie.close
     (tie.spec
-    places-requires
     add-powers
     array-borrow-prefix-powers
     slice-aggregate-shift-powers

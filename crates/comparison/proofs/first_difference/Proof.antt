@@ -4,6 +4,7 @@ use native.Mathlib.Omega.{arith}
 use mathlib.Core.Path.{_∙_, sym, ap}
 use lib.ListN.{length}
 use lib.Seq.{length-take-le}
+use Rattle.list_laws.specs.Zeros.{zeros, length-zeros}
 use Rattle.definition.specs.Field.{fieldOf, primeField}
 use Rattle.definition.specs.Lists.{firstTrue}
 use Rattle.algebra.specs.PrimeField.{laws, opposite-signs}
@@ -18,27 +19,22 @@ use Rattle.comparison.proofs.first_difference.Tie as tie
 prepare-requires : tie.Need-prepare-requires
 prepare-requires c κs = c .before .before .before .before .before .before .before .before .before .before .before .before .pre
 
-roots-requires : tie.Need-roots-requires
-roots-requires c κs = search needs
-
 array-borrow-prefix-values : tie.Need-array-borrow-prefix-values
 array-borrow-prefix-values c = search needs
 
 slice-aggregate-compare-by-roots : tie.Need-slice-aggregate-compare-by-roots
 slice-aggregate-compare-by-roots c =
-    let s = c .before .before .before .before .before .before .before .before .before .before .before .before .before .before .before .before .before .before .before .before .before .before in
-    let r = c .before .before .roots in
-    sym (length-take-le (s .args .k) (r .result) (omega (arith, r .ensures, s .pre .1 .0 .few)))
+    let s = c .before .before .before .before .before .before .before .before .before .before .before .before .before .before .before .before .before .before .before .before .before in
+    sym (length-take-le (s .args .k) (zeros 16) (omega (arith, length-zeros 16, s .pre .1 .0 .few)))
 
 compare-by-roots-requires : tie.Need-compare-by-roots-requires
 compare-by-roots-requires c κs =
-    let s = c .before .before .before .before .before .before .before .before .before .before .before .before .before .before .before .before .before .before .before .before .before .before in
+    let s = c .before .before .before .before .before .before .before .before .before .before .before .before .before .before .before .before .before .before .before .before .before in
     let p = s .pre in
-    let r = c .before .before .roots in
-    let n = length-take-le (s .args .k) (r .result) (omega (arith, r .ensures, p .1 .0 .few)) in
+    let n = length-take-le (s .args .k) (zeros 16) (omega (arith, length-zeros 16, p .1 .0 .few)) in
     let room = ap (λ (k : ℕ). length (s .args .finals .now) * k) n in
     let clear = p .0 .1 .1 in
-    (omega (arith, room, c .before .before .before .before .before .before .before .before .before .prepare .kept .1 .1 .1 .1 .1 .1 .1 .1 .0, p .1 .1 .1 .0), (fits-as n (p .1 .0), (p .1 .1 .0, (clear .ω, clear .powers))))
+    (omega (arith, room, c .before .before .before .before .before .before .before .before .prepare .kept .1 .1 .1 .1 .1 .1 .1 .1 .0, p .1 .1 .1 .0), (fits-as n (p .1 .0), (p .1 .1 .0, (clear .ω, clear .powers))))
 
 same-length : tie.Need-same-length
 same-length c = search needs
@@ -52,13 +48,12 @@ same-length-3 c = search needs
 returns : tie.Need-returns
 unfolding fieldOf primeField
 returns c =
-    let s = c .before .before .before .before .before .before .before .before .before .before .before .before .before .before .before .before .before .before .before .before .before .before .before .before in
+    let s = c .before .before .before .before .before .before .before .before .before .before .before .before .before .before .before .before .before .before .before .before .before .before .before in
     let a = s .args in
     let F = fieldOf (a .field) in
-    let p = c .before .before .before .before .before .before .before .before .before .before .before .prepare in
-    let r = c .before .before .before .before .roots in
+    let p = c .before .before .before .before .before .before .before .before .before .before .prepare in
     let roots = p .last .1 .1 .1 .1 .1 .1 .1 .1 .0 in
-    let n = length-take-le (a .k) (r .result) (omega (arith, r .ensures, s .pre .1 .0 .few)) in
+    let n = length-take-le (a .k) (zeros 16) (omega (arith, length-zeros 16, s .pre .1 .0 .few)) in
     let same = ap (λ (k : ℕ). firstTrue 0 (numbered (λ i j. differsIn F (a .coefficients .now) (sampleBy F (a .pw .now) roots (a .oracle) k (a .r) i j)) 0 (a .finals .now))) n in
     comparison-is F (laws (a .field)) (opposite-signs (a .field)) (a .pw .now) (a .table .now) (a .ac .now) (a .vg .now) (a .oracle) (a .k) (a .r) (a .finals .now) roots (s .pre .1 .0) (p .ensures)
     (a .coefficients .now) (s .pre .1 .1 .0) (c .before .compare-by-roots .ensures ∙ same)
@@ -68,7 +63,6 @@ first-difference-spec =
     tie.close
     (tie.spec
     prepare-requires
-    roots-requires
     array-borrow-prefix-values
     slice-aggregate-compare-by-roots
     compare-by-roots-requires

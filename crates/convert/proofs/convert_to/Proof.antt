@@ -3,9 +3,6 @@ use borrow.Author.Needs.{needs}
 use Rattle.convert.proofs.convert_to.Statement.{statement}
 use Rattle.convert.proofs.convert_to.Tie as tie
 
-small-room-requires : tie.Need-small-room-requires
-small-room-requires c κs = search needs
-
 slice-aggregate-by-way : tie.Need-slice-aggregate-by-way
 slice-aggregate-by-way c = search needs
 
@@ -17,9 +14,6 @@ same-length c = search needs
 
 returns : tie.Need-returns
 returns c = c .before .before .before .by-way .ensures
-
-room-requires : tie.Need-room-requires
-room-requires c κs = search needs
 
 slice-aggregate-by-way-2 : tie.Need-slice-aggregate-by-way-2
 slice-aggregate-by-way-2 c = search needs
@@ -37,12 +31,10 @@ pub convert-to-spec : {M : Type 1} → statement M
 convert-to-spec =
     tie.close
     (tie.spec
-    small-room-requires
     slice-aggregate-by-way
     by-way-requires
     same-length
     returns
-    room-requires
     slice-aggregate-by-way-2
     by-way-requires-2
     same-length-2

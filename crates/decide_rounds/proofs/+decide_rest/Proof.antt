@@ -3,6 +3,7 @@ use Prim.Native.Nat.{ℕ, _-_, _<_}
 use mathlib.Core.Path.{_∙_, sym}
 use native.Mathlib.Omega.{arith}
 use lib.ListN.{getD}
+use Rattle.list_laws.specs.Zeros.{length-zeros}
 use Rattle.layouts.specs.Levels.{roundsOf}
 use Rattle.definition.specs.Sheet.{Sheet, sheetOf}
 use Rattle.level_words.specs.Inside.{RoundInside}
@@ -21,11 +22,8 @@ use Rattle.level_words.proofs.next_coin.Reads as next-coin-reads
 use Rattle.level_words.proofs.next_oracle.Reads as next-oracle-reads
 use Rattle.level_words.proofs.next_state.Reads as next-state-reads
 use Rattle.level_words.proofs.reads_after_round.Reads as after-reads-after-round
-use Rattle.decide_rounds.proofs.room.Reads as room-reads
 use Rattle.round_words.proofs.next_samples.Reads as next-samples-reads
 use Rattle.round_words.proofs.correction.Reads as correction-reads
-use Rattle.lists.proofs.places.Reads as places-reads
-use Rattle.lists.proofs.double_places.Reads as double-places-reads
 use Rattle.decide_rounds.proofs.+decide_rest.{statement}
 use Rattle.decide_rounds.proofs.+decide_rest.Tie.{close}
 
@@ -46,14 +44,8 @@ calls t = (
   next-state-reads.Learnt,
   after-reads-after-round.Asked,
   after-reads-after-round.Learnt,
-  room-reads.Asked,
-  room-reads.Learnt,
   next-samples-reads.Asked,
   next-samples-reads.Learnt,
-  places-reads.Asked,
-  places-reads.Learnt,
-  double-places-reads.Asked,
-  double-places-reads.Learnt,
   correction-reads.Asked,
   correction-reads.Learnt,
   next-coin-reads.Asked,
@@ -106,23 +98,17 @@ rest-reads-after-round-requires t c κs =
     let ok = s .pre .1 .1 .0 in
     (inside t (c .before), omega (arith, s .pre .1 .1 .1 .1, ok .place .level, ok .place .sheet .rounds))
 
-rest-room-requires : (t : ℕ) → rest-lts.Need-room-requires (calls t) (rest-at t) rest.Post
-rest-room-requires t c κs = search needs
-
-rest-room-requires-2 : (t : ℕ) → rest-lts.Need-room-requires-2 (calls t) (rest-at t) rest.Post
-rest-room-requires-2 t c κs = search needs
-
 rest-slice-aggregate-next-samples : (t : ℕ) → rest-lts.Need-slice-aggregate-next-samples (calls t) (rest-at t) rest.Post
-rest-slice-aggregate-next-samples t c = sym (c .before .before .room .ensures)
+rest-slice-aggregate-next-samples t c = sym (length-zeros 50)
 
 rest-slice-aggregate-next-samples-2 : (t : ℕ) → rest-lts.Need-slice-aggregate-next-samples-2 (calls t) (rest-at t) rest.Post
-rest-slice-aggregate-next-samples-2 t c = sym (c .before .before .room2 .ensures)
+rest-slice-aggregate-next-samples-2 t c = sym (length-zeros 50)
 
 rest-next-samples-requires : (t : ℕ) → rest-lts.Need-next-samples-requires (calls t) (rest-at t) rest.Post
 rest-next-samples-requires t c κs =
-    let e = c .before .before .before .before .before .before in
+    let e = c .before .before .before .before in
     let s = start t e in
-    (s .pre .1 .1 .0 .inside, (inside t e, ((c .before .before .before .room .ensures, c .before .before .room2 .ensures), s .pre .1 .1 .1 .0 .clear)))
+    (s .pre .1 .1 .0 .inside, (inside t e, ((length-zeros 50, length-zeros 50), s .pre .1 .1 .1 .0 .clear)))
 
 rest-enum-known-g : (t : ℕ) → rest-lts.Need-enum-known-g (calls t) (rest-at t) rest.Post
 rest-enum-known-g t c = search needs
@@ -134,49 +120,43 @@ rest-returns-2 : (t : ℕ) → rest-lts.Need-returns-2 (calls t) (rest-at t) res
 unfolding verdictOf outcomeOf
 rest-returns-2 t c =
     let r = c .before .before .before .before in
-    let e = r .before .before .before .before .before .before .before in
+    let e = r .before .before .before .before .before in
     let s = start t e in
     let a = s .args in
-    let n = r .before .before .before .before .before .before .next-state in
-    let p = r .before .before .before .before .before .reads-after-round in
+    let n = r .before .before .before .before .next-state in
+    let p = r .before .before .before .reads-after-round in
     let q = r .next-samples in
     clash-ready (sheet t e) (a .w .now) (a .pw .now) (a .ac .now) (a .vg .now) (a .state) (a .reads) (a .r) (a .oracle) (s .pre .1 .1 .0) (more t e) (n .result) (n .ensures) (q .result)
     (q .last .1 .1 .1 .1 .1 .1 .1 .1 .0) (q .last .1 .1 .1 .1 .1 .1 .1 .1 .1 .0) (p .result) (p .ensures) (c .enum-told .given .1) (q .ensures .0)
 
-rest-places-requires : (t : ℕ) → rest-lts.Need-places-requires (calls t) (rest-at t) rest.Post
-rest-places-requires t c κs = search needs
-
-rest-double-places-requires : (t : ℕ) → rest-lts.Need-double-places-requires (calls t) (rest-at t) rest.Post
-rest-double-places-requires t c κs = search needs
-
 rest-slice-aggregate-correction : (t : ℕ) → rest-lts.Need-slice-aggregate-correction (calls t) (rest-at t) rest.Post
-rest-slice-aggregate-correction t c = let r = c .before .before .before .before .before .before .before .before in sym (r .next-samples .kept .1 .1 .1 .1 .1 .1 .1 .1 .0 ∙ r .before .before .before .before .room .ensures)
+rest-slice-aggregate-correction t c = let r = c .before .before .before .before .before .before in sym (r .next-samples .kept .1 .1 .1 .1 .1 .1 .1 .1 .0 ∙ length-zeros 50)
 
 rest-slice-aggregate-correction-2 : (t : ℕ) → rest-lts.Need-slice-aggregate-correction-2 (calls t) (rest-at t) rest.Post
-rest-slice-aggregate-correction-2 t c = let r = c .before .before .before .before .before .before .before .before .before in sym (r .next-samples .kept .1 .1 .1 .1 .1 .1 .1 .1 .1 .0 ∙ r .before .before .before .room2 .ensures)
+rest-slice-aggregate-correction-2 t c = let r = c .before .before .before .before .before .before .before in sym (r .next-samples .kept .1 .1 .1 .1 .1 .1 .1 .1 .1 .0 ∙ length-zeros 50)
 
 rest-slice-aggregate-correction-3 : (t : ℕ) → rest-lts.Need-slice-aggregate-correction-3 (calls t) (rest-at t) rest.Post
-rest-slice-aggregate-correction-3 t c = sym (c .before .before .before .before .places .ensures)
+rest-slice-aggregate-correction-3 t c = sym (length-zeros 66)
 
 rest-slice-aggregate-correction-4 : (t : ℕ) → rest-lts.Need-slice-aggregate-correction-4 (calls t) (rest-at t) rest.Post
-rest-slice-aggregate-correction-4 t c = sym (c .before .before .before .before .double-places .ensures)
+rest-slice-aggregate-correction-4 t c = sym (length-zeros 132)
 
 rest-correction-requires : (t : ℕ) → rest-lts.Need-correction-requires (calls t) (rest-at t) rest.Post
 rest-correction-requires t c κs =
-    let r = c .before .before .before .before .before .before .before .before .before .before .before in
-    let e = r .before .before .before .before .before .before .before in
+    let r = c .before .before .before .before .before .before .before .before .before in
+    let e = r .before .before .before .before .before in
     let s = start t e in
     let a = s .args in
     let q = r .next-samples in
-    let lx = q .kept .1 .1 .1 .1 .1 .1 .1 .1 .0 ∙ r .before .before .before .before .room .ensures in
-    let ly = q .kept .1 .1 .1 .1 .1 .1 .1 .1 .1 .0 ∙ r .before .before .before .room2 .ensures in
-    let n = r .before .before .before .before .before .before .next-state in
-    let g = c .before .before .before .before .before .before .before .g .given in (
+    let lx = q .kept .1 .1 .1 .1 .1 .1 .1 .1 .0 ∙ length-zeros 50 in
+    let ly = q .kept .1 .1 .1 .1 .1 .1 .1 .1 .1 .0 ∙ length-zeros 50 in
+    let n = r .before .before .before .before .next-state in
+    let g = c .before .before .before .before .before .g .given in (
       inside t e,
       (
         (omega (arith, lx, room-in (q .result) (g .0 .0) (g .1) (q .ensures .1)), (lx, ly)),
         (
-          (c .before .before .before .before .before .places .ensures, c .before .before .before .before .double-places .ensures),
+          (length-zeros 66, length-zeros 132),
           apart-ready (sheet t e) (a .w .now) (a .pw .now) (a .ac .now) (a .vg .now) (a .state) (a .reads) (a .r) (a .oracle) (s .pre .1 .1 .0) (more t e) (n .result) (n .ensures) (q .result)
               (q .last .1 .1 .1 .1 .1 .1 .1 .1 .0) (q .last .1 .1 .1 .1 .1 .1 .1 .1 .1 .0) (g .0 .0) (g .1) (q .ensures .0) (ly ∙ sym lx) (s .pre .1 .1 .1 .0),
         ),
@@ -184,36 +164,36 @@ rest-correction-requires t c κs =
     )
 
 rest-next-coin-requires : (t : ℕ) → rest-lts.Need-next-coin-requires (calls t) (rest-at t) rest.Post
-rest-next-coin-requires t c κs = inside t (c .before .before .before .before .before .before .before .before .before .before .before .before .before .before .before .before .before .before .before .before .before)
+rest-next-coin-requires t c κs = inside t (c .before .before .before .before .before .before .before .before .before .before .before .before .before .before .before .before .before)
 
 rest-next-oracle-requires : (t : ℕ) → rest-lts.Need-next-oracle-requires (calls t) (rest-at t) rest.Post
 rest-next-oracle-requires t c κs =
-    let e = c .before .before .before .before .before .before .before .before .before .before .before .before .before .before .before .before .before .before .before .before .before .before in
+    let e = c .before .before .before .before .before .before .before .before .before .before .before .before .before .before .before .before .before .before in
     let s = start t e in
     let ok = s .pre .1 .1 .0 in
     (inside t e, omega (arith, scale-small (sheet t e) (s .args .w .now) (s .args .state) (ok .place) (s .args .oracle .scale) (ok .scale)))
 
 rest-slice-aggregate-rest : (t : ℕ) → rest-lts.Need-slice-aggregate-decide-rest (calls t) (rest-at t) rest.Post
-rest-slice-aggregate-rest t c = sym (c .before .before .before .before .before .correction .kept .1 .1 .1 .1 .1 .1 .0 ∙ c .before .before .before .before .before .before .before .before .before .before .before .places .ensures)
+rest-slice-aggregate-rest t c = sym (c .before .before .before .before .before .correction .kept .1 .1 .1 .1 .1 .1 .0 ∙ length-zeros 66)
 
 rest-slice-aggregate-rest-2 : (t : ℕ) → rest-lts.Need-slice-aggregate-decide-rest-2 (calls t) (rest-at t) rest.Post
-rest-slice-aggregate-rest-2 t c = sym (c .before .before .before .before .before .before .correction .kept .1 .1 .1 .1 .1 .1 .1 .0 ∙ c .before .before .before .before .before .before .before .before .before .before .before .double-places .ensures)
+rest-slice-aggregate-rest-2 t c = sym (c .before .before .before .before .before .before .correction .kept .1 .1 .1 .1 .1 .1 .1 .0 ∙ length-zeros 132)
 
 rest-rest-requires : (t : ℕ) → rest-lts.Need-decide-rest-requires (calls t) (rest-at t) rest.Post
 rest-rest-requires t c κs =
-    let r = c .before .before .before .before .before .before .before .before .before .before .before .before .before .before .before .before .before .before in
-    let e = r .before .before .before .before .before .before .before in
+    let r = c .before .before .before .before .before .before .before .before .before .before .before .before .before .before .before .before in
+    let e = r .before .before .before .before .before in
     let s = start t e in
     let a = s .args in
-    let p = r .before .before .before .before .before .reads-after-round in
+    let p = r .before .before .before .reads-after-round in
     let q = r .next-samples in
-    let lx = q .kept .1 .1 .1 .1 .1 .1 .1 .1 .0 ∙ r .before .before .before .before .room .ensures in
-    let ly = q .kept .1 .1 .1 .1 .1 .1 .1 .1 .1 .0 ∙ r .before .before .before .room2 .ensures in
-    let n = r .before .before .before .before .before .before .next-state in
+    let lx = q .kept .1 .1 .1 .1 .1 .1 .1 .1 .0 ∙ length-zeros 50 in
+    let ly = q .kept .1 .1 .1 .1 .1 .1 .1 .1 .1 .0 ∙ length-zeros 50 in
+    let n = r .before .before .before .before .next-state in
     let k = c .before .before .before .before .before .before .correction in
-    let la = k .kept .1 .1 .1 .1 .1 .1 .0 ∙ c .before .before .before .before .before .before .before .before .before .before .before .before .places .ensures in
-    let lv = k .kept .1 .1 .1 .1 .1 .1 .1 .0 ∙ c .before .before .before .before .before .before .before .before .before .before .before .double-places .ensures in
-    let g = c .before .before .before .before .before .before .before .before .before .before .before .before .before .before .g .given in
+    let la = k .kept .1 .1 .1 .1 .1 .1 .0 ∙ length-zeros 66 in
+    let lv = k .kept .1 .1 .1 .1 .1 .1 .1 .0 ∙ length-zeros 132 in
+    let g = c .before .before .before .before .before .before .before .before .before .before .before .before .g .given in
     let way = c .before .before .next-oracle in
     let ready = next-ready (sheet t e) (a .w .now) (a .pw .now) (a .ac .now) (a .vg .now) (a .state) (a .reads) (a .r) (a .oracle) (s .pre .1 .1 .0) (more t e) (n .result) (n .ensures) (q .result) (g .0 .0) (k .result) (way .result) (way .ensures)
     (q .last .1 .1 .1 .1 .1 .1 .1 .1 .0) (q .last .1 .1 .1 .1 .1 .1 .1 .1 .1 .0) (k .last .1 .1 .1 .1 .1 .1 .0) (k .last .1 .1 .1 .1 .1 .1 .1 .0) (g .1) (q .ensures .0) la lv (k .ensures .0) (k .ensures .1) (ly ∙ sym lx) (s .pre .1 .1 .1 .0) in
@@ -222,17 +202,17 @@ rest-rest-requires t c κs =
 
 rest-returns-3 : (t : ℕ) → rest-lts.Need-returns-3 (calls t) (rest-at t) rest.Post
 rest-returns-3 t c =
-    let r = c .before .before .before .before .before .before .before .before .before .before .before .before .before .before .before .before .before .before .before in
-    let e = r .before .before .before .before .before .before .before in
+    let r = c .before .before .before .before .before .before .before .before .before .before .before .before .before .before .before .before .before in
+    let e = r .before .before .before .before .before in
     let s = start t e in
     let a = s .args in
-    let p = r .before .before .before .before .before .reads-after-round in
+    let p = r .before .before .before .reads-after-round in
     let q = r .next-samples in
-    let n = r .before .before .before .before .before .before .next-state in
+    let n = r .before .before .before .before .next-state in
     let k = c .before .before .before .before .before .before .before .correction in
-    let la = k .kept .1 .1 .1 .1 .1 .1 .0 ∙ c .before .before .before .before .before .before .before .before .before .before .before .before .before .places .ensures in
-    let lv = k .kept .1 .1 .1 .1 .1 .1 .1 .0 ∙ c .before .before .before .before .before .before .before .before .before .before .before .before .double-places .ensures in
-    let g = c .before .before .before .before .before .before .before .before .before .before .before .before .before .before .before .g .given in
+    let la = k .kept .1 .1 .1 .1 .1 .1 .0 ∙ length-zeros 66 in
+    let lv = k .kept .1 .1 .1 .1 .1 .1 .1 .0 ∙ length-zeros 132 in
+    let g = c .before .before .before .before .before .before .before .before .before .before .before .before .before .g .given in
     let way = c .before .before .before .next-oracle in
     next-decided (sheet t e) (a .w .now) (a .pw .now) (a .ac .now) (a .vg .now) (a .state) (a .reads) (a .r) (a .oracle) (s .pre .1 .1 .0) (more t e) (n .result) (n .ensures) (q .result) (g .0 .0) (k .result) (way .result) (way .ensures)
     (q .last .1 .1 .1 .1 .1 .1 .1 .1 .0) (q .last .1 .1 .1 .1 .1 .1 .1 .1 .1 .0) (k .last .1 .1 .1 .1 .1 .1 .0) (k .last .1 .1 .1 .1 .1 .1 .1 .0) (g .1) (q .ensures .0) la lv (k .ensures .0) (k .ensures .1) (p .ensures) (c .before .before .before .before .next-coin .ensures) (c .decide-rest .ensures)
@@ -247,16 +227,12 @@ pub +decide-rest-spec : {M : Type 1} → statement M
     (rest-returns t)
     (rest-next-state-requires t)
     (rest-reads-after-round-requires t)
-    (rest-room-requires t)
-    (rest-room-requires-2 t)
     (rest-slice-aggregate-next-samples t)
     (rest-slice-aggregate-next-samples-2 t)
     (rest-next-samples-requires t)
     (rest-enum-known-g t)
     (rest-enum-told t)
     (rest-returns-2 t)
-    (rest-places-requires t)
-    (rest-double-places-requires t)
     (rest-slice-aggregate-correction t)
     (rest-slice-aggregate-correction-2 t)
     (rest-slice-aggregate-correction-3 t)

@@ -4,20 +4,15 @@ use native.Mathlib.Omega.{arith}
 use mathlib.Core.Path.{ap}
 use Prim.Native.Nat.{ℕ, _+_}
 use lib.ListN.{getD}
+use Rattle.list_laws.specs.Zeros.{zeros, length-zeros}
 use Rattle.edition.specs.Meaning.{editionOf}
 use Rattle.deciding.proofs.Ready.{coin-there, first-decided, first-ready, sheet-shaped, sheet-written}
 use Rattle.deciding.proofs.decide_past_out_tests.Statement.{statement}
 use Rattle.deciding.proofs.decide_past_out_tests.Tie as tie
 
-places-requires : tie.Need-places-requires
-places-requires c κs = search needs
-
-double-places-requires : tie.Need-double-places-requires
-double-places-requires c κs = search needs
-
 first-state-requires : tie.Need-first-state-requires
 first-state-requires c κs =
-    let s = c .before .before .before .before in
+    let s = c .before .before in
     let a = s .args in
     (sheet-written (editionOf (a .e)) (a .w .now) (s .pre .0 .0) (s .pre .1 .0), sheet-shaped (editionOf (a .e)) (a .w .now) (s .pre .0 .0) (s .pre .1 .0) .law .small)
 
@@ -26,7 +21,7 @@ sheet-words-requires c κs = search needs
 
 shared-slice-read-rest : tie.Need-shared-slice-read-decide-rest
 shared-slice-read-rest c =
-    let s = c .before .before .before .before .before .before .before in
+    let s = c .before .before .before .before .before in
     let v = sheet-written (editionOf (s .args .e)) (s .args .w .now) (s .pre .0 .0) (s .pre .1 .0) in
     omega (arith, v .long)
 
@@ -35,28 +30,28 @@ cast-rest c = search needs
 
 add-rest : tie.Need-add-decide-rest
 add-rest c =
-    let s = c .before .before .before .before .before .before .before in
+    let s = c .before .before .before .before .before in
     let a = s .args in
     let v = sheet-written (editionOf (a .e)) (a .w .now) (s .pre .0 .0) (s .pre .1 .0) in
     omega (arith, v .size, coin-there (editionOf (a .e)) (a .w .now) (s .pre .0 .0) (s .pre .1 .0), c .before .sheet-words .ensures)
 
 mul-rest : tie.Need-mul-decide-rest
 mul-rest c =
-    let s = c .before .before .before .before .before .before .before in
+    let s = c .before .before .before .before .before in
     let a = s .args in
     let v = sheet-written (editionOf (a .e)) (a .w .now) (s .pre .0 .0) (s .pre .1 .0) in
     omega (arith, v .size, coin-there (editionOf (a .e)) (a .w .now) (s .pre .0 .0) (s .pre .1 .0), c .before .sheet-words .ensures)
 
 shared-slice-read-rest-2 : tie.Need-shared-slice-read-decide-rest-2
 shared-slice-read-rest-2 c =
-    let s = c .before .before .before .before .before .before .before .before in
+    let s = c .before .before .before .before .before .before in
     let a = s .args in
     let v = sheet-written (editionOf (a .e)) (a .w .now) (s .pre .0 .0) (s .pre .1 .0) in
     omega (arith, v .size, coin-there (editionOf (a .e)) (a .w .now) (s .pre .0 .0) (s .pre .1 .0), c .before .before .sheet-words .ensures)
 
 first-oracle-requires : tie.Need-first-oracle-requires
 first-oracle-requires c κs =
-    let s = c .before .before .before .before .before .before .before .before in
+    let s = c .before .before .before .before .before .before in
     let a = s .args in
     let x = sheet-shaped (editionOf (a .e)) (a .w .now) (s .pre .0 .0) (s .pre .1 .0) in
     (sheet-written (editionOf (a .e)) (a .w .now) (s .pre .0 .0) (s .pre .1 .0), (x .law .small, omega (arith, x .folds 0 (omega arith) .large)))
@@ -69,33 +64,27 @@ slice-aggregate-rest-2 c = search needs
 
 rest-requires : tie.Need-decide-rest-requires
 rest-requires c κs =
-    let s = c .before .before .before .before .before .before .before .before .before .before .before in
+    let s = c .before .before .before .before .before .before .before .before .before in
     let a = s .args in
-    let ac = c .before .before .before .before .before .before .before .before .places in
-    let vg = c .before .before .before .before .before .before .before .double-places in
     let st = c .before .before .before .before .before .before .first-state in
     let oracle = c .before .before .first-oracle in
-    let ready = first-ready (editionOf (a .e)) (a .w .now) (s .pre .0 .0) (s .pre .1 .0) (a .pw .now) (ac .result) (vg .result) (s .pre .0 .1) (s .pre .1 .1 .0 .0) (s .pre .1 .1 .0 .1) (s .pre .1 .1 .1)
-    (st .result) (st .ensures) (oracle .result) (oracle .ensures) (ac .ensures) (vg .ensures) in
+    let ready = first-ready (editionOf (a .e)) (a .w .now) (s .pre .0 .0) (s .pre .1 .0) (a .pw .now) (zeros 66) (zeros 132) (s .pre .0 .1) (s .pre .1 .1 .0 .0) (s .pre .1 .1 .0 .1) (s .pre .1 .1 .1)
+    (st .result) (st .ensures) (oracle .result) (oracle .ensures) (length-zeros 66) (length-zeros 132) in
     (sheet-written (editionOf (a .e)) (a .w .now) (s .pre .0 .0) (s .pre .1 .0), (ready .0, (ready .1, omega arith)))
 
 returns : tie.Need-returns
 returns c =
-    let s = c .before .before .before .before .before .before .before .before .before .before .before .before in
+    let s = c .before .before .before .before .before .before .before .before .before .before in
     let a = s .args in
-    let ac = c .before .before .before .before .before .before .before .before .before .places in
-    let vg = c .before .before .before .before .before .before .before .before .double-places in
     let st = c .before .before .before .before .before .before .before .first-state in
     let oracle = c .before .before .before .first-oracle in
-    first-decided (editionOf (a .e)) (a .w .now) (s .pre .0 .0) (s .pre .1 .0) (a .pw .now) (ac .result) (vg .result) (s .pre .0 .1) (s .pre .1 .1 .0 .0) (s .pre .1 .1 .0 .1) (s .pre .1 .1 .1)
+    first-decided (editionOf (a .e)) (a .w .now) (s .pre .0 .0) (s .pre .1 .0) (a .pw .now) (zeros 66) (zeros 132) (s .pre .0 .1) (s .pre .1 .1 .0 .0) (s .pre .1 .1 .0 .1) (s .pre .1 .1 .1)
     (st .result) (st .ensures) (oracle .result) (oracle .ensures) (ap (λ (n : ℕ). getD (a .w .now) (n + getD (a .w .now) 1 0) 0) (c .before .before .before .before .before .before .sheet-words .ensures)) (c .decide-rest .ensures)
 
 pub decide-past-out-tests-spec : {M : Type 1} → statement M
 decide-past-out-tests-spec =
     tie.close
     (tie.spec
-    places-requires
-    double-places-requires
     first-state-requires
     sheet-words-requires
     shared-slice-read-rest

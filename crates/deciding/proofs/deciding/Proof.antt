@@ -1,6 +1,7 @@
 -- `deciding::deciding` meets its contract. Assumes nothing.
 use native.Mathlib.Omega.{arith}
 use borrow.Author.Needs.{needs}
+use Rattle.list_laws.specs.Zeros.{length-zeros}
 use Rattle.edition.specs.Meaning.{editionOf}
 use Rattle.domain.specs.OfSheet.{points-of-sheet}
 use Rattle.deciding.proofs.Ready.{sheet-fitting}
@@ -12,15 +13,12 @@ shared-slice-read-if1 c =
     let s = c .before .before in
     omega (arith, sheet-fitting (editionOf (s .args .e)) (s .args .w .now) (s .pre .0 .0) (s .pre .1) .0)
 
-few-points-room-requires : tie.Need-few-points-room-requires
-few-points-room-requires c κs = search needs
-
 slice-aggregate-of-sheet-within : tie.Need-slice-aggregate-of-sheet-within
 slice-aggregate-of-sheet-within c = search needs
 
 of-sheet-within-requires : tie.Need-of-sheet-within-requires
 of-sheet-within-requires c κs =
-    let s = c .before .before .before .before .before in
+    let s = c .before .before .before .before in
     (sheet-fitting (editionOf (s .args .e)) (s .args .w .now) (s .pre .0 .0) (s .pre .1), search needs)
 
 array-share-prefix-few : tie.Need-array-share-prefix-few
@@ -31,7 +29,7 @@ slice-aggregate-test-outs c = search needs
 
 test-outs-requires : tie.Need-test-outs-then-decide-requires
 test-outs-requires c κs =
-    let s = c .before .before .before .before .before .before .before .before in
+    let s = c .before .before .before .before .before .before .before in
     let a = s .args in
     let q = c .before .before .of-sheet-within in
     (s .pre .0, (s .pre .1, (points-of-sheet (editionOf (a .e)) (a .w .now) _ (q .ensures .1 .0), q .ensures .1 .1)))
@@ -39,16 +37,13 @@ test-outs-requires c κs =
 returns : tie.Need-returns
 returns c = search needs
 
-points-room-requires : tie.Need-points-room-requires
-points-room-requires c κs = search needs
-
 slice-aggregate-of-sheet : tie.Need-slice-aggregate-of-sheet
 slice-aggregate-of-sheet c = search needs
 
 of-sheet-requires : tie.Need-of-sheet-requires
 of-sheet-requires c κs =
-    let s = c .before .before .before .before .before in
-    (sheet-fitting (editionOf (s .args .e)) (s .args .w .now) (s .pre .0 .0) (s .pre .1), c .before .points-room .ensures)
+    let s = c .before .before .before .before in
+    (sheet-fitting (editionOf (s .args .e)) (s .args .w .now) (s .pre .0 .0) (s .pre .1), length-zeros 4096)
 
 array-share-prefix-pw : tie.Need-array-share-prefix-pw
 array-share-prefix-pw c = search needs
@@ -58,7 +53,7 @@ slice-aggregate-test-outs-2 c = search needs
 
 test-outs-requires-2 : tie.Need-test-outs-then-decide-requires-2
 test-outs-requires-2 c κs =
-    let s = c .before .before .before .before .before .before .before .before in
+    let s = c .before .before .before .before .before .before .before in
     let a = s .args in
     let q = c .before .before .of-sheet in
     (s .pre .0, (s .pre .1, (points-of-sheet (editionOf (a .e)) (a .w .now) _ (q .ensures .1 .0), q .ensures .1 .1)))
@@ -71,14 +66,12 @@ deciding-spec =
     tie.close
     (tie.spec
     shared-slice-read-if1
-    few-points-room-requires
     slice-aggregate-of-sheet-within
     of-sheet-within-requires
     array-share-prefix-few
     slice-aggregate-test-outs
     test-outs-requires
     returns
-    points-room-requires
     slice-aggregate-of-sheet
     of-sheet-requires
     array-share-prefix-pw

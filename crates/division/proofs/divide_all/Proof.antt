@@ -3,6 +3,7 @@ use Prim.Native.Nat.{_-_}
 use native.Mathlib.Omega.{arith}
 use lib.ListN.{length, drop}
 use lib.ListN.{length-drop}
+use Rattle.list_laws.specs.Zeros.{length-zeros}
 use Rattle.definition.specs.Field.{fieldOf}
 use Rattle.algebra.specs.PrimeField.{laws}
 use Rattle.division.proofs.Dividing.{divided, divides-is, part-short}
@@ -12,9 +13,6 @@ use Rattle.division.proofs.divide_all.Tie as tie
 
 sub-e : tie.Need-sub-e
 sub-e c = search needs
-
-places-requires : tie.Need-places-requires
-places-requires c κs = search needs
 
 slice-aggregate-factors : tie.Need-slice-aggregate-factors
 slice-aggregate-factors c = search needs
@@ -30,7 +28,7 @@ part-requires c κs = search needs
 
 by-sums-requires : tie.Need-by-sums-requires
 by-sums-requires c κs =
-    let s = c .before .before .before .before .before .before .before .before .before in
+    let s = c .before .before .before .before .before .before .before .before in
     let few = part-short (length (s .args .xs .now) - s .args .from) (drop 1 (c .before .before .before .before .factors .last .1 .1 .1 .0)) (c .before .part .ensures) in
     (omega (arith, few, s .pre .0 .1 .0), (s .pre .0 .1 .1, omega (arith, few, s .pre .1 .1)))
 
@@ -45,16 +43,15 @@ same-length c = search needs
 
 returns : tie.Need-returns
 returns c =
-    let s = c .before .before .before .before .before .before .before .before .before .before .before .before .before .before .before .before in
+    let s = c .before .before .before .before .before .before .before .before .before .before .before .before .before .before .before in
     let a = s .args in
     let m = c .before .before .move-down in
     let b = c .before .before .before .before .before .before .by-sums in
     let p = c .before .before .before .before .before .before .before .before .part in
     let f = c .before .before .before .before .before .before .before .before .before .before .before .factors in
-    let room = c .before .before .before .before .before .before .before .before .before .before .before .before .before .places in
     let size = length-drop (a .from) (a .xs .now) in
     let v = divides-is (fieldOf (a .field)) (laws (a .field)) (drop (a .from) (a .xs .now)) (f .last .1 .1 .1 .0) _ (length (a .xs .now) - a .from) (omega (arith, size, s .pre .1 .0)) size
-    (omega (arith, f .kept .1 .1 .1 .0, room .ensures, s .pre .1 .1)) (p .ensures) (f .ensures) in
+    (omega (arith, f .kept .1 .1 .1 .0, length-zeros 66, s .pre .1 .1)) (p .ensures) (f .ensures) in
     divided (fieldOf (a .field)) (laws (a .field)) (a .xs .now) (a .f .now) (b .last .1 .1 .0) (m .last .0) _ (a .from) (a .count) v (b .ensures) (m .ensures)
 
 pub divide-all-spec : {M : Type 1} → statement M
@@ -62,7 +59,6 @@ divide-all-spec =
     tie.close
     (tie.spec
     sub-e
-    places-requires
     slice-aggregate-factors
     factors-requires
     slice-aggregate-part

@@ -3,23 +3,21 @@ use Prim.Native.Nat.{_≤_}
 use native.Mathlib.Omega.{arith}
 use lib.ListN.{length}
 use borrow.Author.Needs.{needs}
+use Rattle.list_laws.specs.Zeros.{length-zeros}
 use Rattle.definition.specs.Sheet.{edition1}
 use Rattle.domain.specs.OfSheet.{fitting, points-of-sheet}
 use Rattle.draws.specs.AtLevel.{first-level}
 use Rattle.draws.proofs.coins.Statement.{statement}
 use Rattle.draws.proofs.coins.Tie as tie
 
-points-room-requires : tie.Need-points-room-requires
-points-room-requires c κs = search needs
-
 slice-aggregate-of-sheet : tie.Need-slice-aggregate-of-sheet
 slice-aggregate-of-sheet c = search needs
 
 of-sheet-requires : tie.Need-of-sheet-requires
 of-sheet-requires c κs =
-    let s = c .before .before .before .before in
+    let s = c .before .before .before in
     let long : 12 ≤ length (s .args .w .now) = omega (arith, s .pre .0 .0) in
-    ((long, fitting edition1 (s .args .w .now) long (s .pre .0 .1)), c .before .points-room .ensures)
+    ((long, fitting edition1 (s .args .w .now) long (s .pre .0 .1)), length-zeros 4096)
 
 array-share-prefix-pw : tie.Need-array-share-prefix-pw
 array-share-prefix-pw c = search needs
@@ -29,7 +27,7 @@ slice-aggregate-from-first c = search needs
 
 from-first-requires : tie.Need-from-first-requires
 from-first-requires c κs =
-    let s = c .before .before .before .before .before .before .before .before in
+    let s = c .before .before .before .before .before .before .before in
     let o = c .before .before .before .of-sheet .ensures .1 in
     (first-level (s .args .w .now) _ (s .pre .0 .0) (s .pre .0 .1) (points-of-sheet edition1 (s .args .w .now) _ (o .0)) (o .1), s .pre .1)
 
@@ -43,7 +41,6 @@ pub coins-spec : {M : Type 1} → statement M
 coins-spec =
     tie.close
     (tie.spec
-    points-room-requires
     slice-aggregate-of-sheet
     of-sheet-requires
     array-share-prefix-pw

@@ -1,5 +1,6 @@
 -- `encode::first_table`: the table of points is as the table's function wants it.
 use native.Mathlib.Omega.{arith}
+use Rattle.list_laws.specs.Zeros.{length-zeros}
 use Rattle.definition.specs.Sheet.{edition1}
 use Rattle.domain.specs.OfSheet.{fitting, points-of-sheet}
 use Rattle.encode.proofs.Stages.{halves, table-zero}
@@ -10,16 +11,13 @@ use Rattle.encode.proofs.first_table.Tie as tie
 shared-slice-read-if1 : tie.Need-shared-slice-read-if1
 shared-slice-read-if1 c = search needs
 
-few-points-room-requires : tie.Need-few-points-room-requires
-few-points-room-requires c κs = search needs
-
 slice-aggregate-of-sheet-within : tie.Need-slice-aggregate-of-sheet-within
 slice-aggregate-of-sheet-within c = search needs
 
 of-sheet-within-requires : tie.Need-of-sheet-within-requires
 of-sheet-within-requires c κs =
-    let s = c .before .before .before .before .before .before .before in
-    ((s .pre .0 .0, fitting edition1 (s .args .w .now) (s .pre .0 .0) (s .pre .0 .1)), omega (arith, c .before .few-points-room .ensures, c .before .before .if1 .taken))
+    let s = c .before .before .before .before .before .before in
+    ((s .pre .0 .0, fitting edition1 (s .args .w .now) (s .pre .0 .0) (s .pre .0 .1)), omega (arith, length-zeros 256, c .before .if1 .taken))
 
 shared-slice-read-on-domain : tie.Need-shared-slice-read-on-domain
 shared-slice-read-on-domain c = search needs
@@ -32,21 +30,18 @@ slice-aggregate-on-domain c = search needs
 
 on-domain-requires : tie.Need-on-domain-requires
 on-domain-requires c κs =
-    let s = c .before .before .before .before .before .before .before .before .before .before .before .before in
+    let s = c .before .before .before .before .before .before .before .before .before .before .before in
     let w = s .args .w .now in
     let n = c .before .before .before .before .of-sheet-within .ensures .1 .1 in
     (halves w (s .pre .0 .0) (s .pre .0 .1) (s .pre .1 .0) (s .pre .1 .1), (omega arith, omega (arith, n, s .pre .1 .1)))
-
-points-room-requires : tie.Need-points-room-requires
-points-room-requires c κs = search needs
 
 slice-aggregate-of-sheet : tie.Need-slice-aggregate-of-sheet
 slice-aggregate-of-sheet c = search needs
 
 of-sheet-requires : tie.Need-of-sheet-requires
 of-sheet-requires c κs =
-    let s = c .before .before .before .before .before .before .before in
-    ((s .pre .0 .0, fitting edition1 (s .args .w .now) (s .pre .0 .0) (s .pre .0 .1)), c .before .points-room .ensures)
+    let s = c .before .before .before .before .before .before in
+    ((s .pre .0 .0, fitting edition1 (s .args .w .now) (s .pre .0 .0) (s .pre .0 .1)), length-zeros 4096)
 
 shared-slice-read-on-domain-2 : tie.Need-shared-slice-read-on-domain-2
 shared-slice-read-on-domain-2 c = search needs
@@ -59,7 +54,7 @@ slice-aggregate-on-domain-2 c = search needs
 
 on-domain-requires-2 : tie.Need-on-domain-requires-2
 on-domain-requires-2 c κs =
-    let s = c .before .before .before .before .before .before .before .before .before .before .before .before in
+    let s = c .before .before .before .before .before .before .before .before .before .before .before in
     let w = s .args .w .now in
     let n = c .before .before .before .before .of-sheet .ensures .1 .1 in
     (halves w (s .pre .0 .0) (s .pre .0 .1) (s .pre .1 .0) (s .pre .1 .1), (omega arith, omega (arith, n, s .pre .1 .1)))
@@ -69,7 +64,7 @@ same-length c = search needs
 
 returns : tie.Need-returns
 returns c =
-    let s = c .before .before .before .before .before .before .before .before .before .before .before .before .before .before .before in
+    let s = c .before .before .before .before .before .before .before .before .before .before .before .before .before .before in
     let t = c .before .before .on-domain in
     table-zero (s .args .w .now) (s .args .f .now) _ (t .last .1 .1 .1 .1 .0) (points-of-sheet edition1 (s .args .w .now) _ (c .before .before .before .before .before .before .before .of-sheet-within .ensures .1 .0)) (s .pre .1 .1) (t .ensures)
 
@@ -78,7 +73,7 @@ same-length-2 c = search needs
 
 returns-2 : tie.Need-returns-2
 returns-2 c =
-    let s = c .before .before .before .before .before .before .before .before .before .before .before .before .before .before .before in
+    let s = c .before .before .before .before .before .before .before .before .before .before .before .before .before .before in
     let t = c .before .before .on-domain2 in
     table-zero (s .args .w .now) (s .args .f .now) _ (t .last .1 .1 .1 .1 .0) (points-of-sheet edition1 (s .args .w .now) _ (c .before .before .before .before .before .before .before .of-sheet .ensures .1 .0)) (s .pre .1 .1) (t .ensures)
 
@@ -87,14 +82,12 @@ first-table-spec =
     tie.close
     (tie.spec
     shared-slice-read-if1
-    few-points-room-requires
     slice-aggregate-of-sheet-within
     of-sheet-within-requires
     shared-slice-read-on-domain
     array-share-prefix-few
     slice-aggregate-on-domain
     on-domain-requires
-    points-room-requires
     slice-aggregate-of-sheet
     of-sheet-requires
     shared-slice-read-on-domain-2

@@ -5,6 +5,7 @@ use mathlib.Core.Path.{sym, ap, _∙_}
 use lib.ListN.{length}
 use lib.Seq.{length-front, length-take-le}
 use borrow.Author.Needs.{needs}
+use Rattle.list_laws.specs.Zeros.{zeros, length-zeros}
 use Rattle.definition.specs.Field.{fieldOf, primeField}
 use Rattle.algebra.specs.PrimeField.{laws}
 use Rattle.fractions.specs.Values.{first-point, folded, spacing, table-place}
@@ -18,57 +19,49 @@ gather-requires c κs = let p = c .before .before .before .before .before .befor
 div-count : tie.Need-div-count
 div-count c = omega (arith, folded (c .before .before .before .before .before .before .before .before .before .before .before .pre .1 .0))
 
-columns-requires : tie.Need-columns-requires
-columns-requires c κs = search needs
-
 array-borrow-prefix-powers : tie.Need-array-borrow-prefix-powers
-array-borrow-prefix-powers c = omega (arith, c .columns .ensures, count-few (c .before .before .before .before .before .before .before .before .before .before .before .before .pre .1 .0))
+array-borrow-prefix-powers c = omega (arith, length-zeros 33, count-few (c .before .before .before .before .before .before .before .before .before .before .before .pre .1 .0))
 
 slice-aggregate-shift-powers : tie.Need-slice-aggregate-shift-powers
 slice-aggregate-shift-powers c =
-    let s = c .before .before .before .before .before .before .before .before .before .before .before .before .before in
-    let room = c .before .columns in
-    sym (length-take-le (s .args .oracle .words / length (s .args .tops .now)) (room .result) (omega (arith, room .ensures, count-few (s .pre .1 .0))))
+    let s = c .before .before .before .before .before .before .before .before .before .before .before .before in
+    sym (length-take-le (s .args .oracle .words / length (s .args .tops .now)) (zeros 33) (omega (arith, length-zeros 33, count-few (s .pre .1 .0))))
 
 shift-powers-requires : tie.Need-shift-powers-requires
 shift-powers-requires c κs =
-    let s = c .before .before .before .before .before .before .before .before .before .before .before .before .before in
+    let s = c .before .before .before .before .before .before .before .before .before .before .before .before in
     let fits = s .pre .1 .0 in
-    let room = c .before .columns in
-    let size = length-take-le (s .args .oracle .words / length (s .args .tops .now)) (room .result) (omega (arith, room .ensures, count-few fits)) in
+    let size = length-take-le (s .args .oracle .words / length (s .args .tops .now)) (zeros 33) (omega (arith, length-zeros 33, count-few fits)) in
     (first-point fits (s .pre .1 .1 .0), (fits .small, (fits .few, omega (arith, size, count-some fits (s .pre .1 .1 .1 .0)))))
 
 mul-quotients : tie.Need-mul-quotients
-mul-quotients c = let p = c .before .before .before .before .before .before .before .before .before .before .before .before .before .before .before .before .pre in omega (arith, first-point (p .1 .0) (p .1 .1 .0), p .1 .0 .small)
+mul-quotients c = let p = c .before .before .before .before .before .before .before .before .before .before .before .before .before .before .before .pre in omega (arith, first-point (p .1 .0) (p .1 .1 .0), p .1 .0 .small)
 
 mul-quotients-2 : tie.Need-mul-quotients-2
-mul-quotients-2 c = let p = c .before .before .before .before .before .before .before .before .before .before .before .before .before .before .before .before .before .pre in omega (arith, spacing (p .1 .0), p .1 .0 .small)
+mul-quotients-2 c = let p = c .before .before .before .before .before .before .before .before .before .before .before .before .before .before .before .before .pre in omega (arith, spacing (p .1 .0), p .1 .0 .small)
 
 array-share-prefix-powers : tie.Need-array-share-prefix-powers
 array-share-prefix-powers c =
-    let s = c .before .before .before .before .before .before .before .before .before .before .before .before .before .before .before .before .before in
+    let s = c .before .before .before .before .before .before .before .before .before .before .before .before .before .before .before .before in
     let q = c .before .before .before .shift-powers in
-    let room = c .before .before .before .before .before .columns in
-    omega (arith, length-front (room .result) (q .last .1 .1 .1 .1 .0) (s .args .oracle .words / length (s .args .tops .now)) (q .kept .1 .1 .1 .1 .0), room .ensures, count-few (s .pre .1 .0))
+    omega (arith, length-front (zeros 33) (q .last .1 .1 .1 .1 .0) (s .args .oracle .words / length (s .args .tops .now)) (q .kept .1 .1 .1 .1 .0), length-zeros 33, count-few (s .pre .1 .0))
 
 slice-aggregate-quotients : tie.Need-slice-aggregate-quotients
 slice-aggregate-quotients c =
-    let s = c .before .before .before .before .before .before .before .before .before .before .before .before .before .before .before .before .before .before in
+    let s = c .before .before .before .before .before .before .before .before .before .before .before .before .before .before .before .before .before in
     let q = c .before .before .before .before .shift-powers in
-    let room = c .before .before .before .before .before .before .columns in
-    let w = front-whole (s .args .oracle .words / length (s .args .tops .now)) (room .result) (q .last .1 .1 .1 .1 .0) (omega (arith, room .ensures, count-few (s .pre .1 .0))) (q .kept .1 .1 .1 .1 .0) in
+    let w = front-whole (s .args .oracle .words / length (s .args .tops .now)) (zeros 33) (q .last .1 .1 .1 .1 .0) (omega (arith, length-zeros 33, count-few (s .pre .1 .0))) (q .kept .1 .1 .1 .1 .0) in
     sym (ap length (w .0) ∙ w .1)
 
 quotients-requires : tie.Need-quotients-requires
 quotients-requires c κs =
-    let s = c .before .before .before .before .before .before .before .before .before .before .before .before .before .before .before .before .before .before .before .before in
+    let s = c .before .before .before .before .before .before .before .before .before .before .before .before .before .before .before .before .before .before .before in
     let a = s .args in
     let p = s .pre in
     let fits = p .1 .0 in
     let q = c .before .before .before .before .before .before .shift-powers in
-    let room = c .before .before .before .before .before .before .before .before .columns in
-    let same = c .before .before .before .before .before .before .before .before .before .before .before .before .gather .kept .1 .1 .1 .0 in
-    let r = rooted-part (fieldOf (a .field)) (laws (a .field)) (a .pw .now) (a .table .now) (a .vg .now) (a .oracle) (length (a .tops .now)) _ fits (p .0 .1 .1) (a .j) (room .result) (q .last .1 .1 .1 .1 .0) (p .1 .1 .0) (p .1 .1 .1 .0) (room .ensures) (q .kept .1 .1 .1 .1 .0) (q .ensures (a .field) (p .0 .1 .1 .ω) (p .0 .1 .1 .powers)) same in
+    let same = c .before .before .before .before .before .before .before .before .before .before .before .gather .kept .1 .1 .1 .0 in
+    let r = rooted-part (fieldOf (a .field)) (laws (a .field)) (a .pw .now) (a .table .now) (a .vg .now) (a .oracle) (length (a .tops .now)) _ fits (p .0 .1 .1) (a .j) (zeros 33) (q .last .1 .1 .1 .1 .0) (p .1 .1 .0) (p .1 .1 .1 .0) (length-zeros 33) (q .kept .1 .1 .1 .1 .0) (q .ensures (a .field) (p .0 .1 .1 .ω) (p .0 .1 .1 .powers)) same in
     ((p .0 .0, (p .0 .1 .0, p .1 .1 .1 .1 ∙ sym same)), (r .0, omega (arith, r .1, fits .used)))
 
 same-length : tie.Need-same-length
@@ -80,16 +73,15 @@ same-length-2 c = search needs
 returns : tie.Need-returns
 unfolding fieldOf primeField
 returns c =
-    let s = c .before .before .before .before .before .before .before .before .before .before .before .before .before .before .before .before .before .before .before .before .before .before .before .before .before in
+    let s = c .before .before .before .before .before .before .before .before .before .before .before .before .before .before .before .before .before .before .before .before .before .before .before .before in
     let a = s .args in
     let p = s .pre in
     let fits = p .1 .0 in
     let h = c .before .before .before .before .before .before .before .before .before .before .before .shift-powers in
-    let room = c .before .before .before .before .before .before .before .before .before .before .before .before .before .columns in
-    let g = c .before .before .before .before .before .before .before .before .before .before .before .before .before .before .before .before .before .gather in
+    let g = c .before .before .before .before .before .before .before .before .before .before .before .before .before .before .before .before .gather in
     let q = c .before .before .before .before .quotients in
     let same = g .kept .1 .1 .1 .0 in
-    let r = rooted-part (fieldOf (a .field)) (laws (a .field)) (a .pw .now) (a .table .now) (a .vg .now) (a .oracle) (length (a .tops .now)) (length (g .last .1 .1 .1 .0)) fits (p .0 .1 .1) (a .j) (room .result) (h .last .1 .1 .1 .1 .0) (p .1 .1 .0) (p .1 .1 .1 .0) (room .ensures) (h .kept .1 .1 .1 .1 .0) (h .ensures (a .field) (p .0 .1 .1 .ω) (p .0 .1 .1 .powers)) same in
+    let r = rooted-part (fieldOf (a .field)) (laws (a .field)) (a .pw .now) (a .table .now) (a .vg .now) (a .oracle) (length (a .tops .now)) (length (g .last .1 .1 .1 .0)) fits (p .0 .1 .1) (a .j) (zeros 33) (h .last .1 .1 .1 .1 .0) (p .1 .1 .0) (p .1 .1 .1 .0) (length-zeros 33) (h .kept .1 .1 .1 .1 .0) (h .ensures (a .field) (p .0 .1 .1 .ω) (p .0 .1 .1 .powers)) same in
     λ m u. fractions-are (fieldOf (a .field)) (laws (a .field)) (a .pw .now) (a .table .now) (a .ac .now) (a .vg .now) (a .oracle) (length (a .tops .now)) fits (p .0 .1 .1) (a .j) (p .1 .1 .0) (p .1 .1 .1 .0) m u _ (r .1)
     (g .ensures .passed m u) (q .ensures .0 m (omega (arith, u, same))) (q .ensures .1 m (omega (arith, u, same)))
 
@@ -99,7 +91,6 @@ fractions-spec =
     (tie.spec
     gather-requires
     div-count
-    columns-requires
     array-borrow-prefix-powers
     slice-aggregate-shift-powers
     shift-powers-requires

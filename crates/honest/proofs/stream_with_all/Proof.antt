@@ -1,5 +1,6 @@
 -- `honest::stream_with_all` meets its contract: the table of points, and the stream by it; the places are enough for every sheet. Assumes nothing.
 use native.Mathlib.Omega.{arith}
+use Rattle.list_laws.specs.Zeros.{length-zeros}
 use Rattle.completeness.specs.Allowed.{allowed-enough}
 use Rattle.layouts.specs.SheetRules.{long-enough}
 use Rattle.domain.specs.OfSheet.{fitting, points-of-sheet}
@@ -9,21 +10,15 @@ use borrow.Author.Needs.{needs}
 use Rattle.honest.proofs.stream_with_all.Statement.{statement}
 use Rattle.honest.proofs.stream_with_all.Tie as tie
 
-points-room-requires : tie.Need-points-room-requires
-points-room-requires c κs = search needs
-
-fold-room-requires : tie.Need-fold-room-requires
-fold-room-requires c κs = search needs
-
 slice-aggregate-of-sheet : tie.Need-slice-aggregate-of-sheet
 slice-aggregate-of-sheet c = search needs
 
 of-sheet-requires : tie.Need-of-sheet-requires
 of-sheet-requires c κs =
-    let s = c .before .before .before .before .before .before .before in
+    let s = c .before .before .before .before .before in
     let a = s .args in
     let ok = s .pre .0 in
-    ((long-enough (editionOf (a .e)) (a .w .now) (allowed-enough ok), fitting (editionOf (a .e)) (a .w .now) (allowed-enough ok) (ok .sheet)), c .before .before .points-room .ensures)
+    ((long-enough (editionOf (a .e)) (a .w .now) (allowed-enough ok), fitting (editionOf (a .e)) (a .w .now) (allowed-enough ok) (ok .sheet)), length-zeros 4096)
 
 array-share-prefix-pw : tie.Need-array-share-prefix-pw
 array-share-prefix-pw c = search needs
@@ -36,12 +31,11 @@ slice-aggregate-stream-by-2 c = search needs
 
 stream-by-requires : tie.Need-stream-by-requires
 stream-by-requires c κs =
-    let s = c .before .before .before .before .before .before .before .before .before .before .before .before in
+    let s = c .before .before .before .before .before .before .before .before .before .before in
     let ok = s .pre .0 in
     let a = s .args in
     let d = c .before .before .before .before .of-sheet in
-    let g = c .before .before .before .before .before .before .fold-room in
-    ((ok, omega (arith, first-half ok, d .ensures .0, g .ensures)), ((points-of-sheet (editionOf (a .e)) (a .w .now) _ (d .ensures .1 .0), d .ensures .1 .1), s .pre .1))
+    ((ok, omega (arith, first-half ok, d .ensures .0, length-zeros 1024)), ((points-of-sheet (editionOf (a .e)) (a .w .now) _ (d .ensures .1 .0), d .ensures .1 .1), s .pre .1))
 
 same-length : tie.Need-same-length
 same-length c = search needs
@@ -53,8 +47,6 @@ pub stream-with-all-spec : {M : Type 1} → statement M
 stream-with-all-spec =
     tie.close
     (tie.spec
-    points-room-requires
-    fold-room-requires
     slice-aggregate-of-sheet
     of-sheet-requires
     array-share-prefix-pw

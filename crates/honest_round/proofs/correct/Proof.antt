@@ -2,33 +2,31 @@
 use native.Mathlib.Omega.{arith}
 use mathlib.Core.Path.{refl}
 use lib.ListN.{length, take, drop}
+use Rattle.list_laws.specs.Zeros.{length-zeros}
 use Rattle.honest_words.proofs.Words.{coined}
 use Rattle.honest_round.proofs.Rounds.{corrected-is}
 use borrow.Author.Needs.{needs}
 use Rattle.honest_round.proofs.correct.Statement.{statement}
 use Rattle.honest_round.proofs.correct.Tie as tie
 
-points-room-requires : tie.Need-points-room-requires
-points-room-requires c κs = search needs
-
 slice-aggregate-sample-points : tie.Need-slice-aggregate-sample-points
 slice-aggregate-sample-points c = search needs
 
 sample-points-requires : tie.Need-sample-points-requires
-sample-points-requires c κs = let p = c .before .before .before .before .before .before .before .pre in (p .0, (p .1 .1 .0, c .before .points-room .ensures))
+sample-points-requires c κs = let p = c .before .before .before .before .before .before .pre in (p .0, (p .1 .1 .0, length-zeros 50))
 
 shared-slice-read-corrected : tie.Need-shared-slice-read-corrected
-shared-slice-read-corrected c = omega (arith, coined (c .before .before .before .before .before .before .before .before .before .before .pre) .words)
+shared-slice-read-corrected c = omega (arith, coined (c .before .before .before .before .before .before .before .before .before .pre) .words)
 
 slice-aggregate-corrected : tie.Need-slice-aggregate-corrected
 slice-aggregate-corrected c = search needs
 
 coin-requires : tie.Need-coin-requires
-coin-requires c κs = let q = coined (c .before .before .before .before .before .before .before .before .before .before .before .pre) in (q .words, omega (arith, q .there))
+coin-requires c κs = let q = coined (c .before .before .before .before .before .before .before .before .before .before .pre) in (q .words, omega (arith, q .there))
 
 corrected-requires : tie.Need-corrected-requires
 corrected-requires c κs =
-    let p = c .before .before .before .before .before .before .before .before .before .before .before .before .before .before .pre in
+    let p = c .before .before .before .before .before .before .before .before .before .before .before .before .before .pre in
     let q = c .before .before .before .before .before .before .sample-points in
     let n = q .kept .1 .1 .1 .1 .1 .1 .0 in
     ((omega (arith, n, q .ensures .1 .0), omega (arith, n, q .ensures .1 .1, p .1 .0)), (p .1 .1 .1, refl))
@@ -41,7 +39,7 @@ same-length-2 c = search needs
 
 returns : tie.Need-returns
 returns c =
-    let s = c .before .before .before .before .before .before .before .before .before .before .before .before .before .before .before .before .before .before .before in
+    let s = c .before .before .before .before .before .before .before .before .before .before .before .before .before .before .before .before .before .before in
     let p = c .before .before .before .before .before .before .before .before .before .before .before .sample-points in
     let q = c .before .before .before .before .corrected in
     corrected-is (s .pre .0 .0 .place) (s .pre .1 .1 .0) (take (length (s .args .next .now)) (s .args .g .now))
@@ -51,7 +49,6 @@ pub correct-spec : {M : Type 1} → statement M
 correct-spec =
     tie.close
     (tie.spec
-    points-room-requires
     slice-aggregate-sample-points
     sample-points-requires
     shared-slice-read-corrected

@@ -2,6 +2,7 @@
 use mathlib.Core.Path.{_∙_}
 use native.Mathlib.Omega.{arith}
 use borrow.Author.Needs.{needs}
+use Rattle.list_laws.specs.Zeros.{length-zeros}
 use Rattle.layouts.specs.SheetRules.{rounds-most}
 use Rattle.definition.specs.Sheet.{edition1}
 use Rattle.domain.specs.OfSheet.{fitting, points-of-sheet}
@@ -11,16 +12,13 @@ use Rattle.listing.proofs.TableLaws.{text-of-sheet}
 use Rattle.listing.proofs.kept.Statement.{statement}
 use Rattle.listing.proofs.kept.Tie as tie
 
-points-room-requires : tie.Need-points-room-requires
-points-room-requires c κs = search needs
-
 slice-aggregate-of-sheet : tie.Need-slice-aggregate-of-sheet
 slice-aggregate-of-sheet c = search needs
 
 of-sheet-requires : tie.Need-of-sheet-requires
 of-sheet-requires c κs =
-    let s = c .before .before .before in
-    ((s .pre .0, fitting edition1 (s .args .w .now) (s .pre .0) (s .pre .1)), c .before .points-room .ensures)
+    let s = c .before .before in
+    ((s .pre .0, fitting edition1 (s .args .w .now) (s .pre .0) (s .pre .1)), length-zeros 4096)
 
 shared-slice-read-rounds : tie.Need-shared-slice-read-rounds
 shared-slice-read-rounds c = search needs
@@ -49,7 +47,7 @@ slice-aggregate-domain-lines c = search needs
 domain-lines-requires : tie.Need-domain-lines-requires
 domain-lines-requires c κs =
     let points = c .before .before .before .before .before .before .before .before .before in
-    let s = points .before .before .before .before in
+    let s = points .before .before .before in
     let size = points .of-sheet .ensures in
     (rounds-most edition1 (s .args .w .now) (s .pre .1), (omega (arith, size .0, size .1 .1), omega (arith, c .before .before .write .ensures .1, c .before .before .before .before .text .ensures .long, c .before .before .before .before .before .before .empty .ensures)))
 
@@ -60,7 +58,7 @@ returns c =
     let t = c .before .before .before .before .before .text in
     let e = c .before .before .before .before .before .before .before .empty in
     let points = c .before .before .before .before .before .before .before .before .before .before in
-    let s = points .before .before .before .before in
+    let s = points .before .before .before in
     let size = points .of-sheet .ensures in
     let sheet = s .args .w .now in
     let first = w .ensures .0 ∙ begun (e .result) (t .result) keptText (e .ensures) (t .ensures) .text in
@@ -70,7 +68,6 @@ pub kept-spec : {M : Type 1} → statement M
 kept-spec =
     tie.close
     (tie.spec
-    points-room-requires
     slice-aggregate-of-sheet
     of-sheet-requires
     shared-slice-read-rounds

@@ -6,62 +6,50 @@ use mathlib.Core.Path.{_≡_, sym, ap, _∙_}
 use lib.ListN.{length, getD, drop}
 use lib.Seq.{length-front, length-take-le, take-at}
 use mathlib.Core.List.{List, _++_}
+use Rattle.list_laws.specs.Zeros.{zeros, length-zeros}
 use Rattle.lists.proofs.interpolated.Statement.{statement}
 use Rattle.lists.proofs.interpolated.Tie as tie
-
-places-requires : tie.Need-places-requires
-places-requires c κs = search needs
-
-places-requires-2 : tie.Need-places-requires-2
-places-requires-2 c κs = search needs
 
 array-borrow-prefix-us : tie.Need-array-borrow-prefix-us
 array-borrow-prefix-us c = search needs
 
 slice-aggregate-divisors : tie.Need-slice-aggregate-divisors
 slice-aggregate-divisors c =
-    let u = c .before .before .places in
-    sym (length-take-le (length (c .before .before .before .before .before .before .before .args .xs .now)) (u .result) (omega (arith, u .ensures)))
+    sym (length-take-le (length (c .before .before .before .before .before .args .xs .now)) (zeros 66) (omega (arith, length-zeros 66)))
 
 slice-aggregate-divisors-2 : tie.Need-slice-aggregate-divisors-2
 slice-aggregate-divisors-2 c = search needs
 
 divisors-requires : tie.Need-divisors-requires
 divisors-requires c κs =
-    let s = c .before .before .before .before .before .before .before .before in
-    let u = c .before .before .before .places in
-    let r = c .before .before .places2 in
-    ((length-take-le (length (s .args .xs .now)) (u .result) (omega (arith, u .ensures)), omega (arith, r .ensures, s .pre .0 .1)), s .pre .1)
+    let s = c .before .before .before .before .before .before in
+    ((length-take-le (length (s .args .xs .now)) (zeros 66) (omega (arith, length-zeros 66)), omega (arith, length-zeros 66, s .pre .0 .1)), s .pre .1)
 
 array-share-prefix-us : tie.Need-array-share-prefix-us
 array-share-prefix-us c =
-    let n = length (c .before .before .before .before .before .before .before .before .before .before .before .args .xs .now) in
-    let u = c .before .before .before .before .before .before .places in
+    let n = length (c .before .before .before .before .before .before .before .before .before .args .xs .now) in
     let d = c .before .before .divisors in
-    omega (arith, length-front (u .result) (d .last .1 .1 .0) n (d .kept .1 .1 .0), u .ensures)
+    omega (arith, length-front (zeros 66) (d .last .1 .1 .0) n (d .kept .1 .1 .0), length-zeros 66)
 
 slice-aggregate-steps : tie.Need-slice-aggregate-steps
 slice-aggregate-steps c =
-    let n = length (c .before .before .before .before .before .before .before .before .before .before .before .before .args .xs .now) in
+    let n = length (c .before .before .before .before .before .before .before .before .before .before .args .xs .now) in
     let d = c .before .before .before .divisors in
-    let u = c .before .before .before .before .before .before .before .places in
-    sym (length-take-le n (d .last .1 .1 .0 ++ drop n (u .result)) (omega (arith, length-front (u .result) (d .last .1 .1 .0) n (d .kept .1 .1 .0), u .ensures)))
+    sym (length-take-le n (d .last .1 .1 .0 ++ drop n (zeros 66)) (omega (arith, length-front (zeros 66) (d .last .1 .1 .0) n (d .kept .1 .1 .0), length-zeros 66)))
 
 slice-aggregate-steps-2 : tie.Need-slice-aggregate-steps-2
 slice-aggregate-steps-2 c = search needs
 
 steps-requires : tie.Need-steps-requires
 steps-requires c κs =
-    let s = c .before .before .before .before .before .before .before .before .before .before .before .before .before .before .before in
+    let s = c .before .before .before .before .before .before .before .before .before .before .before .before .before in
     let n = length (s .args .xs .now) in
     let d = c .before .before .before .before .before .before .divisors in
-    let u = c .before .before .before .before .before .before .before .before .before .before .places in
-    let r = c .before .before .before .before .before .before .before .before .before .places2 in
-    let size : length (d .last .1 .1 .0) ≡ n = d .kept .1 .1 .0 ∙ length-take-le n (u .result) (omega (arith, u .ensures)) in
-    let whole = take-at (d .last .1 .1 .0) (drop n (u .result)) n size in
+    let size : length (d .last .1 .1 .0) ≡ n = d .kept .1 .1 .0 ∙ length-take-le n (zeros 66) (omega (arith, length-zeros 66)) in
+    let whole = take-at (d .last .1 .1 .0) (drop n (zeros 66)) n size in
     let q = s .pre .0 .1 .1 in (
       (s .pre .0 .0, ap length whole ∙ size),
-      ((s .pre .0 .1 .0, (omega (arith, q .0), (omega (arith, q .0, q .1), omega (arith, q .0, r .ensures, d .kept .1 .1 .1 .0)))), λ i l. ap (λ (t : List ℕ). getD t i 0) whole ∙ d .ensures i l),
+      ((s .pre .0 .1 .0, (omega (arith, q .0), (omega (arith, q .0, q .1), omega (arith, q .0, length-zeros 66, d .kept .1 .1 .1 .0)))), λ i l. ap (λ (t : List ℕ). getD t i 0) whole ∙ d .ensures i l),
     )
 
 same-length : tie.Need-same-length
@@ -77,8 +65,6 @@ pub interpolated-spec : {M : Type 1} → statement M
 interpolated-spec =
     tie.close
     (tie.spec
-    places-requires
-    places-requires-2
     array-borrow-prefix-us
     slice-aggregate-divisors
     slice-aggregate-divisors-2

@@ -3,6 +3,7 @@ use Prim.Native.Nat.{ℕ, _*_, _≤_}
 use mathlib.Core.Path.{sym, ap, subst}
 use native.Mathlib.Omega.{arith}
 use lib.ListN.{length}
+use Rattle.list_laws.specs.Zeros.{length-zeros}
 use Rattle.definition.specs.Block.{blockCount}
 use Rattle.definition.specs.Prove.{Result}
 use Rattle.completeness.specs.Allowed.{allowed-enough}
@@ -38,59 +39,53 @@ words-due-requires c κs =
     let ok = passes (editionOf (a .e)) (a .sheet .now) (a .coefficients .now) (a .coins .now) (a .output .now) (t .result) (t .ensures) (c .enum-told .given .1) in
     (allowed-enough (ok .allowed), ok .allowed .sheet)
 
-small-room-requires : tie.Need-small-room-requires
-small-room-requires c κs = search needs
-
 slice-aggregate-write : tie.Need-slice-aggregate-write
 slice-aggregate-write c = search needs
 
 write-requires : tie.Need-write-requires
 write-requires c κs =
-    let s = c .before .before .before .before .before .before .before .before .before .before .before .before in
+    let s = c .before .before .before .before .before .before .before .before .before .before .before in
     let a = s .args in
-    let t = c .before .before .before .before .before .before .before .prove-tests in
-    let ok = passes (editionOf (a .e)) (a .sheet .now) (a .coefficients .now) (a .coins .now) (a .output .now) (t .result) (t .ensures) (c .before .before .before .before .before .enum-told .given .1) in
-    let d = c .before .before .before .before .words-due .ensures in
-    (ok .allowed, (d .0, (omega (arith, c .before .before .small-room .ensures, c .before .before .before .if1 .taken), subst (λ (n : ℕ). 512 * blockCount n ≤ length (a .output .now)) (sym (d .0)) (ok .room))))
+    let t = c .before .before .before .before .before .before .prove-tests in
+    let ok = passes (editionOf (a .e)) (a .sheet .now) (a .coefficients .now) (a .coins .now) (a .output .now) (t .result) (t .ensures) (c .before .before .before .before .enum-told .given .1) in
+    let d = c .before .before .before .words-due .ensures in
+    (ok .allowed, (d .0, (omega (arith, length-zeros 1016, c .before .before .if1 .taken), subst (λ (n : ℕ). 512 * blockCount n ≤ length (a .output .now)) (sym (d .0)) (ok .room))))
 
 same-length : tie.Need-same-length
 same-length c = search needs
 
 returns-2 : tie.Need-returns-2
 returns-2 c =
-    let s = c .before .before .before .before .before .before .before .before .before .before .before .before .before .before .before .before in
+    let s = c .before .before .before .before .before .before .before .before .before .before .before .before .before .before .before in
     let a = s .args in
-    let t = c .before .before .before .before .before .before .before .before .before .before .before .prove-tests in
-    let ok = passes (editionOf (a .e)) (a .sheet .now) (a .coefficients .now) (a .coins .now) (a .output .now) (t .result) (t .ensures) (c .before .before .before .before .before .before .before .before .before .enum-told .given .1) in
+    let t = c .before .before .before .before .before .before .before .before .before .before .prove-tests in
+    let ok = passes (editionOf (a .e)) (a .sheet .now) (a .coefficients .now) (a .coins .now) (a .output .now) (t .result) (t .ensures) (c .before .before .before .before .before .before .before .before .enum-told .given .1) in
     let v = c .before .before .before .write in
-    written-is ok (c .before .before .before .before .before .before .before .before .words-due .ensures .0) (v .ensures .0) (v .ensures .1)
-
-room-requires : tie.Need-room-requires
-room-requires c κs = search needs
+    written-is ok (c .before .before .before .before .before .before .before .words-due .ensures .0) (v .ensures .0) (v .ensures .1)
 
 slice-aggregate-write-2 : tie.Need-slice-aggregate-write-2
 slice-aggregate-write-2 c = search needs
 
 write-requires-2 : tie.Need-write-requires-2
 write-requires-2 c κs =
-    let s = c .before .before .before .before .before .before .before .before .before .before .before .before in
+    let s = c .before .before .before .before .before .before .before .before .before .before .before in
     let a = s .args in
-    let t = c .before .before .before .before .before .before .before .prove-tests in
-    let ok = passes (editionOf (a .e)) (a .sheet .now) (a .coefficients .now) (a .coins .now) (a .output .now) (t .result) (t .ensures) (c .before .before .before .before .before .enum-told .given .1) in
-    let d = c .before .before .before .before .words-due .ensures in
-    (ok .allowed, (d .0, (omega (arith, c .before .before .room .ensures, d .1), subst (λ (n : ℕ). 512 * blockCount n ≤ length (a .output .now)) (sym (d .0)) (ok .room))))
+    let t = c .before .before .before .before .before .before .prove-tests in
+    let ok = passes (editionOf (a .e)) (a .sheet .now) (a .coefficients .now) (a .coins .now) (a .output .now) (t .result) (t .ensures) (c .before .before .before .before .enum-told .given .1) in
+    let d = c .before .before .before .words-due .ensures in
+    (ok .allowed, (d .0, (omega (arith, length-zeros 8509, d .1), subst (λ (n : ℕ). 512 * blockCount n ≤ length (a .output .now)) (sym (d .0)) (ok .room))))
 
 same-length-2 : tie.Need-same-length-2
 same-length-2 c = search needs
 
 returns-3 : tie.Need-returns-3
 returns-3 c =
-    let s = c .before .before .before .before .before .before .before .before .before .before .before .before .before .before .before .before in
+    let s = c .before .before .before .before .before .before .before .before .before .before .before .before .before .before .before in
     let a = s .args in
-    let t = c .before .before .before .before .before .before .before .before .before .before .before .prove-tests in
-    let ok = passes (editionOf (a .e)) (a .sheet .now) (a .coefficients .now) (a .coins .now) (a .output .now) (t .result) (t .ensures) (c .before .before .before .before .before .before .before .before .before .enum-told .given .1) in
+    let t = c .before .before .before .before .before .before .before .before .before .before .prove-tests in
+    let ok = passes (editionOf (a .e)) (a .sheet .now) (a .coefficients .now) (a .coins .now) (a .output .now) (t .result) (t .ensures) (c .before .before .before .before .before .before .before .before .enum-told .given .1) in
     let v = c .before .before .before .write2 in
-    written-is ok (c .before .before .before .before .before .before .before .before .words-due .ensures .0) (v .ensures .0) (v .ensures .1)
+    written-is ok (c .before .before .before .before .before .before .before .words-due .ensures .0) (v .ensures .0) (v .ensures .1)
 
 pub prove-in-spec : {M : Type 1} → statement M
 prove-in-spec =
@@ -101,12 +96,10 @@ prove-in-spec =
     returns
     enum-told
     words-due-requires
-    small-room-requires
     slice-aggregate-write
     write-requires
     same-length
     returns-2
-    room-requires
     slice-aggregate-write-2
     write-requires-2
     same-length-2

@@ -3,6 +3,7 @@ use Prim.Native.Nat.{_-_}
 use native.Mathlib.Omega.{arith}
 use mathlib.Core.Path.{_≡_, _∙_}
 use lib.ListN.{length}
+use Rattle.list_laws.specs.Zeros.{length-zeros}
 use Rattle.sheets.proofs.DrawLaws.{Drawing, all-drawn, draw-below, none-drawn, none-left, one-drawn}
 use Rattle.sheets.proofs.draw.Statement.{statement}
 use Rattle.sheets.proofs.draw.Tie as tie
@@ -13,11 +14,8 @@ Inv-loop w₀ values₀ generator₀ j₀ w values generator j = (length values 
 abbrev μ-loop : tie.MeasureT-loop
 μ-loop w₀ values₀ generator₀ j₀ w values generator j = 12 - j
 
-room-requires : tie.Need-room-requires Inv-loop μ-loop
-room-requires c κs = omega arith
-
 loop-holds : tie.Need-loop-holds Inv-loop μ-loop
-loop-holds c = (c .room .ensures, none-drawn (c .before .before .args .generator .v) (c .before .before .args .w .now) (c .before .before .pre))
+loop-holds c = (length-zeros 56, none-drawn (c .before .args .generator .v) (c .before .args .w .now) (c .before .pre))
 
 slice-aggregate-permitted : tie.Need-slice-aggregate-permitted Inv-loop μ-loop
 slice-aggregate-permitted c = omega arith
@@ -93,7 +91,6 @@ draw-spec =
     (tie.spec
     Inv-loop
     μ-loop
-    room-requires
     loop-holds
     slice-aggregate-permitted
     permitted-requires

@@ -1,19 +1,19 @@
 -- `tevrolig::tevrolig_decide_2` meets its contract. Assumes nothing.
 use borrow.Author.Needs.{needs}
-use Rattle.edition.specs.Meaning.{editionOf}
+use Rattle.definition.specs.Verify.{decideFile, verifyIn}
 use Rattle.tevrolig.proofs.Numbered.{verdict-numbers}
 use Rattle.tevrolig.proofs.tevrolig_decide_2.Statement.{statement}
 use Rattle.tevrolig.proofs.tevrolig_decide_2.Tie as tie
 
-decide-in-requires : tie.Need-decide-in-requires
-decide-in-requires c κs = search needs
+verify-2-requires : tie.Need-verify-2-requires
+verify-2-requires c κs = search needs
 
 of-verdict-requires : tie.Need-of-verdict-requires
 of-verdict-requires c κs = search needs
 
 returns : tie.Need-returns
-unfolding editionOf
-returns c = verdict-numbers (c .of-verdict .ensures) (c .before .decide-in .ensures)
+unfolding decideFile verifyIn
+returns c = verdict-numbers (c .of-verdict .ensures) (c .before .verify-2 .ensures)
 
 pub tevrolig-decide-2-spec : {M : Type 1} → statement M
-tevrolig-decide-2-spec = tie.close (tie.spec decide-in-requires of-verdict-requires returns)
+tevrolig-decide-2-spec = tie.close (tie.spec verify-2-requires of-verdict-requires returns)

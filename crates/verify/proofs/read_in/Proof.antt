@@ -3,9 +3,6 @@ use borrow.Author.Needs.{needs}
 use Rattle.verify.proofs.read_in.Statement.{statement}
 use Rattle.verify.proofs.read_in.Tie as tie
 
-small-room-requires : tie.Need-small-room-requires
-small-room-requires c κs = search needs
-
 slice-aggregate-read : tie.Need-slice-aggregate-read
 slice-aggregate-read c = search needs
 
@@ -14,9 +11,6 @@ read-requires c κs = search needs
 
 returns : tie.Need-returns
 returns c = c .before .read .ensures .outcome
-
-room-requires : tie.Need-room-requires
-room-requires c κs = search needs
 
 slice-aggregate-read-2 : tie.Need-slice-aggregate-read-2
 slice-aggregate-read-2 c = search needs
@@ -31,11 +25,9 @@ pub read-in-spec : {M : Type 1} → statement M
 read-in-spec =
     tie.close
     (tie.spec
-    small-room-requires
     slice-aggregate-read
     read-requires
     returns
-    room-requires
     slice-aggregate-read-2
     read-requires-2
     returns-2)
