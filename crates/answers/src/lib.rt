@@ -41,7 +41,7 @@ pub fn gather_round(
     ensures { λ v. ⌜ Answered field (now (pw .entry)) (now (table .entry)) (now (ac .entry)) (now (vg .entry)) oracle k r (now (shifts .entry)) (now (outs .entry)) (now (replies .entry)) (kept v (now (px .exit)) (now (py .exit))) ⌝ }
     ensures { λ v. ⌜ Room (length (now (px .entry))) (length (now (outs .entry)) + length (now (shifts .entry))) v ⌝ }
 {
-    if shifts.len() * k <= 64 {
+    if shifts.len() * k <= FEW {
         let mut tops = [0u32; FEW];
         let mut bottoms = [0u32; FEW];
         let mut behind = [0u32; FEW];
@@ -105,7 +105,7 @@ pub fn compare_finals(
     requires { ⌜ (Below (oracle .step) (now finals)) × (length (now finals) ≤ 50) ⌝ }
     ensures { λ v. ⌜ Compared field (now (pw .entry)) (now (table .entry)) (now (ac .entry)) (now (vg .entry)) oracle k r (now (coefficients .entry)) (now (finals .entry)) (placeOf v) ⌝ }
 {
-    if finals.len() * k <= 64 {
+    if finals.len() * k <= FEW {
         let mut tops = [0u32; FEW];
         let mut bottoms = [0u32; FEW];
         let mut behind = [0u32; FEW];

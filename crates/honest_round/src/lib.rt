@@ -154,7 +154,7 @@ pub fn step(
     ensures { λ _. ⌜ take folded (now (g .exit)) ≡ foldAfter (sheetOf (editionOf e) (now (w .entry))) level (take d (now (g .entry))) (now (coins .entry)) ⌝ }
 {
     honest_words::round(e, w, pw, level, scale, &g[..d], coins, out);
-    if d <= 64 {
+    if d <= FEW_FOLD {
         let mut few = [0u32; FEW_FOLD];
         next_fold(e, w, pw, level, scale, d, folded, coins, g, &mut few);
     } else {

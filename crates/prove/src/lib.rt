@@ -58,7 +58,7 @@ pub fn prove_in(
         return Answer::Refusal(number, place);
     }
     let due = sizes::words_due(e, sheet);
-    if due <= 1016 {
+    if due <= SMALL_WORDS {
         let mut few = [0u32; SMALL_WORDS];
         return write(e, sheet, coefficients, coins, due, &mut few, output);
     }

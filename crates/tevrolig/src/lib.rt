@@ -59,7 +59,8 @@ pub extern "C" fn tevrolig_read_2(file: &[u8], place: &mut u64) -> u32
     n.number
 }
 
-// The second step: deciding, of any file of edition 1. One that fails reading gets reading's refusal, with no reads. Answers and writes as tevrolig_verify does.
+// The second step: deciding, of any file of edition 1. One that fails reading gets reading's refusal, with no reads, so that the verdict is verify's, which is
+// what is called. Answers and writes as tevrolig_verify does.
 #[no_mangle]
 pub extern "C" fn tevrolig_decide(file: &[u8], place: &mut u64, reads: &mut u64) -> u32
     ensures { λ r. ⌜ r ≡ numberOf (decideFile edition1 (now (file .entry)) .outcome) ⌝ }
