@@ -33,6 +33,10 @@
  *
  * There are two editions of a file, with a sheet of 12 words and one of 18. A file does not say of which it is: the
  * caller does, by the function that is called. Those without an edition in their name are of edition 1.
+ *
+ * THE EDITION, AND EACH KIND OF FILE THAT A REQUEST ADDS, IS FIXED OUTSIDE THE FILE: NEVER TRY ONE AND THEN THE OTHER. One
+ * file may be accepted as both editions with two meanings, that is, with another table 0, another fold coin and another
+ * final polynomial (crates/check_files/data/both-editions).
  */
 #ifndef TEVROLIG_H
 #define TEVROLIG_H

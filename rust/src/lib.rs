@@ -27,7 +27,8 @@
 //! [`verify`] may be asked in two steps: [`read`] where a file comes in, and [`decide`] where it counts.
 //!
 //! What stands here is for files of edition 1. [`edition2`] has verify, its two steps and prove for edition 2, with a folding number for each round,
-//! and [`convert`] the way from one to the other.
+//! and [`convert`] the way from one to the other. **The edition, and each kind of file that a request adds, is fixed outside the file:** never try one
+//! and then the other, since one file may be accepted as both with two meanings.
 
 mod archive;
 pub mod convert;

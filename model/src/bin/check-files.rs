@@ -124,6 +124,14 @@ fn files() -> Vec<(String, Vec<u8>)> {
         files.push((name.into(), file));
     }
 
+    // A file of both editions, with two meanings: the words 12 to 17 are of edition 1's table 0 and of edition 2's sheet.
+    let both: [u32; 23] = [
+        0, 8, 4, 2, 0, 1, 1, 0, 0, 0, 0, 0, // sheet
+        0, 0, 0, 0, 0, 2, // table 0, or the sheet
+        1, 5, 3, 13, 16, // table 0, the fold coin and the final coefficients, or table 0
+    ];
+    files.push(("both-editions".into(), to_blocks(&both)));
+
     // The largest sheets, honest.
     let largest: [[u32; 12]; 3] = [
         [2, 4096, 2048, 2, 5, 2, 48, 48, 48, 48, 48, 48],
