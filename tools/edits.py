@@ -12,6 +12,12 @@ FUNCTION = re.compile(r"^[ \t]*(?:pub )?(?:extern \"C\" )?fn (\w+)", re.M)
 BODY = re.compile(r"^[ \t]*\{$|^[^{]*\) (?:-> .*)?\{$", re.M)
 
 
+def stand_on(folder):
+    """The tree that is looked at, where it is not this one."""
+    global TOP
+    TOP = folder
+
+
 class Change(NamedTuple):
     file: str
     old: str
