@@ -19,6 +19,7 @@ NAMED = [
     rf"{NUMBER}(?:-bit| words?| reads?)\b",
     r"[\w)]*[_^/·+-]\d{1,2}(?![\d,])|\b[a-z]\d\b|[-+<=] ?\d(?![\d,])|\(\d{1,2}\)",
 ]
+WORDS = "no one two three four five six seven eight nine ten".split()
 # Words behind a number that it does not count.
 PASSED_OVER = "and at comes for from in is of on or then there to was where with".split()
 
@@ -65,6 +66,7 @@ HELD = [
     (r"(\d+) seeds", lambda: number(".ci/run", r"load-against-model (\d+)")),
     (r"(\d+) inputs that are short, long or 0", other_loads),
     (r"([\d,]+) inputs with a fixed seed", lambda: number("tools/fuzz", r"runs=(\d+)")),
+    (r"(\w+) loads stored", lambda: 1 + len(list((edits.TOP / "examples").glob("load-*")))),  # the program's own output is the other
     (r"`check` on (\d+) files", lambda: len(list((edits.TOP / "crates/check_files/data").iterdir()))),
     (r"for n = ([\d,]+) and [\d,]+", lambda: number(".ci/run", r"powers\.py (\d+) \| cmp - crates/powers/src/table")),
     (r"for n = [\d,]+ and ([\d,]+)", lambda: number(".ci/run", r"powers\.py (\d+) \| cmp - crates/powers/src/few")),
@@ -123,7 +125,8 @@ class Figures:
             for pattern, value in HELD:
                 for found in re.finditer(pattern, text):
                     self.held += 1
-                    if int(found[1].replace(",", "")) != value():
+                    stated = WORDS.index(found[1]) if found[1] in WORDS else int(found[1].replace(",", ""))
+                    if stated != value():
                         fault(line, f"{found[0]}: it is {value()}")
                     covered.update(range(*found.span(1)))
             for pattern, _ in MEASURED:

@@ -62,10 +62,13 @@ def total(operator, forms):
 
 
 def compared(operator, left, right):
-    """An order relation as `at most`."""
+    """An order relation as `at most`, with a number on one side at most."""
     if operator in (">", ">=", "≥"):
         left, right = right, left
-    return ("≤", total("+", [left, ("number", 1)]) if operator in ("<", ">") else left, right)
+    if operator in ("<", ">"):
+        left = total("+", [left, ("number", 1)])
+    numbers = [next((part[1] for part in flat("+", [side]) if part[0] == "number"), 0) for side in (left, right)]
+    return ("≤", *(total("+", [side, ("number", -min(numbers))]) for side in (left, right)))
 
 
 def form(sequence):
