@@ -8,17 +8,17 @@ use lib.ListN.{length, getD, drop}
 use lib.Seq.{getD-drop}
 use Rattle.definition.specs.Field.{Field, fieldOf, power, primeField}
 use Rattle.powers.specs.Root.{root}
-use Rattle.powers.specs.Table.{eachTimes, storedPowers, everyNth}
+use Rattle.powers.specs.Table.{geometricSequence, storedPowers, everyNth}
 
 -- from a power of ω on come the next ones
-each-entry : {A : Type 0} (F : Field A) (ω d : A) (a n e : ℕ) → e < n → getD (eachTimes F ω (power F ω a) n) e d ≡ power F ω (a + e)
-unfolding eachTimes power
+each-entry : {A : Type 0} (F : Field A) (ω d : A) (a n e : ℕ) → e < n → getD (geometricSequence F ω (power F ω a) n) e d ≡ power F ω (a + e)
+unfolding geometricSequence power
 each-entry F ω d a zero e h = absurd (not-suc-le-zero h)
 each-entry F ω d a (suc n) zero h = let s : a ≡ a + 0 = omega arith in ap (power F ω) s
 each-entry F ω d a (suc n) (suc e) h = let s : suc a + e ≡ a + suc e = omega arith in each-entry F ω d (suc a) n e (le-of-suc-le-suc h) ∙ ap (power F ω) s
 
-each-length : {A : Type 0} (F : Field A) (ω x : A) (n : ℕ) → length (eachTimes F ω x n) ≡ n
-unfolding eachTimes
+each-length : {A : Type 0} (F : Field A) (ω x : A) (n : ℕ) → length (geometricSequence F ω x n) ≡ n
+unfolding geometricSequence
 each-length F ω x zero = refl
 each-length F ω x (suc n) = ap suc (each-length F ω (F ._⊗_ ω x) n)
 

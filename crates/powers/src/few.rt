@@ -1,4 +1,4 @@
-// The 256 powers of 1732600167, modulo 2013265921. Written by tools/powers.py 256.
+// Every 16th of the 4096 powers of 1282623253, modulo 2013265921. Written by tools/powers.py 256.
 pub const POWERS: [u32; 256] = [
     1,
     1732600167,

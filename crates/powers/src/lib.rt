@@ -12,7 +12,7 @@ pub fn stored() -> [u32; 4096]
     table::POWERS
 }
 
-// Every 16th of the table, for the domains of at most 256 points: a call copies what it returns whole, and these are spared the copy of 4,096 numbers.
+// Every 16th of the table, for domains of at most 256 points: a call copies what it returns whole, and these need not wait for 4,096 numbers.
 pub fn stored_few() -> [u32; 256]
     ensures { λ r. ⌜ r ≡ everyNth 16 256 storedPowers ⌝ }
 {
