@@ -75,8 +75,9 @@ HELD = [
     (r"([\d,]+) inputs with a fixed seed", lambda: number("tools/fuzz", r"runs=(\d+)")),
     (r"(\w+) loads stored", lambda: 1 + len(list((edits.TOP / "examples").glob("load-*")))),  # the program's own output is the other
     (r"`check` on (\d+) files", lambda: len(list((edits.TOP / "crates/check_files/data").iterdir()))),
-    (r"for n = ([\d,]+) and [\d,]+", lambda: number(".ci/run", r"powers\.py (\d+) \| cmp - crates/powers/src/table")),
-    (r"for n = [\d,]+ and ([\d,]+)", lambda: number(".ci/run", r"powers\.py (\d+) \| cmp - crates/powers/src/few")),
+    (r"ω of n0 = ([\d,]+)", lambda: number("crates/powers/specs/Table.antt", r"root 2 (\d+)")),
+    (r"every (\d+)th of it", lambda: number("crates/powers/src/lib.rt", r"everyNth (\d+)")),
+    (r"every \((\d+)/n0\)-th", lambda: number("crates/domain/specs/Powers.antt", r"everyNth \((\d+) /")),
     (r"the first ([\d,]+) bytes", lambda: number("crates/word_input/specs/Input.antt", r"take (\d+) bytes")),
     (r"longer than ([\d,]+) bytes", lambda: 4 * 12 + number("crates/prove_bytes/specs/Length.antt", r"done-short .* 4 \* sheetLength ed \+ (\d+)")),
     (r"bytes, or ([\d,]+) in edition 2", lambda: 4 * 18 + number("crates/prove_bytes/specs/Length.antt", r"done-short .* 4 \* sheetLength ed \+ (\d+)")),
