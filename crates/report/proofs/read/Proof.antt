@@ -1,0 +1,59 @@
+-- `report::read` meets its contract: the bytes read stand in the buffer.
+use mathlib.Core.Path.{sym, ap}
+use native.Mathlib.Omega.{arith}
+use lib.Seq.{length-take-le}
+use Rattle.input.specs.Count.{countOf}
+use borrow.Author.Needs.{needs}
+use Rattle.report.proofs.read.Statement.{statement}
+use Rattle.report.proofs.read.Tie as tie
+
+slice-aggregate-fill : tie.Need-slice-aggregate-fill
+slice-aggregate-fill c = search needs
+
+fill-requires : tie.Need-fill-requires
+fill-requires c κs = search needs
+
+enum-known-n : tie.Need-enum-known-n
+enum-known-n c = search needs
+
+enum-told : tie.Need-enum-told
+enum-told c = search needs
+
+not-read-requires : tie.Need-not-read-requires
+not-read-requires c κs = search needs
+
+returns : tie.Need-returns
+returns c = search needs
+
+array-share-prefix-buffer : tie.Need-array-share-prefix-buffer
+array-share-prefix-buffer c = omega (arith, ap countOf (c .before .n .given .1))
+
+slice-aggregate-read : tie.Need-slice-aggregate-read
+slice-aggregate-read c =
+    let n = c .before .before .n .given in
+    sym (length-take-le (n .0 .0) (c .before .before .before .before .before .fill .last .1 .0) (omega (arith, ap countOf (n .1))))
+
+read-requires : tie.Need-read-requires
+read-requires c κs = search needs
+
+send-requires : tie.Need-send-requires
+send-requires c κs = search needs
+
+returns-2 : tie.Need-returns-2
+returns-2 c = search needs
+
+pub read-spec : {M : Type 1} → statement M
+read-spec =
+    tie.close
+    (tie.spec
+    slice-aggregate-fill
+    fill-requires
+    enum-known-n
+    enum-told
+    not-read-requires
+    returns
+    array-share-prefix-buffer
+    slice-aggregate-read
+    read-requires
+    send-requires
+    returns-2)
