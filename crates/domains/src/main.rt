@@ -11,7 +11,7 @@ fn main() {
         return;
     };
     let mut out = [0u8; 131072];
-    let length = listing::output(&bytes[..n], &mut out);
+    let length = listing::output(input::front(&bytes, n), &mut out);
     send(&out, length);
 }
 

@@ -16,7 +16,7 @@ pub fn prove_input(e: Edition) {
         return;
     };
     let mut output = [0u8; 34304];
-    let written = program_output::prove(e, &bytes[..n], &mut output);
+    let written = program_output::prove(e, input::front(&bytes, n), &mut output);
     deliver(written, &output);
 }
 
@@ -28,7 +28,7 @@ pub fn convert_file(to: Edition) {
         return;
     };
     let mut output = [0u8; 34304];
-    let written = program_output::convert(to, &bytes[..n], &mut output);
+    let written = program_output::convert(to, input::front(&bytes, n), &mut output);
     deliver(written, &output);
 }
 

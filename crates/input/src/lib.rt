@@ -2,7 +2,7 @@
 use libc::STDERR_FILENO;
 ghost use mathlib.Core.Path.{_≡_};
 ghost use Prim.Native.Nat.{_≤_};
-ghost use lib.ListN.{length};
+ghost use lib.ListN.{length, take};
 ghost use Rattle.input.specs.Count.{countOf};
 
 pub enum Input {
@@ -30,6 +30,16 @@ pub fn fill(fd: i32, buffer: &mut [u8]) -> Input
         n += more;
     }
     Input::Bytes(n)
+}
+
+// The first n bytes of the buffer.
+pub fn front(buffer: &[u8], n: usize) -> &[u8]
+    ensures { λ r. ⌜ now r ≡ take n (now (buffer .entry)) ⌝ }
+{
+    if buffer.len() < n {
+        return buffer;
+    }
+    &buffer[..n]
 }
 
 // Says on standard error that a read failed.

@@ -11,7 +11,7 @@ fn main() {
         return;
     };
     let mut out = [0u8; 34000];
-    let length = load::output(&bytes[..n], &mut out);
+    let length = load::output(input::front(&bytes, n), &mut out);
     send(&out, length);
 }
 
