@@ -21,7 +21,8 @@ pub fn check(e: Edition, fd: i32) {
         input::not_read();
         return;
     };
-    send(STDOUT_FILENO, program_output::check(e, input::front(&buffer, n)));
+    let line = program_output::check(e, input::front(&buffer, n));
+    send(STDOUT_FILENO, line);
 }
 
 // Reads what a descriptor gives in the same way, as the first of verify's two steps does, and decides nothing.
@@ -31,5 +32,6 @@ pub fn read(e: Edition, fd: i32) {
         input::not_read();
         return;
     };
-    send(STDOUT_FILENO, program_output::read(e, input::front(&buffer, n)));
+    let line = program_output::read(e, input::front(&buffer, n));
+    send(STDOUT_FILENO, line);
 }
