@@ -2,13 +2,14 @@
 
 At a fact: two types, sides or values differ, `omega` has numbers at which a goal fails, `search` finds no proof, `rw` finds nothing to rewrite or leaves something
 open. Of shape is whatever else the prover says of a text that it cannot read or that does not fit: no expression where one is expected, a name that is not in scope
-or not there, such as a need of code of another shape, a need in another's place, a tuple or a part of one where the type has none. An error that only says that
-something else was not admitted is neither: it passes another one on.
+or not there, such as a need of code of another shape, a tuple or a part of one where the type has none. So are two that differ where the needs of a function are put
+together, in its `-spec`, since then there are others than the proof has, and an equation where an order is wanted, or an order for an equation. An error that
+only says that something else was not admitted is neither: it passes another one on.
 """
 import re
 from typing import NamedTuple
 
-ERROR = re.compile(r"^(\S+?):(\d+):\d+: error(?:\[[\w-]+\])?: (?:`([^`]*)`: )?(.*)$", re.M)
+ERROR = re.compile(r"^(\S+?):(\d+):\d+: error(?:\[[\w-]+\])?: (?:`([^`]*)`: )?(.*(?:\n  .*)*)", re.M)
 TREE = re.compile(r"(?:^|.*/)((?:src|specs|proofs)/.*)")
 FACT = re.compile(
     r"as printed, the two (?:types|sides|values) "
@@ -19,7 +20,11 @@ FACT = re.compile(
     r"|`rw`: no occurrence of "
     r"|give a proof of that as the last argument, `rw"
 )
-NEED = re.compile(r"expected type `(?:[^`]*\.)?Need-[^`]*`, but this has type `(?:[^`]*\.)?Need-")
+WHOLE = re.compile(
+    r"the two types are `([^`]*)` \(expected\) and `([^`]*)` \(found\)"
+    r"|one has `([^`]*)` \(expected\), at the start, and the other has `([^`]*)` \(found\)"
+)
+EQUATION, ORDER = re.compile(r"(?:\S*\.)?(?:Path|_≡_)(?=\s|$)"), re.compile(r"(?:\S*\.)?(?:_≤_|_<_)(?=\s|$)")
 UNCLOSED = re.compile(r"^fn (\w+)::(?:\w+::)*(\w+): no proof.*`search` does not close", re.M)
 
 
@@ -36,19 +41,28 @@ class Error(NamedTuple):
         return found and found[1]
 
 
-def kind(said):
-    if "was not admitted" in said:
+def other_relation(said):
+    """Whether one of two types is an equation, or that there is none, and the other an order."""
+    text = " ".join(said[max(0, said.find("computed as far as they go, the two types")) :].split())
+    if not (found := WHOLE.search(text)):
+        return False
+    sides = [side for side in found.groups() if side]
+    return any(EQUATION.match(one) and ORDER.match(other) for one, other in (sides, sides[::-1]))
+
+
+def kind(declaration, said):
+    if "was not admitted" in said.split("\n")[0]:
         return "passed on"
-    return "fact" if FACT.match(said) and not NEED.match(said) else "shape"
+    return "fact" if FACT.match(said) and not declaration.endswith("-spec") and not other_relation(said) else "shape"
 
 
 class Refusals:
     def __init__(self, log):
         self.proved = not re.search(r"^logic=not-proved", log, re.M)
         self.errors = []
-        for path, line, _, said in ERROR.findall(log):
+        for path, line, declaration, said in ERROR.findall(log):
             below = TREE.match(path)
-            self.errors.append(Error(below[1] if below else path, int(line), said, kind(said)))
+            self.errors.append(Error(below[1] if below else path, int(line), said.split("\n")[0], kind(declaration, said)))
         # A function that has no proof file is proved by `search`.
         self.unclosed = {function for _, function in UNCLOSED.findall(log)}
 
