@@ -79,6 +79,8 @@ HELD = [
     (r"every (\d+)th of it", lambda: number("crates/powers/src/lib.rt", r"everyNth (\d+)")),
     (r"every \((\d+)/n0\)-th", lambda: number("crates/domain/specs/Powers.antt", r"everyNth \((\d+) /")),
     (r"the first ([\d,]+) bytes", lambda: number("crates/word_input/specs/Input.antt", r"take (\d+) bytes")),
+    (r"take ([\d,]+) bytes at most", lambda: number("crates/program_output/specs/Output.antt", r"checkText .* \(take (\d+) bytes")),
+    (r"an output of (\d+) blocks", lambda: number("crates/program_output/specs/Output.antt", r"replicate (\d+) 0") // 512),
     (r"longer than ([\d,]+) bytes", lambda: 4 * 12 + number("crates/prove_bytes/specs/Length.antt", r"done-short .* 4 \* sheetLength ed \+ (\d+)")),
     (r"bytes, or ([\d,]+) in edition 2", lambda: 4 * 18 + number("crates/prove_bytes/specs/Length.antt", r"done-short .* 4 \* sheetLength ed \+ (\d+)")),
     (r"so long as ([\d,]+) bytes", lambda: number("crates/completeness/specs/Statements.antt", r"accepted-short .* length bytes < (\d+)")),
