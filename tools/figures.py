@@ -29,7 +29,9 @@ def read(path):
 
 
 def number(path, pattern):
-    return int(re.search(pattern, read(path))[1].replace("_", "").replace(",", ""))
+    """The number that stands in a file, or a negative one where the file has it no longer."""
+    found = re.search(pattern, read(path))
+    return int(found[1]) if found else -1_000_000
 
 
 def lines_of_definition():
