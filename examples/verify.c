@@ -23,8 +23,9 @@ static const char *const SHEET_WORD[TEVROLIG_SHEET_WORDS_2] = {
 /* One sentence on a refusal. */
 static void explain(const uint8_t *file, size_t length, uint32_t number, uint64_t place)
 {
-    /* For the numbers 5, 6, 7 and 14 the place is a word's number, and the file has that word. */
-    uint32_t word;
+    /* For the numbers 5, 6, 7 and 14 the place is a word's number, and the file has that word. For others it may have none,
+     * and then nothing is written. */
+    uint32_t word = 0;
     tevrolig_word(file, length, place, &word);
 
     switch (number) {

@@ -24,15 +24,20 @@
  *
  * - Everything is lent for the call alone. No pointer is kept, and inputs are only read.
  * - Nothing is allocated and no state is kept, so calls may run in several threads at once, over the same inputs too.
- * - Each number that a function gives by a pointer is written on every return, whatever was there before.
+ * - `place`, `reads` and `value` are written on every return, whatever was there before. `word`, `element` and `turns` are
+ *   written where the function answers 0; else nothing is written there, and they keep what they had.
  * - The stack that a call takes is bounded: below TEVROLIG_VERIFY_STACK bytes for tevrolig_verify and tevrolig_decide,
  *   below TEVROLIG_READ_STACK for tevrolig_read, likewise for prove, encode and the converters, in both editions, and
- *   below 1,024 for tevrolig_word, tevrolig_sheet_of and the field operations. This is measured, not proved.
+ *   below 1,024 for all others. This is measured, not proved.
  *
  * Words are unsigned 32-bit numbers. Numbers, places and positions count from 0.
  *
  * There are two editions of a file, with a sheet of 12 words and one of 18. A file does not say of which it is: the
  * caller does, by the function that is called. Those without an edition in their name are of edition 1.
+ *
+ * THE EDITION, AND EACH KIND OF FILE THAT A REQUEST ADDS, IS FIXED OUTSIDE THE FILE: NEVER TRY ONE AND THEN THE OTHER. One
+ * file may be accepted as both editions with two meanings, that is, with another table 0, another fold coin and another
+ * final polynomial (crates/check_files/data/both-editions).
  */
 #ifndef TEVROLIG_H
 #define TEVROLIG_H
@@ -44,8 +49,24 @@
 extern "C" {
 #endif
 
-/* The version of this interface; rust/Cargo.toml and tevrolig.pc have the same, which tools/try-install checks. */
-#define TEVROLIG_VERSION "0.1.0"
+/* The version; rust/Cargo.toml and tevrolig.pc have the same, which tools/try-install checks. Its second number is that of
+ * the interface: one more for each change to what a function answers or writes (CHANGELOG.md says what to change). */
+#define TEVROLIG_VERSION "0.9.0"
+
+/* Answers the interface's number. Every object file that this header is compiled into refers to it, whatever else it calls,
+ * so that it does not link with an archive of another interface: the linker then names the function that it misses. */
+uint32_t tevrolig_interface_9(void);
+
+#ifdef __has_attribute
+#if __has_attribute(retain)
+#define TEVROLIG_RETAIN __attribute__((retain)) /* past a linker that leaves out what nothing refers to */
+#endif
+#endif
+#ifndef TEVROLIG_RETAIN
+#define TEVROLIG_RETAIN
+#endif
+static uint32_t (*const tevrolig_interface)(void) __attribute__((used)) TEVROLIG_RETAIN = tevrolig_interface_9;
+#undef TEVROLIG_RETAIN
 
 /* A file is blocks of 512 bytes: 127 words of the stream, each least significant byte first, and a check word. */
 #define TEVROLIG_BLOCK_BYTES 512
@@ -89,23 +110,28 @@ extern "C" {
 #define TEVROLIG_ENCODE_STACK 49152
 #define TEVROLIG_CONVERT_STACK 49152
 
-/* What the functions answer. The place that belongs to each number stands at the function. */
+/* What the functions answer: 0, or why not. The place that belongs to each number stands at the function. */
 enum {
-    TEVROLIG_ACCEPTED = 0,  /* verify, read, decide: the file is accepted */
-    TEVROLIG_DONE = 0,      /* prove, encode, sheet_of, to_edition_1, to_edition_2: the output is written */
-    TEVROLIG_LENGTH = 1,    /* the file is empty, or its length is no multiple of 512 bytes */
-    TEVROLIG_CHECK = 2,     /* a block's check word is wrong */
-    TEVROLIG_SHEET = 3,     /* a sheet word breaks its rule */
-    TEVROLIG_BLOCKS = 4,    /* the sheet needs another number of blocks */
-    TEVROLIG_RANGE = 5,     /* a word after the sheet is out of range: no element of the field, or no index that is due */
-    TEVROLIG_FILL = 6,      /* a word after the end of the stream is not zero */
-    TEVROLIG_OUT_COIN = 7,  /* an out coin of round i lies in domain i */
-    TEVROLIG_CLASH = 8,     /* two equal points of a round have different values */
-    TEVROLIG_FINAL = 9,     /* the final polynomial differs from the fold at a final index's point */
-    TEVROLIG_COUNT = 10,    /* the sheet, the coefficients or the coins are too few or too many */
-    TEVROLIG_OUTPUT = 11,   /* the output is too short */
-    TEVROLIG_FOLDS = 13,    /* the folding numbers differ, so that there is no such file of edition 1 */
-    TEVROLIG_EQUAL_OUT = 14 /* two out coins of a round are equal */
+    TEVROLIG_ACCEPTED = 0,   /* verify, read, decide: the file is accepted */
+    TEVROLIG_DONE = 0,       /* all others: what was asked for is written */
+    TEVROLIG_LENGTH = 1,     /* the file is empty, or its length is no multiple of 512 bytes */
+    TEVROLIG_CHECK = 2,      /* a block's check word is wrong */
+    TEVROLIG_SHEET = 3,      /* a sheet word breaks its rule */
+    TEVROLIG_BLOCKS = 4,     /* the sheet needs another number of blocks */
+    TEVROLIG_RANGE = 5,      /* a word after the sheet is out of range: no element of the field, or no index that is due */
+    TEVROLIG_FILL = 6,       /* a word after the end of the stream is not zero */
+    TEVROLIG_OUT_COIN = 7,   /* an out coin of round i lies in domain i */
+    TEVROLIG_CLASH = 8,      /* two equal points of a round have different values */
+    TEVROLIG_FINAL = 9,      /* the final polynomial differs from the fold at a final index's point */
+    TEVROLIG_COUNT = 10,     /* the sheet, the coefficients or the coins are too few or too many */
+    TEVROLIG_OUTPUT = 11,    /* the output is too short */
+    TEVROLIG_FOLDS = 13,     /* the folding numbers differ, so that there is no such file of edition 1 */
+    TEVROLIG_EQUAL_OUT = 14, /* two out coins of a round are equal */
+
+    /* of word and the field operations; no refusals of a file or an input, and so apart from those */
+    TEVROLIG_NO_FIELD = 100,   /* the number names no field */
+    TEVROLIG_NO_INVERSE = 101, /* 0 has no inverse */
+    TEVROLIG_NO_WORD = 102     /* the stream has no word of that number */
 };
 
 /* Verifies a file of any length and content. Answers 0 for accepted, else the number of the first test that fails, in
@@ -152,8 +178,8 @@ uint32_t tevrolig_read_2(const uint8_t *file, size_t length, uint64_t *place);
 uint32_t tevrolig_decide_2(const uint8_t *file, size_t length, uint64_t *place, uint64_t *reads);
 
 /* Shows the word of this number in a file's stream, of either edition. The sheet has the words 0 to 11, or 0 to 17, and
- * block checks are not counted. Answers 1, or 0 where the file's whole blocks hold no word of that number; `word` is then
- * 0. */
+ * block checks are not counted. Answers 0 for done, and `word` is the word; or TEVROLIG_NO_WORD where the file's whole
+ * blocks hold no word of that number, and writes nothing. */
 uint32_t tevrolig_word(const uint8_t *file, size_t length, uint64_t number, uint32_t *word);
 
 /* Shows the sheet that a file holds, verified or not: writes its words 0 to 11 to the front of the output, as
@@ -207,18 +233,19 @@ uint32_t tevrolig_encode(const uint32_t *sheet, size_t sheet_length, const uint3
                          size_t coefficients_length, uint32_t *output, size_t output_length, uint64_t *value);
 
 /* The operations of a field, given by its number as in word 0 of the sheet. They take a and b modulo p first, so any
- * words will do; an exponent is taken as it is. 0 to the power 0 is 1. Each answers 1 and writes the element, a word
- * below p, or answers 0 where the number names no field; `element` is then 0. */
+ * words will do; an exponent is taken as it is. 0 to the power 0 is 1. Each answers 0 for done, and `element` is the
+ * element, a word below p; or TEVROLIG_NO_FIELD where the number names no field, and writes nothing. */
 uint32_t tevrolig_sum(uint32_t field, uint32_t a, uint32_t b, uint32_t *element);
 uint32_t tevrolig_difference(uint32_t field, uint32_t a, uint32_t b, uint32_t *element);
 uint32_t tevrolig_product(uint32_t field, uint32_t a, uint32_t b, uint32_t *element);
 uint32_t tevrolig_power(uint32_t field, uint32_t a, uint32_t exponent, uint32_t *element);
 
-/* The inverse likewise, except that there is none where a is 0 modulo p: it then answers 2, and `element` is 0. */
+/* The inverse likewise, except that there is none where a is 0 modulo p: it then answers TEVROLIG_NO_INVERSE, and writes
+ * nothing. */
 uint32_t tevrolig_inverse(uint32_t field, uint32_t a, uint32_t *element);
 
 /* The power of tevrolig_power, and the turns that its loop made: as many as the exponent has binary digits, none for 0.
- * Where the number names no field, `turns` is 0 too. */
+ * Where the number names no field, neither is written. */
 uint32_t tevrolig_power_turns(uint32_t field, uint32_t a, uint32_t exponent, uint32_t *element, uint32_t *turns);
 
 #ifdef __cplusplus

@@ -1,15 +1,21 @@
-"""The wrong answers that stand in crates/NAME/must-fail/*.edit.
+"""The wrong answers that stand in crates/NAME/must-fail/*.edit, and what each of them changes.
 
-A file whose changes are one wrong answer is named for it. A file may hold several, of different functions, which are then checked in one go: each of them begins
-with a comment line that is its name in small letters, or its name, a colon and what is wrong.
+A file whose changes are one wrong answer is named for it. A file may hold several, of different functions or definitions, which are then checked in one go: each of
+them begins with a comment line that is its name in small letters, or its name, a colon and what is wrong.
 """
 import re
 from pathlib import Path
 from typing import NamedTuple
 
+from declarations import declarations
+
 TOP = Path(__file__).resolve().parent.parent
-FUNCTION = re.compile(r"^[ \t]*(?:pub )?(?:extern \"C\" )?fn (\w+)", re.M)
-BODY = re.compile(r"^[ \t]*\{$|^[^{]*\) (?:-> .*)?\{$", re.M)
+
+
+def stand_on(folder):
+    """The tree that is looked at, where it is not this one."""
+    global TOP
+    TOP = folder
 
 
 class Change(NamedTuple):
@@ -57,18 +63,34 @@ def count(crate):
     return sum(len(wrong_answers(edit)) for edit in edits(crate))
 
 
-def touched(crate, answer):
-    """The functions that a wrong answer changes; none where a change of it stands in no function."""
+def line_of(crate, change):
+    """The number of the line in which a change begins, or 0 where its text is not there."""
+    path = TOP / "crates" / crate / change.file
+    text = path.read_text() if path.is_file() else ""
+    return 1 + text[: text.index(change.old)].count("\n") if change.old in text else 0
+
+
+def declared(crate, file):
+    return declarations((TOP / "crates" / crate / file).read_text().split("\n"), Path(file).suffix)[0]
+
+
+def in_code(crate, answer):
+    """What a wrong answer changes of the code: declarations, each with its file and the number of the line. Imports and comments are none."""
     found = []
     for change in answer.changes:
-        text = (TOP / "crates" / crate / change.file).read_text() if change.file.startswith("src/") else ""
-        at = text.find(change.old)
-        starts = [match for match in FUNCTION.finditer(text) if match.start() < at + len(change.old)]
-        if not starts:
-            return []
-        after = FUNCTION.search(text, starts[-1].end())
-        body = BODY.search(text, starts[-1].start())
-        found.append(Touched(starts[-1][1], text[starts[-1].end() : after.start() if after else len(text)], at < body.start()))
+        line = line_of(crate, change)
+        if change.file.startswith("src/") and line:
+            found += [(change.file, there, line) for there in declared(crate, change.file) if there.line <= line <= there.last]
+    return found
+
+
+def touched(crate, answer):
+    """The functions that a wrong answer changes."""
+    found = []
+    for file, there, line in in_code(crate, answer):
+        if there.kind == "function":
+            text = "\n".join((TOP / "crates" / crate / file).read_text().split("\n")[there.line - 1 : there.last])
+            found.append(Touched(there.name, text[text.index(there.name) + len(there.name) :], line < there.line + len(there.head)))
     return found
 
 

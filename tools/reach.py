@@ -1,8 +1,8 @@
-"""What a line of a crate's specs rests on, by names: it tells which of several wrong definitions a refused line is due to.
+"""What a line of a crate's specs, or a proof of its code, rests on, by names: it tells which wrong definition a refused line is due to.
 
 Blank lines part the declarations. A declaration rests on each one of its file, or of those that its file takes from the crate's other files, that its words name,
 or name a part of where that is an operator, and on what those rest on; declarations of one name count together, so that none is left out. A case, which is a
-field of a record of cases, rests on what its own statement names.
+field of a record of cases, rests on what its own statement names. A function rests on what its contract and its own proof name.
 """
 import re
 from collections import defaultdict
@@ -72,6 +72,13 @@ class Reach:
             seen, todo = {(file, proved[1])}, self.names(file, self.cases[file, proved[1]])
         else:
             seen, todo = set(), {self.number.get((file, line))} - {None}
+        return self.closed(seen, todo)
+
+    def reached_by(self, text):
+        """What a text outside the specs rests on: whatever its words name in any of their files."""
+        return self.closed(set(), set().union(*(self.names(file, text) for file in self.known)))
+
+    def closed(self, seen, todo):
         while todo:
             number = todo.pop()
             seen.add(number)

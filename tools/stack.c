@@ -108,12 +108,13 @@ static void sheet_of(void)
     answer = tevrolig_sheet_of(file, length, words, TEVROLIG_SHEET_WORDS);
 }
 
-/* The field operations, one after the other. */
+/* The field operations and the interface's number, one after the other: 0 where all are done. */
 static void elements(void)
 {
     uint32_t element, turns;
     answer = tevrolig_sum(2, 5, 7, &element) + tevrolig_difference(2, 5, 7, &element) + tevrolig_product(2, 5, 7, &element)
-        + tevrolig_power(2, 5, 7, &element) + tevrolig_power_turns(2, 5, 7, &element, &turns) + tevrolig_inverse(2, 5, &element);
+        + tevrolig_power(2, 5, 7, &element) + tevrolig_power_turns(2, 5, 7, &element, &turns) + tevrolig_inverse(2, 5, &element)
+        + (tevrolig_interface_9() != 9);
 }
 
 /* Bytes of the stack that a call changes. What the start of a context takes is among them. */
@@ -185,7 +186,7 @@ static void verify_and_convert(void)
 
 int main(int argc, char **argv)
 {
-    small = depth(elements);
+    small = done("a field operation", elements);
     for (int i = 1; i < argc; i++) {
         FILE *input = fopen(argv[i], "rb");
         if (input == NULL) {

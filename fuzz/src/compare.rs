@@ -4,7 +4,7 @@ use crate::fence::Fence;
 use crate::input::{Input, ProverInput};
 use std::cell::RefCell;
 use tevrolig::convert::{to_edition_1, to_edition_2};
-use tevrolig::{edition2, Field, Outcome, Verdict};
+use tevrolig::{edition2, Field, Outcome, Refusal, Verdict};
 use tevrolig_model::convert::convert_to;
 use tevrolig_model::prove::prove_in;
 use tevrolig_model::sheet::Edition;
@@ -30,6 +30,30 @@ impl Fences {
     }
 }
 
+/// Why the C functions below write nothing, and those functions, as the header has them.
+const NO_FIELD: u32 = 100;
+const NO_INVERSE: u32 = 101;
+const NO_WORD: u32 = 102;
+
+extern "C" {
+    fn tevrolig_word(file: *const u8, length: usize, number: u64, word: *mut u32) -> u32;
+    fn tevrolig_sum(field: u32, a: u32, b: u32, element: *mut u32) -> u32;
+    fn tevrolig_difference(field: u32, a: u32, b: u32, element: *mut u32) -> u32;
+    fn tevrolig_product(field: u32, a: u32, b: u32, element: *mut u32) -> u32;
+    fn tevrolig_power(field: u32, a: u32, exponent: u32, element: *mut u32) -> u32;
+    fn tevrolig_inverse(field: u32, a: u32, element: *mut u32) -> u32;
+    fn tevrolig_power_turns(
+        field: u32,
+        a: u32,
+        exponent: u32,
+        element: *mut u32,
+        turns: *mut u32,
+    ) -> u32;
+}
+
+/// What stands in the place of a word or an element before the call.
+const BEFORE: u32 = 0xA5A5_A5A5;
+
 thread_local! {
     static FENCES: RefCell<Fences> = RefCell::new(Fences::new());
 }
@@ -42,7 +66,7 @@ pub fn agree(input: &Input) {
             conversions(fences, file);
         }
         Input::Prover(given) => proofs(fences, given),
-        Input::Field(words) => elements(*words),
+        Input::Field(words) => elements(fences, *words),
     });
 }
 
@@ -71,9 +95,9 @@ fn decide(edition: Edition, file: &[u8]) -> Verdict {
 
 /// An outcome in the model's terms.
 fn outcome(outcome: Outcome) -> model::Outcome {
-    match outcome {
-        Outcome::Accepted => model::Outcome::Accepted,
-        Outcome::Refused(refusal) => model::Outcome::Refused {
+    match outcome.result() {
+        Ok(()) => model::Outcome::Accepted,
+        Err(refusal) => model::Outcome::Refused {
             number: refusal.number(),
             place: refusal.place(),
         },
@@ -90,10 +114,7 @@ fn verdicts(fences: &mut Fences, file: &[u8]) {
         assert_eq!(outcome(read(edition, lent)), read_in(edition, file));
         let decided = decide(edition, lent);
         assert_eq!(decided.line(), model::line(decide_in(edition, file)));
-        match verdict.outcome {
-            Outcome::Accepted => 0,
-            Outcome::Refused(refusal) => refusal.place(),
-        }
+        verdict.outcome.result().map_or_else(Refusal::place, |()| 0)
     });
 
     let end = (file.len() / stream::BLOCK_BYTES * stream::BLOCK_WORDS) as u64;
@@ -105,6 +126,11 @@ fn verdicts(fences: &mut Fences, file: &[u8]) {
     for number in [place, place_2, end.wrapping_sub(1), end, named] {
         let word = (number < end).then(|| stream::read_word(file, number as usize));
         assert_eq!(tevrolig::word(lent, number), word, "word {number}");
+        let place = fences.table.lend(&[BEFORE]);
+        // SAFETY: the file is lent, and so is a place for one word.
+        let answer =
+            unsafe { tevrolig_word(lent.as_ptr(), lent.len(), number, place.as_mut_ptr()) };
+        assert_eq!((answer, place[0]), stored(word, NO_WORD), "word {number}");
     }
     let sheet = (0 < end).then(|| std::array::from_fn(|number| stream::read_word(file, number)));
     assert_eq!(tevrolig::sheet_of(lent), sheet, "the sheet");
@@ -200,8 +226,13 @@ fn model_answer(answer: Result<usize, tevrolig::InputRefusal>) -> Answer {
     }
 }
 
-/// The operations of both; neither answers an element where the number names no field.
-fn elements([number, a, b]: [u32; 3]) {
+/// What a C function answers, and leaves in the place that it is lent: done and the value, or why there is none and what stood there before.
+fn stored(value: Option<u32>, none: u32) -> (u32, u32) {
+    value.map_or((none, BEFORE), |value| (0, value))
+}
+
+/// The operations of both; neither answers an element where the number names no field. What the C functions answer and store is then what the elements say.
+fn elements(fences: &mut Fences, [number, a, b]: [u32; 3]) {
     let archive = Field::new(number);
     let elements = archive.map_or([None; 4], |field| {
         let (sum, difference) = (field.sum(a, b), field.difference(a, b));
@@ -219,4 +250,30 @@ fn elements([number, a, b]: [u32; 3]) {
     let turns = archive.map(|field| field.power_turns(a, b));
     let turns = turns.map(|power| (power.element, power.turns));
     assert_eq!(turns, field::power_turns(number, a, b));
+
+    let operations = [
+        tevrolig_sum,
+        tevrolig_difference,
+        tevrolig_product,
+        tevrolig_power,
+    ];
+    for (operation, element) in operations.into_iter().zip(elements) {
+        let place = fences.table.lend(&[BEFORE]);
+        // SAFETY: a place for one word is lent.
+        let answer = unsafe { operation(number, a, b, place.as_mut_ptr()) };
+        assert_eq!((answer, place[0]), stored(element, NO_FIELD));
+    }
+    let place = fences.table.lend(&[BEFORE]);
+    // SAFETY: a place for one word is lent.
+    let answer = unsafe { tevrolig_inverse(number, a, place.as_mut_ptr()) };
+    let reason = inverse.map_or(NO_FIELD, |_| NO_INVERSE);
+    assert_eq!((answer, place[0]), stored(inverse.flatten(), reason));
+    let [element, made, _] = &mut fences.lists;
+    let (element, made) = (element.lend(&[BEFORE]), made.lend(&[BEFORE]));
+    let (at, to) = (element.as_mut_ptr(), made.as_mut_ptr());
+    // SAFETY: two places for one word each are lent.
+    let answer = unsafe { tevrolig_power_turns(number, a, b, at, to) };
+    let due = |part: fn((u32, u32)) -> u32| stored(turns.map(part), NO_FIELD);
+    assert_eq!((answer, element[0]), due(|power| power.0));
+    assert_eq!((answer, made[0]), due(|power| power.1));
 }

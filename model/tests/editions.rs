@@ -5,8 +5,10 @@ mod common;
 
 use common::*;
 use std::collections::BTreeMap;
+use std::ops::Range;
 use tevrolig_model::convert::with_equal_folds;
 use tevrolig_model::generate::{self, Rng};
+use tevrolig_model::layout::Part;
 use tevrolig_model::stream::{read_word, to_blocks};
 use tevrolig_model::{prove, prove_2, verify, verify_2, Answer, Outcome, Verdict};
 
@@ -100,16 +102,25 @@ fn equal_folding_numbers_are_proved_as_in_edition_1() {
     assert!(done > 1000 && refused > 1000, "{done} {refused}");
 }
 
-/// The zero polynomial's file with the final index 0 is one of both editions, as the
-/// words 12 to 17 may be a table's too.
+/// One file is accepted as both editions, with two meanings: its words 12 to 17 are of
+/// table 0 in edition 1 and of the sheet in edition 2.
 #[test]
 fn a_file_of_both_editions() {
-    let mut stream = [0; 127];
-    stream[..7].copy_from_slice(&[0, 8, 2, 2, 0, 1, 1]);
-    stream[17] = 2;
-    let file = to_blocks(&stream);
-    assert_eq!(verdict_line(One, &file), "accepted 0 0 2");
-    assert_eq!(verdict_line(Two, &file), "accepted 0 0 2");
+    let file = include_bytes!("../../crates/check_files/data/both-editions");
+    let meanings = [
+        (One, [0, 0, 0, 0, 0, 2, 1, 5], 3, [13, 16]),
+        (Two, [1, 5, 3, 13, 16, 0, 0, 0], 0, [0, 0]),
+    ];
+    for (edition, table, fold, coefficients) in meanings {
+        let read = |words: Range<usize>| words.map(|word| read_word(file, word)).collect();
+        let sheet: Vec<u32> = read(0..edition.sheet_words());
+        let words = |part| -> Vec<u32> { read(layout(&sheet).range(part)) };
+        assert_eq!(words(Part::Table(0)), table);
+        assert_eq!(words(Part::FoldCoin(0)), [fold]);
+        assert_eq!(words(Part::FinalCoefficients), coefficients);
+        assert_eq!(words(Part::FinalIndices), [0]);
+        assert_eq!(verdict_line(edition, file), "accepted 0 0 2");
+    }
 }
 
 /// But hardly any other is.

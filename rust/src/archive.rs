@@ -25,7 +25,14 @@ pub type Prove = unsafe extern "C" fn(
 /// Converts a file: file and output, each with its length, and the value.
 pub type Convert = unsafe extern "C" fn(*const u8, usize, *mut u8, usize, &mut u64) -> u32;
 
+/// Refers to the function that has the interface's number in its name, whatever else is called: so that this crate does not link with an archive of another
+/// interface.
+#[used]
+static INTERFACE: unsafe extern "C" fn() -> u32 = tevrolig_interface_9;
+
 extern "C" {
+    pub fn tevrolig_interface_9() -> u32;
+
     pub fn tevrolig_verify(file: *const u8, length: usize, place: &mut u64, reads: &mut u64)
         -> u32;
     pub fn tevrolig_verify_2(

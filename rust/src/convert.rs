@@ -18,7 +18,7 @@
 //! assert_eq!(short, Err(ConvertRefusal::OutputBlocks { needed: 1 }));
 //! ```
 
-use crate::{archive, Refusal};
+use crate::{archive, unknown, Refusal};
 use std::fmt::{self, Display, Formatter};
 
 /// Why a file is not converted: the first test that fails, and the first place where it does. Nothing is written then.
@@ -31,6 +31,7 @@ use std::fmt::{self, Display, Formatter};
 /// assert_eq!((refusal.number(), refusal.place()), (13, 2));
 /// ```
 #[derive(Debug, Clone, Copy, PartialEq, Eq, Hash)]
+#[non_exhaustive]
 pub enum ConvertRefusal {
     /// 1 to 6: verify of the file's own edition refuses it so too.
     File(Refusal),
@@ -38,6 +39,8 @@ pub enum ConvertRefusal {
     Folds { round: u64 },
     /// 11: the output has not room for these blocks.
     OutputBlocks { needed: u64 },
+    /// Another number, with its place: a test that this crate has no name for.
+    Unknown { number: u32, place: u64 },
 }
 
 impl ConvertRefusal {
@@ -47,6 +50,7 @@ impl ConvertRefusal {
             ConvertRefusal::File(refusal) => refusal.number(),
             ConvertRefusal::Folds { .. } => 13,
             ConvertRefusal::OutputBlocks { .. } => 11,
+            ConvertRefusal::Unknown { number, .. } => number,
         }
     }
 
@@ -56,6 +60,17 @@ impl ConvertRefusal {
             ConvertRefusal::File(refusal) => refusal.place(),
             ConvertRefusal::Folds { round } => round,
             ConvertRefusal::OutputBlocks { needed } => needed,
+            ConvertRefusal::Unknown { place, .. } => place,
+        }
+    }
+
+    /// The answer of the archive, which is proved to be one of the numbers named here.
+    pub(crate) fn from_answer(number: u32, place: u64) -> ConvertRefusal {
+        match number {
+            1..=6 => ConvertRefusal::File(Refusal::from_answer(number, place)),
+            11 => ConvertRefusal::OutputBlocks { needed: place },
+            13 => ConvertRefusal::Folds { round: place },
+            _ => ConvertRefusal::Unknown { number, place },
         }
     }
 }
@@ -70,6 +85,7 @@ impl Display for ConvertRefusal {
             ConvertRefusal::OutputBlocks { needed } => {
                 write!(f, "the output is too short for the blocks needed: {needed}")
             }
+            ConvertRefusal::Unknown { number, place } => unknown(f, number, place),
         }
     }
 }
@@ -87,7 +103,8 @@ pub fn to_edition_1(file: &[u8], output: &mut [u8]) -> Result<usize, ConvertRefu
     converted(archive::tevrolig_to_edition_1, file, output)
 }
 
-fn converted(
+/// Converts a file in the way whose function this is.
+pub(crate) fn converted(
     convert: archive::Convert,
     file: &[u8],
     output: &mut [u8],
@@ -105,9 +122,6 @@ fn converted(
     };
     match number {
         0 => Ok(value as usize),
-        11 => Err(ConvertRefusal::OutputBlocks { needed: value }),
-        13 => Err(ConvertRefusal::Folds { round: value }),
-        // The archive is proved to answer 1 to 6 besides.
-        _ => Err(ConvertRefusal::File(Refusal::from_answer(number, value))),
+        _ => Err(ConvertRefusal::from_answer(number, value)),
     }
 }

@@ -23,6 +23,9 @@ use std::fmt::{self, Display, Formatter};
 #[derive(Debug, Clone, Copy, PartialEq, Eq, Hash)]
 pub struct Field(u32);
 
+/// What stands where the archive writes no element: no element of any field. It is proved to write one for each `Field`, and the inverse of all but 0.
+const NO_ELEMENT: u32 = u32::MAX;
+
 /// A power, and the turns of the loop that gave it.
 #[derive(Debug, Clone, Copy, PartialEq, Eq, Hash)]
 pub struct Powered {
@@ -39,10 +42,10 @@ impl Field {
     /// ```
     #[must_use]
     pub fn new(number: u32) -> Option<Field> {
-        let mut element = 0;
+        let mut element = NO_ELEMENT;
         // SAFETY: as the archive's module says.
-        let named = unsafe { archive::tevrolig_sum(number, 0, 0, &mut element) } == 1;
-        named.then_some(Field(number))
+        let answer = unsafe { archive::tevrolig_sum(number, 0, 0, &mut element) };
+        (answer == 0).then_some(Field(number))
     }
 
     /// Its number.
@@ -54,7 +57,7 @@ impl Field {
     /// p: the largest element, which is -1, and one more.
     #[must_use]
     pub fn prime(self) -> u32 {
-        self.difference(0, 1) + 1
+        self.difference(0, 1).wrapping_add(1)
     }
 
     /// a + b.
@@ -84,22 +87,19 @@ impl Field {
     /// The same power, with the turns that it took: as many as the exponent has binary digits, none for 0.
     #[must_use]
     pub fn power_turns(self, a: u32, exponent: u32) -> Powered {
-        let (mut element, mut turns) = (0, 0);
+        let (mut element, mut turns) = (NO_ELEMENT, 0);
         // SAFETY: as the archive's module says.
-        let named =
-            unsafe { archive::tevrolig_power_turns(self.0, a, exponent, &mut element, &mut turns) };
-        debug_assert_eq!(named, 1);
+        unsafe { archive::tevrolig_power_turns(self.0, a, exponent, &mut element, &mut turns) };
         Powered { element, turns }
     }
 
     /// The inverse of a; there is none exactly for 0.
     #[must_use]
     pub fn inverse(self, a: u32) -> Option<u32> {
-        let mut element = 0;
+        let mut element = NO_ELEMENT;
         // SAFETY: as the archive's module says.
         let answer = unsafe { archive::tevrolig_inverse(self.0, a, &mut element) };
-        debug_assert_ne!(answer, 0);
-        (answer == 1).then_some(element)
+        (answer == 0).then_some(element)
     }
 
     /// The element of an operation on two words. It finds its field, since a number that names none makes no `Field`.
@@ -109,10 +109,9 @@ impl Field {
         a: u32,
         b: u32,
     ) -> u32 {
-        let mut element = 0;
+        let mut element = NO_ELEMENT;
         // SAFETY: as the archive's module says.
-        let named = unsafe { operation(self.0, a, b, &mut element) };
-        debug_assert_eq!(named, 1);
+        unsafe { operation(self.0, a, b, &mut element) };
         element
     }
 }
@@ -120,5 +119,31 @@ impl Field {
 impl Display for Field {
     fn fmt(&self, f: &mut Formatter) -> fmt::Result {
         write!(f, "field {} (p = {})", self.0, self.prime())
+    }
+}
+
+#[cfg(test)]
+mod tests {
+    use super::*;
+
+    extern "C" fn refused(_: u32, _: u32, _: u32, _: &mut u32) -> u32 {
+        77
+    }
+
+    /// An operation of which no element comes is taken for no element, whatever number it answers.
+    #[test]
+    fn what_is_not_written_is_no_element() {
+        for number in 0..3 {
+            assert_eq!(Field(number).apply(refused, 1, 1), NO_ELEMENT);
+        }
+        // No `Field` has this number; in all that is asked of it the archive refuses.
+        let none = Field(3);
+        let (sum, difference) = (none.sum(1, 1), none.difference(1, 1));
+        let elements = [sum, difference, none.product(1, 1), none.power(1, 1)];
+        assert_eq!(elements, [NO_ELEMENT; 4]);
+        let powered = none.power_turns(1, 1);
+        assert_eq!((powered.element, powered.turns), (NO_ELEMENT, 0));
+        assert_eq!(none.inverse(1), None);
+        assert_eq!(none.to_string(), "field 3 (p = 0)");
     }
 }

@@ -26,9 +26,15 @@
 //!
 //! [`verify`] may be asked in two steps: [`read`] where a file comes in, and [`decide`] where it counts.
 //!
+//! An answer of the archive that has no name here is a value too (`Unknown`, with its number and place), and no panic. With an archive of another interface than
+//! this crate's, `rustc` does not link: it misses `tevrolig_interface_9`. `CHANGELOG.md` says what to change from one version to the next.
+//!
 //! What stands here is for files of edition 1. [`edition2`] has verify, its two steps and prove for edition 2, with a folding number for each round,
-//! and [`convert`] the way from one to the other.
+//! and [`convert`] the way from one to the other. **The edition, and each kind of file that a request adds, is fixed outside the file:** never try one
+//! and then the other, since one file may be accepted as both with two meanings.
 
+#[cfg(test)]
+mod any_answer;
 mod archive;
 pub mod convert;
 pub mod edition2;
@@ -42,7 +48,7 @@ pub use prove::{encode, prove, InputRefusal};
 pub use steps::{decide, read};
 pub use verdict::{place_sheet, sheet_of, verify, word, Outcome, Refusal, Verdict};
 
-/// The version of this interface, which is the header's `TEVROLIG_VERSION`.
+/// The version, which is the header's `TEVROLIG_VERSION`. Its second number is the interface's.
 pub const VERSION: &str = env!("CARGO_PKG_VERSION");
 
 /// Bytes of a block: its words and a check word.
@@ -81,6 +87,15 @@ const SHEET_NAMES: [&str; edition2::SHEET_WORDS] = [
 
 /// A sheet word's refusal in words, which verify, prove and encode have in common.
 fn broken_sheet(f: &mut std::fmt::Formatter, word: u64) -> std::fmt::Result {
-    let name = SHEET_NAMES[word as usize];
-    write!(f, "word {word} of the sheet ({name}) breaks its rule")
+    write!(f, "word {word} of the sheet ")?;
+    let place = usize::try_from(word).ok();
+    if let Some(name) = place.and_then(|place| SHEET_NAMES.get(place)) {
+        write!(f, "({name}) ")?;
+    }
+    write!(f, "breaks its rule")
+}
+
+/// A refusal in words that has no name here.
+fn unknown(f: &mut std::fmt::Formatter, number: u32, place: u64) -> std::fmt::Result {
+    write!(f, "refusal {number} at {place}, which has no name here")
 }

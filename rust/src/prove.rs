@@ -1,6 +1,6 @@
 //! The prover: what it writes, and why an input is refused.
 
-use crate::{archive, broken_sheet};
+use crate::{archive, broken_sheet, unknown};
 use std::fmt::{self, Display, Formatter};
 
 /// Why prove or encode refuses an input: the first test that fails, and the first place where it does. Nothing is written then.
@@ -13,6 +13,7 @@ use std::fmt::{self, Display, Formatter};
 /// assert_eq!((refusal.number(), refusal.place()), (7, 1));
 /// ```
 #[derive(Debug, Clone, Copy, PartialEq, Eq, Hash)]
+#[non_exhaustive]
 pub enum InputRefusal {
     /// 10 at 0: the sheet has not 12 words.
     SheetLength,
@@ -34,6 +35,8 @@ pub enum InputRefusal {
     OutputBlocks { needed: u64 },
     /// 11 of encode: the output has not room for these words.
     OutputWords { needed: u64 },
+    /// Another number, with its place: a test that this crate has no name for.
+    Unknown { number: u32, place: u64 },
 }
 
 impl InputRefusal {
@@ -49,6 +52,7 @@ impl InputRefusal {
             InputRefusal::OutCoin { .. } => 7,
             InputRefusal::EqualOut { .. } => 14,
             InputRefusal::OutputBlocks { .. } | InputRefusal::OutputWords { .. } => 11,
+            InputRefusal::Unknown { number, .. } => number,
         }
     }
 
@@ -63,10 +67,11 @@ impl InputRefusal {
             | InputRefusal::OutCoin { position }
             | InputRefusal::EqualOut { position } => position,
             InputRefusal::OutputBlocks { needed } | InputRefusal::OutputWords { needed } => needed,
+            InputRefusal::Unknown { place, .. } => place,
         }
     }
 
-    /// The answer of the archive, which is proved to be one of these. How long a sheet is and what an 11 counts are for the operation to say.
+    /// The answer of the archive, which is proved to be one of the numbers named here. How long a sheet is and what an 11 counts are for the operation to say.
     fn from_answer(
         number: u32,
         place: u64,
@@ -82,7 +87,7 @@ impl InputRefusal {
             (7, position) => InputRefusal::OutCoin { position },
             (14, position) => InputRefusal::EqualOut { position },
             (11, needed) => output(needed),
-            _ => unreachable!("an input was answered {number} {place}"),
+            _ => InputRefusal::Unknown { number, place },
         }
     }
 }
@@ -121,6 +126,7 @@ impl Display for InputRefusal {
             InputRefusal::OutputWords { needed } => {
                 write!(f, "the output is too short for the words needed: {needed}")
             }
+            InputRefusal::Unknown { number, place } => unknown(f, number, place),
         }
     }
 }
@@ -230,7 +236,7 @@ pub fn encode(
 }
 
 /// Done with a number of blocks or words, or refused.
-fn answered(
+pub(crate) fn answered(
     number: u32,
     value: u64,
     sheet_length: InputRefusal,

@@ -1,6 +1,6 @@
 //! The verifier: verdicts, and the words that they are about.
 
-use crate::{archive, broken_sheet, SHEET_WORDS};
+use crate::{archive, broken_sheet, unknown, SHEET_WORDS};
 use std::fmt::{self, Display, Formatter};
 
 /// Why a file is refused: the first test that fails, and the first place where it does.
@@ -15,6 +15,7 @@ use std::fmt::{self, Display, Formatter};
 /// assert_eq!((Refusal::Check { block: 2 }.number(), Refusal::Check { block: 2 }.place()), (2, 2));
 /// ```
 #[derive(Debug, Clone, Copy, PartialEq, Eq, Hash)]
+#[non_exhaustive]
 pub enum Refusal {
     /// 1: the file is empty, or its length is no multiple of 512 bytes.
     Length,
@@ -36,6 +37,8 @@ pub enum Refusal {
     Clash { round: u64 },
     /// 9: the final polynomial differs from the fold at the point of the final index at this position.
     Final { position: u64 },
+    /// Another number, with its place: a test that this crate has no name for.
+    Unknown { number: u32, place: u64 },
 }
 
 impl Refusal {
@@ -52,6 +55,7 @@ impl Refusal {
             Refusal::EqualOut { .. } => 14,
             Refusal::Clash { .. } => 8,
             Refusal::Final { .. } => 9,
+            Refusal::Unknown { number, .. } => number,
         }
     }
 
@@ -68,23 +72,24 @@ impl Refusal {
             | Refusal::EqualOut { word } => word,
             Refusal::Clash { round } => round,
             Refusal::Final { position } => position,
+            Refusal::Unknown { place, .. } => place,
         }
     }
 
-    /// The answer of the archive, which is proved to be one of these.
+    /// The answer of the archive, which is proved to be one of the numbers named here.
     pub(crate) fn from_answer(number: u32, place: u64) -> Refusal {
-        match number {
-            1 => Refusal::Length,
-            2 => Refusal::Check { block: place },
-            3 => Refusal::Sheet { word: place },
-            4 => Refusal::Blocks { needed: place },
-            5 => Refusal::Range { word: place },
-            6 => Refusal::Fill { word: place },
-            7 => Refusal::OutCoin { word: place },
-            8 => Refusal::Clash { round: place },
-            9 => Refusal::Final { position: place },
-            14 => Refusal::EqualOut { word: place },
-            _ => unreachable!("a file was answered {number} {place}"),
+        match (number, place) {
+            (1, 0) => Refusal::Length,
+            (2, block) => Refusal::Check { block },
+            (3, word) => Refusal::Sheet { word },
+            (4, needed) => Refusal::Blocks { needed },
+            (5, word) => Refusal::Range { word },
+            (6, word) => Refusal::Fill { word },
+            (7, word) => Refusal::OutCoin { word },
+            (8, round) => Refusal::Clash { round },
+            (9, position) => Refusal::Final { position },
+            (14, word) => Refusal::EqualOut { word },
+            _ => Refusal::Unknown { number, place },
         }
     }
 }
@@ -125,14 +130,16 @@ impl Display for Refusal {
                 f,
                 "the final polynomial differs from the fold at position {position} of the final indices"
             ),
+            Refusal::Unknown { number, place } => unknown(f, number, place),
         }
     }
 }
 
 impl std::error::Error for Refusal {}
 
-/// Accepted, or refused.
+/// Accepted, or refused; [`Outcome::result`] takes it apart.
 #[derive(Debug, Clone, Copy, PartialEq, Eq, Hash)]
+#[non_exhaustive]
 pub enum Outcome {
     Accepted,
     Refused(Refusal),
@@ -250,9 +257,8 @@ pub(crate) fn verify_with(verify: archive::Verify, file: &[u8]) -> Verdict {
 pub fn word(file: &[u8], number: u64) -> Option<u32> {
     let mut word = 0;
     // SAFETY: as the archive's module says.
-    let found =
-        unsafe { archive::tevrolig_word(file.as_ptr(), file.len(), number, &mut word) } == 1;
-    found.then_some(word)
+    let answer = unsafe { archive::tevrolig_word(file.as_ptr(), file.len(), number, &mut word) };
+    (answer == 0).then_some(word)
 }
 
 /// The sheet that a file holds, verified or not: the words 0 to 11 of its stream. Nothing where the file has less than one block.

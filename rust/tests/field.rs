@@ -6,7 +6,10 @@ use tevrolig_model::generate::Rng;
 
 const PRIMES: [u32; 3] = [17, 65537, 2013265921];
 
-// As the header has them, for the numbers that make no `Field`.
+// As the header has them: why nothing is written, and the functions, for the numbers that make no `Field`.
+const NO_FIELD: u32 = 100;
+const NO_INVERSE: u32 = 101;
+
 extern "C" {
     fn tevrolig_sum(field: u32, a: u32, b: u32, element: &mut u32) -> u32;
     fn tevrolig_difference(field: u32, a: u32, b: u32, element: &mut u32) -> u32;
@@ -29,6 +32,22 @@ fn words(rng: &mut Rng, p: u32, others: usize) -> Vec<u32> {
     words.extend((0..others).map(|_| rng.word()));
     words.extend((0..others).map(|_| rng.below(u64::from(p)) as u32));
     words
+}
+
+/// What each operation answers in C, with what stood in its place before and stands there after.
+fn written(number: u32, a: u32, b: u32, before: u32) -> [(u32, u32); 4] {
+    [
+        tevrolig_sum,
+        tevrolig_difference,
+        tevrolig_product,
+        tevrolig_power,
+    ]
+    .map(|operation| {
+        let mut element = before;
+        // The operations write one word at most.
+        let answer = unsafe { operation(number, a, b, &mut element) };
+        (answer, element)
+    })
 }
 
 /// A test of one pair of words in one field: every operation is the one of whole numbers modulo p, and the model's.
@@ -58,6 +77,13 @@ fn operations(number: u32, a: u32, b: u32) {
         "{what}"
     );
     assert_eq!(Some(field.inverse(a)), field::inverse(number, a), "{what}");
+    let (sum, difference) = (field.sum(a, b), field.difference(a, b));
+    let elements = [sum, difference, field.product(a, b), field.power(a, b)];
+    assert_eq!(
+        written(number, a, b, !b),
+        elements.map(|x| (0, x)),
+        "{what}"
+    );
     let one = field.inverse(a).map(|found| field.product(a, found));
     assert_eq!(one, (modulo(x) != 0).then_some(1), "{what}");
 }
@@ -123,22 +149,24 @@ fn powers_of_whole_numbers() {
 fn no_inverse_for_zero() {
     let answer = |number, a| {
         let mut element = 7;
-        // The operation writes one word.
+        // The operation writes one word at most.
         let answer = unsafe { tevrolig_inverse(number, a, &mut element) };
         (answer, element)
     };
+    // Where there is none the place keeps its 7.
     for (number, p) in (0..).zip(PRIMES) {
         let field = Field::new(number).unwrap();
         for a in [0, p, 2 * p] {
-            assert_eq!((answer(number, a), field.inverse(a)), ((2, 0), None));
+            assert_eq!(answer(number, a), (NO_INVERSE, 7));
+            assert_eq!(field.inverse(a), None);
         }
         for a in [1, p + 1] {
-            assert_eq!((answer(number, a), field.inverse(a)), ((1, 1), Some(1)));
+            assert_eq!((answer(number, a), field.inverse(a)), ((0, 1), Some(1)));
         }
-        assert_eq!(answer(number, p - 1), (1, p - 1));
+        assert_eq!(answer(number, p - 1), (0, p - 1));
     }
     for a in [0, 1, 17, u32::MAX] {
-        assert_eq!(answer(3, a), (0, 0));
+        assert_eq!(answer(3, a), (NO_FIELD, 7));
     }
 }
 
@@ -184,11 +212,12 @@ fn turns_of_other_exponents() {
 fn other_numbers_have_no_turns() {
     for number in (3..1000).chain([17, 65537, 1 << 31, u32::MAX - 1, u32::MAX]) {
         for exponent in [0, 1, 5, 4095, u32::MAX] {
-            let (mut element, mut turns) = (7, 7);
-            // Two words are written.
-            let named =
+            let (mut element, mut turns) = (7, 8);
+            // Two words are written at most.
+            let answer =
                 unsafe { tevrolig_power_turns(number, 5, exponent, &mut element, &mut turns) };
-            assert_eq!((named, element, turns), (0, 0, 0), "{number}, {exponent}");
+            let what = format!("{number}, {exponent}");
+            assert_eq!((answer, element, turns), (NO_FIELD, 7, 8), "{what}");
         }
     }
 }
@@ -198,10 +227,11 @@ fn other_numbers_name_no_field() {
     for number in (3..1000).chain([17, 65537, 1 << 31, u32::MAX - 1, u32::MAX]) {
         assert_eq!(Field::new(number), None);
         for (a, b) in [(0, 0), (1, 1), (5, 7), (u32::MAX, u32::MAX)] {
-            let mut elements = [7; 5];
+            let before = [7, 8, 9, 10, u32::MAX];
+            let mut elements = before;
             let [sum, difference, product, power, inverse] = &mut elements;
-            // The five operations write one word each.
-            let named = unsafe {
+            // The five operations write one word each at most.
+            let answers = unsafe {
                 [
                     tevrolig_sum(number, a, b, sum),
                     tevrolig_difference(number, a, b, difference),
@@ -210,7 +240,8 @@ fn other_numbers_name_no_field() {
                     tevrolig_inverse(number, a, inverse),
                 ]
             };
-            assert_eq!((named, elements), ([0; 5], [0; 5]), "{number}, {a}, {b}");
+            let what = format!("{number}, {a}, {b}");
+            assert_eq!((answers, elements), ([NO_FIELD; 5], before), "{what}");
         }
     }
 }

@@ -79,6 +79,15 @@ fn refusals_of_verify() {
             4,
             "the final polynomial differs from the fold at position 4 of the final indices",
         ),
+        (
+            Refusal::Unknown {
+                number: 77,
+                place: 5,
+            },
+            77,
+            5,
+            "refusal 77 at 5, which has no name here",
+        ),
     ];
     for (refusal, number, place, text) in all {
         let error: &dyn Error = &refusal;
@@ -173,6 +182,15 @@ fn refusals_of_inputs() {
             16,
             "the output is too short for the words needed: 16",
         ),
+        (
+            InputRefusal::Unknown {
+                number: 77,
+                place: 5,
+            },
+            77,
+            5,
+            "refusal 77 at 5, which has no name here",
+        ),
     ];
     for (refusal, number, place, text) in all {
         let error: &dyn Error = &refusal;
@@ -189,6 +207,10 @@ fn words_of_the_longer_sheet() {
         assert_eq!(Refusal::Sheet { word }.to_string(), text);
         assert_eq!(InputRefusal::Sheet { word }.to_string(), text);
     }
+    // No sheet has such a word.
+    let word = u64::MAX;
+    let text = format!("word {word} of the sheet breaks its rule");
+    assert_eq!(Refusal::Sheet { word }.to_string(), text);
 }
 
 #[test]
@@ -217,6 +239,15 @@ fn refusals_of_the_converter() {
             11,
             67,
             "the output is too short for the blocks needed: 67",
+        ),
+        (
+            ConvertRefusal::Unknown {
+                number: 77,
+                place: 5,
+            },
+            77,
+            5,
+            "refusal 77 at 5, which has no name here",
         ),
     ];
     for (refusal, number, place, text) in all {

@@ -8,6 +8,13 @@ fn words(file: &[u8]) -> u64 {
     127 * (file.len() as u64 / 512)
 }
 
+// As the header has them.
+const NO_WORD: u32 = 102;
+
+extern "C" {
+    fn tevrolig_word(file: *const u8, length: usize, number: u64, word: &mut u32) -> u32;
+}
+
 fn expected(file: &[u8], number: u64) -> Option<u32> {
     (number < words(file)).then(|| read_word(file, number as usize))
 }
@@ -27,6 +34,23 @@ fn every_word_of_files_of_every_length() {
                 expected(file, number),
                 "word {number} of {length} bytes"
             );
+        }
+    }
+}
+
+#[test]
+fn a_word_that_is_not_there_is_not_written() {
+    let file = random_file(&mut Rng::new(4), 1100);
+    for length in 0..=file.len() {
+        let file = &file[..length];
+        for number in [0, 126, 127, 253, 254, u64::MAX] {
+            for before in [0, 7, u32::MAX] {
+                let mut word = before;
+                // SAFETY: the file is a slice, and one word is written at most.
+                let answer = unsafe { tevrolig_word(file.as_ptr(), length, number, &mut word) };
+                let due = expected(file, number).map_or((NO_WORD, before), |word| (0, word));
+                assert_eq!((answer, word), due, "word {number} of {length} bytes");
+            }
         }
     }
 }

@@ -1,6 +1,7 @@
-// Judges each file that the arguments name, one line each.
+// Judges each file that the arguments name, one line each. A file that cannot be read has no line.
 use edition::Edition;
 
+// Judges the file that argument i names. The answer is whether there is such an argument.
 fn one(i: usize) -> bool {
     let mut path = io::buffer();
     let length = os::arg(i, &mut path);
@@ -9,7 +10,8 @@ fn one(i: usize) -> bool {
     }
     let fd = os::open_read(&path[..length]);
     if fd < 0 {
-        return false;
+        input::not_read();
+        return true;
     }
     report::check(Edition::One, fd);
     libc::close(fd);

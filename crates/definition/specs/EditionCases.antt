@@ -4,7 +4,9 @@ use mathlib.Core.Path.{_≡_, refl}
 use mathlib.Core.List.{List, [], _∷_, _++_}
 use lib.ListN.{take, drop, set, replicate}
 use Rattle.definition.specs.Block.{fileOf}
-use Rattle.definition.specs.Sheet.{edition2}
+use Rattle.definition.specs.Sheet.{edition1, edition2, sheetOf}
+use Rattle.definition.specs.Transcript.{final}
+use Rattle.definition.specs.Layout.{readTranscript}
 use Rattle.definition.specs.Verdict.{accepted, refused}
 use Rattle.definition.specs.Reading.{sheetTest}
 use Rattle.definition.specs.Verify.{verifyIn}
@@ -39,6 +41,14 @@ largeFirst = 1 ∷ 64 ∷ 32 ∷ 8 ∷ 1 ∷ 1 ∷ 2 ∷ 1 ∷ 0 ∷ 0 ∷ 0 ∷
 
 abbrev threeFolds : List ℕ
 threeFolds = 1 ∷ 64 ∷ 32 ∷ 2 ∷ 2 ∷ 1 ∷ 14 ∷ 2 ∷ 1 ∷ 0 ∷ 0 ∷ 0 ∷ 4 ∷ 2 ∷ 0 ∷ 0 ∷ 0 ∷ 2 ∷ []
+
+-- One stream of both editions, with two meanings. Edition 1 has table 0 at the words 12 to 19, the fold coin at 20, final coefficients 21 22, final index 23, and
+-- fill from 24 on; edition 2 has the words 12 to 17 in its sheet, table 0 at 18 to 25, the fold coin at 26, final coefficients 27 28, final index 29.
+abbrev bothEditions : List ℕ
+bothEditions =
+    0 ∷ 8 ∷ 4 ∷ 2 ∷ 0 ∷ 1 ∷ 1 ∷ 0 ∷ 0 ∷ 0 ∷ 0 ∷ 0
+    ∷ 0 ∷ 0 ∷ 0 ∷ 0 ∷ 0 ∷ 2
+    ∷ 1 ∷ 5 ∷ 3 ∷ 13 ∷ 16 ∷ 0 ∷ 0 ∷ 0 ∷ 0 ∷ 0 ∷ 0 ∷ 0 ∷ []
 
 pub record EditionCases : Type 0 where
   -- the rules of words 12 to 17, tested after word 5 and before word 6
@@ -76,6 +86,19 @@ pub record EditionCases : Type 0 where
   pub mixed·index : verifyIn edition2 (fileOf (set mixed 51 2)) ≡ refuse 5 51 0
   pub prove·18 : proveIn edition2 sheetWords coefficients coins (replicate 512 7) ≡ kept 10 0 (replicate 512 7)
   pub prove·equal·outs : proveIn edition2 (take 18 twoOuts2) oneToEight (2 ∷ 0 ∷ 0 ∷ 2 ∷ 4 ∷ 5 ∷ 1 ∷ 2 ∷ []) [] ≡ kept 14 2 []
+  -- a file that both editions accept, each as another transcript: other tables, fold coins and final coefficients. So the edition is fixed outside the file
+  pub both·as·1 : verifyIn edition1 (fileOf bothEditions) ≡ accept 2
+  pub both·as·2 : verifyIn edition2 (fileOf bothEditions) ≡ accept 2
+  pub both·read·as·1 : readTranscript (sheetOf edition1 bothEditions) (drop 12 bothEditions) ≡ record {
+    table = 0 ∷ 0 ∷ 0 ∷ 0 ∷ 0 ∷ 2 ∷ 1 ∷ 5 ∷ [];
+    fold = 3;
+    rest = final (13 ∷ 16 ∷ []) (0 ∷ []);
+  }
+  pub both·read·as·2 : readTranscript (sheetOf edition2 bothEditions) (drop 18 bothEditions) ≡ record {
+    table = 1 ∷ 5 ∷ 3 ∷ 13 ∷ 16 ∷ 0 ∷ 0 ∷ 0 ∷ [];
+    fold = 0;
+    rest = final (0 ∷ 0 ∷ []) (0 ∷ []);
+  }
   -- the converter, which looks at no out coin
   pub forth : toEdition2 file (replicate 513 7) ≡ record { answer = done 1; output = fileOf stream2 ++ (7 ∷ []) }
   pub forth·equal·outs : toEdition2 (fileOf (set twoOuts 38 0)) (replicate 512 7) ≡ record { answer = done 1; output = fileOf (set twoOuts2 44 0) }
@@ -120,6 +143,10 @@ editionCases = record {
   mixed·index = refl;
   prove·18 = refl;
   prove·equal·outs = refl;
+  both·as·1 = refl;
+  both·as·2 = refl;
+  both·read·as·1 = refl;
+  both·read·as·2 = refl;
   forth = refl;
   forth·equal·outs = refl;
   forth·short = refl;

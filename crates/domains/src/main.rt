@@ -1,13 +1,17 @@
 // The program `domains`: reads a sheet on standard input, as words, and prints whether it keeps its rules and, where it does, its evaluation domains.
+use input::Input;
 use libc::STDIN_FILENO;
 use libc::STDOUT_FILENO;
 ghost use Prim.Native.Nat.{_≤_};
 
 fn main() {
     let mut bytes = [0u8; 16384];
-    let n = io::read_full(STDIN_FILENO, &mut bytes);
+    let Input::Bytes(n) = input::fill(STDIN_FILENO, &mut bytes) else {
+        input::not_read();
+        return;
+    };
     let mut out = [0u8; 131072];
-    let length = listing::output(&bytes[..n], &mut out);
+    let length = listing::output(input::front(&bytes, n), &mut out);
     send(&out, length);
 }
 

@@ -1,4 +1,5 @@
--- What the program `domains` prints: whether a sheet keeps its rules and, where it does, its evaluation domains, level by level. Texts are in ASCII.
+-- What the programs `domains` and `domains2` print: whether a sheet of their edition keeps its rules and, where it does, its evaluation domains, level by level.
+-- Texts are in ASCII.
 use Prim.Native.Nat.{ℕ}
 use mathlib.Core.List.{List, [], _∷_, _++_, flatMap}
 use Rattle.definition.specs.Domain.{domain}
@@ -6,7 +7,7 @@ use Rattle.definition.specs.Field.{primeField}
 use Rattle.definition.specs.Line.{decimal, refusalLine}
 use Rattle.definition.specs.Prove.{sheetLengthTest}
 use Rattle.definition.specs.Reading.{sheetTest}
-use Rattle.definition.specs.Sheet.{Level, Sheet, edition1, firstLevel, laterLevels, rootOfUnity, sheetOf}
+use Rattle.definition.specs.Sheet.{Edition, Level, Sheet, firstLevel, laterLevels, rootOfUnity, sheetOf}
 use Rattle.definition.specs.Verdict.{Outcome, accepted, refused, _then_}
 use Rattle.word_input.specs.Input.{taken, wholeWordsTest, wordsOf}
 
@@ -39,10 +40,10 @@ unfoldable pub textAfter : Outcome → List ℕ → List ℕ
 textAfter accepted text = text
 textAfter (refused number place) text = refusalLine number place
 
--- of a sheet of edition 1, given as its words
-unfoldable pub sheetListing : List ℕ → List ℕ
-sheetListing w = textAfter (sheetLengthTest edition1 w then sheetTest edition1 w) (domainsText (sheetOf edition1 w))
+-- of a sheet of an edition, given as its words
+unfoldable pub sheetListing : Edition → List ℕ → List ℕ
+sheetListing e w = textAfter (sheetLengthTest e w then sheetTest e w) (domainsText (sheetOf e w))
 
--- of the bytes that the program reads: all their words are the sheet
-unfoldable pub listing : List ℕ → List ℕ
-listing bytes = textAfter (wholeWordsTest (taken bytes)) (sheetListing (wordsOf (taken bytes)))
+-- of the bytes that the edition's program reads: all their words are the sheet
+unfoldable pub listing : Edition → List ℕ → List ℕ
+listing e bytes = textAfter (wholeWordsTest (taken bytes)) (sheetListing e (wordsOf (taken bytes)))

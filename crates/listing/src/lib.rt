@@ -1,4 +1,4 @@
-// What the program `domains` prints of a sheet, as bytes.
+// What the programs `domains` and `domains2` print of a sheet, as bytes.
 use edition::Edition;
 use line::Line;
 use outcome::Answer;
@@ -6,13 +6,13 @@ use outcome::Outcome;
 ghost use mathlib.Core.Path.{_≡_};
 ghost use mathlib.Core.List.{[], _∷_, _++_, flatMap};
 ghost use Prim.Native.Nat.{_+_, _*_, _/_, _≤_, _<_};
-ghost use lib.ListN.{length, take};
-ghost use Rattle.definition.specs.Reading.{sheetTest};
-ghost use Rattle.definition.specs.Sheet.{edition1, sheetOf};
-ghost use Rattle.definition.specs.Verdict.{accepted};
+ghost use lib.ListN.{length, getD, take};
+ghost use Rattle.definition.specs.Sheet.{edition1, edition2};
+ghost use Rattle.domain.specs.Powers.{Fitting};
+ghost use Rattle.edition.specs.Meaning.{editionOf};
 ghost use Rattle.line.specs.Text.{Holds};
-ghost use Rattle.listing.specs.Listing.{domainsText, headText, listing, pointText, sheetListing};
-ghost use Rattle.listing.specs.Table.{lineAt, linesFrom, pointsFrom};
+ghost use Rattle.listing.specs.Listing.{headText, listing, pointText, sheetListing};
+ghost use Rattle.listing.specs.Table.{ListingOf, lineAt, linesFrom, pointsFrom};
 
 // A blank and a point.
 fn point(x: u32) -> Line
@@ -80,10 +80,10 @@ fn domain_lines(pw: &[u32], rounds: usize, at: usize, out: &mut [u8; 131072]) ->
     place
 }
 
-// The listing of a sheet w that passes.
+// The listing of a sheet w that passes, of either edition: its points go by words 0 and 1, and its lines by word 4.
 fn kept(w: &[u32], out: &mut [u8; 131072]) -> usize
-    requires { ⌜ (12 ≤ length (now w)) × (sheetTest edition1 (now w) ≡ accepted) ⌝ }
-    ensures { λ r. ⌜ take r (now (out .exit)) ≡ domainsText (sheetOf edition1 (now (w .entry))) ⌝ }
+    requires { ⌜ (12 ≤ length (now w)) × ((Fitting (getD (now w) 0 0) (getD (now w) 1 0)) × (getD (now w) 4 0 ≤ 5)) ⌝ }
+    ensures { λ r. ⌜ ListingOf (now (w .entry)) (take r (now (out .exit))) ⌝ }
     ensures { λ r. ⌜ r ≤ 131072 ⌝ }
 {
     let mut pw = [0u32; domain::POINTS];
@@ -93,28 +93,44 @@ fn kept(w: &[u32], out: &mut [u8; 131072]) -> usize
     domain_lines(&pw[..size], rounds, begun, out)
 }
 
-// The listing of the first `count` words.
-fn of_words(words: &[u32; 4096], count: usize, out: &mut [u8; 131072]) -> usize
-    ensures { λ r. ⌜ take r (now (out .exit)) ≡ sheetListing (take count (now (words .entry))) ⌝ }
+// The listing of the first `count` words as a sheet of the edition.
+fn of_words(e: Edition, words: &[u32; 4096], count: usize, out: &mut [u8; 131072]) -> usize
+    ensures { λ r. ⌜ take r (now (out .exit)) ≡ sheetListing (editionOf e) (take count (now (words .entry))) ⌝ }
     ensures { λ r. ⌜ r ≤ 131072 ⌝ }
 {
     let w = word_input::front(words, count);
-    let tests = input_tests::sheet_tests(Edition::One, w);
+    let tests = input_tests::sheet_tests(e, w);
     match tests {
         Outcome::Accepted => kept(w, out),
         Outcome::Refused(number, place) => line::write(line::of_refusal(number, place), 0, out),
     }
 }
 
-// What the program prints on an input, all of whose words are the sheet; answers its length.
-pub fn output(bytes: &[u8], out: &mut [u8; 131072]) -> usize
-    ensures { λ r. ⌜ take r (now (out .exit)) ≡ listing (now (bytes .entry)) ⌝ }
+// The listing of an input, all of whose words are a sheet of the edition; answers its length.
+fn output_in(e: Edition, bytes: &[u8], out: &mut [u8; 131072]) -> usize
+    ensures { λ r. ⌜ take r (now (out .exit)) ≡ listing (editionOf e) (now (bytes .entry)) ⌝ }
     ensures { λ r. ⌜ r ≤ 131072 ⌝ }
 {
     let mut room = [0u32; 4096];
     let read = word_input::words(bytes, &mut room);
     match read {
-        Answer::Done(count) => of_words(&room, count, out),
+        Answer::Done(count) => of_words(e, &room, count, out),
         Answer::Refusal(number, place) => line::write(line::of_refusal(number, place), 0, out),
     }
+}
+
+// What the program `domains` prints on an input; answers its length.
+pub fn output(bytes: &[u8], out: &mut [u8; 131072]) -> usize
+    ensures { λ r. ⌜ take r (now (out .exit)) ≡ listing edition1 (now (bytes .entry)) ⌝ }
+    ensures { λ r. ⌜ r ≤ 131072 ⌝ }
+{
+    output_in(Edition::One, bytes, out)
+}
+
+// What the program `domains2` prints: the same of a sheet of edition 2.
+pub fn output_2(bytes: &[u8], out: &mut [u8; 131072]) -> usize
+    ensures { λ r. ⌜ take r (now (out .exit)) ≡ listing edition2 (now (bytes .entry)) ⌝ }
+    ensures { λ r. ⌜ r ≤ 131072 ⌝ }
+{
+    output_in(Edition::Two, bytes, out)
 }

@@ -1,13 +1,17 @@
 // The program `load`: reads a seed on standard input, as one word, and prints the lines of its load.
+use input::Input;
 use libc::STDIN_FILENO;
 use libc::STDOUT_FILENO;
 ghost use Prim.Native.Nat.{_≤_};
 
 fn main() {
     let mut bytes = [0u8; 4];
-    let n = io::read_full(STDIN_FILENO, &mut bytes);
+    let Input::Bytes(n) = input::fill(STDIN_FILENO, &mut bytes) else {
+        input::not_read();
+        return;
+    };
     let mut out = [0u8; 34000];
-    let length = load::output(&bytes[..n], &mut out);
+    let length = load::output(input::front(&bytes, n), &mut out);
     send(&out, length);
 }
 

@@ -24,47 +24,51 @@ unfoldable pub valueOf : Answer → ℕ
 valueOf (done count) = count
 valueOf (refusal number place) = place
 
--- a word that may be there: 1 and the word, else 0 and 0
-unfoldable pub wordThere : Option ℕ → ℕ
-wordThere none = 0
-wordThere (some word) = 1
+-- A function below answers 0 and writes, or answers a reason and writes nothing: what is said of each number written is what stands in its place after the call,
+-- by the answer and by what stood there before. The reasons are no refusals of the documents, and have numbers apart from theirs: 100 where a number names no
+-- field, 101 where there is no inverse, 102 where the stream has no such word.
 
-unfoldable pub wordOrZero : Option ℕ → ℕ
-wordOrZero none = 0
-wordOrZero (some word) = word
+-- a word of the stream
+unfoldable pub wordNumber : Option ℕ → ℕ
+wordNumber none = 102
+wordNumber (some word) = 0
 
--- an element of the field that a number names: 1 and the element, else 0 and 0
-unfoldable pub fieldNamed : FieldAnswer → ℕ
-fieldNamed noField = 0
-fieldNamed (element x) = 1
+unfoldable pub wordAfter : Option ℕ → ℕ → ℕ
+wordAfter none before = before
+wordAfter (some word) before = word
 
-unfoldable pub elementOrZero : FieldAnswer → ℕ
-elementOrZero noField = 0
-elementOrZero (element x) = x
+-- an element of a field
+unfoldable pub elementNumber : FieldAnswer → ℕ
+elementNumber noField = 100
+elementNumber (element x) = 0
 
--- a power and its turns: 1, the element and the turns; else 0 and 0 and 0
-unfoldable pub powerNamed : PowerAnswer → ℕ
-powerNamed inNoField = 0
-powerNamed (powered x turns) = 1
+unfoldable pub elementAfter : FieldAnswer → ℕ → ℕ
+elementAfter noField before = before
+elementAfter (element x) before = x
 
-unfoldable pub powerOrZero : PowerAnswer → ℕ
-powerOrZero inNoField = 0
-powerOrZero (powered x turns) = x
+-- a power and its turns, each with a place of its own
+unfoldable pub powerNumber : PowerAnswer → ℕ
+powerNumber inNoField = 100
+powerNumber (powered x turns) = 0
 
-unfoldable pub turnsOrZero : PowerAnswer → ℕ
-turnsOrZero inNoField = 0
-turnsOrZero (powered x turns) = turns
+unfoldable pub powerAfter : PowerAnswer → ℕ → ℕ
+powerAfter inNoField before = before
+powerAfter (powered x turns) before = x
 
--- an inverse: 1 and the value found, 2 and 0 where there is none, 0 and 0 where the number names no field
+unfoldable pub turnsAfter : PowerAnswer → ℕ → ℕ
+turnsAfter inNoField before = before
+turnsAfter (powered x turns) before = turns
+
+-- an inverse
 unfoldable pub inverseNumber : InverseAnswer → ℕ
-inverseNumber unknownField = 0
-inverseNumber noInverse = 2
-inverseNumber (found x) = 1
+inverseNumber unknownField = 100
+inverseNumber noInverse = 101
+inverseNumber (found x) = 0
 
-unfoldable pub inverseOrZero : InverseAnswer → ℕ
-inverseOrZero unknownField = 0
-inverseOrZero noInverse = 0
-inverseOrZero (found x) = x
+unfoldable pub inverseAfter : InverseAnswer → ℕ → ℕ
+inverseAfter unknownField before = before
+inverseAfter noInverse before = before
+inverseAfter (found x) before = x
 
 -- the numbers that are answered and written of each, together
 abbrev pub OutcomeNumbers : Outcome → ℕ → ℕ → Type 0
@@ -76,14 +80,15 @@ VerdictNumbers v number place reads = (number ≡ numberOf (v .outcome)) × ((pl
 abbrev pub AnswerNumbers : Answer → ℕ → ℕ → Type 0
 AnswerNumbers a number value = (number ≡ refusalOf a) × (value ≡ valueOf a)
 
+-- and of a function that may write nothing, where 0 stood before
 abbrev pub WordNumbers : Option ℕ → ℕ → ℕ → Type 0
-WordNumbers a there word = (there ≡ wordThere a) × (word ≡ wordOrZero a)
+WordNumbers a number word = (number ≡ wordNumber a) × (word ≡ wordAfter a 0)
 
 abbrev pub ElementNumbers : FieldAnswer → ℕ → ℕ → Type 0
-ElementNumbers a named value = (named ≡ fieldNamed a) × (value ≡ elementOrZero a)
+ElementNumbers a number value = (number ≡ elementNumber a) × (value ≡ elementAfter a 0)
 
 abbrev pub PowerNumbers : PowerAnswer → ℕ → ℕ → ℕ → Type 0
-PowerNumbers a named value turns = (named ≡ powerNamed a) × ((value ≡ powerOrZero a) × (turns ≡ turnsOrZero a))
+PowerNumbers a number value turns = (number ≡ powerNumber a) × ((value ≡ powerAfter a 0) × (turns ≡ turnsAfter a 0))
 
 abbrev pub InverseNumbers : InverseAnswer → ℕ → ℕ → Type 0
-InverseNumbers a number value = (number ≡ inverseNumber a) × (value ≡ inverseOrZero a)
+InverseNumbers a number value = (number ≡ inverseNumber a) × (value ≡ inverseAfter a 0)

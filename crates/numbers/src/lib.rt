@@ -10,7 +10,14 @@ ghost use mathlib.Core.Path.{_≡_};
 ghost use Rattle.field.specs.Answer.{elementOf, poweredOf, invertedOf};
 ghost use Rattle.outcome.specs.Meaning.{answerOf, outcomeOf, verdictOf};
 ghost use Rattle.reader.specs.Words.{valueOf as wordOf};
-ghost use Rattle.numbers.specs.Numbers.{numberOf, placeIn, refusalOf, valueOf, wordThere, wordOrZero, fieldNamed, elementOrZero, powerNamed, powerOrZero, turnsOrZero, inverseNumber, inverseOrZero};
+ghost use Rattle.numbers.specs.Numbers.{numberOf, placeIn, refusalOf, valueOf, wordNumber, wordAfter, elementNumber, elementAfter, powerNumber, powerAfter, turnsAfter, inverseNumber, inverseAfter};
+
+// Why nothing is written, where the documents have no refusal for it: apart from their numbers, and none of them 0.
+pub const NO_FIELD: u32 = 100;
+
+pub const NO_INVERSE: u32 = 101;
+
+pub const NO_WORD: u32 = 102;
 
 // An outcome: 0 for accepted, else the fault's number; and its place, 0 where accepted.
 pub struct Fault {
@@ -31,13 +38,13 @@ pub struct Answered {
     pub value: u64,
 }
 
-// A word that may be there: 1 and the word, else another number and 0.
+// A word that may be there: 0 and the word, or why it is not, and 0.
 pub struct Shown {
     pub number: u32,
     pub word: u32,
 }
 
-// A power and the turns that its loop made, with 1; or three times 0 where the number named no field.
+// A power and the turns that its loop made, with 0; or why there are none, and twice 0.
 pub struct Raised {
     pub number: u32,
     pub power: u32,
@@ -100,55 +107,64 @@ pub fn refusal_number(answer: Answer) -> u32
     }
 }
 
-// 0 where the stream had ended.
 pub fn of_word(answer: Word) -> Shown
-    ensures { λ r. ⌜ r .number ≡ wordThere (wordOf answer) ⌝ }
-    ensures { λ r. ⌜ r .word ≡ wordOrZero (wordOf answer) ⌝ }
+    ensures { λ r. ⌜ r .number ≡ wordNumber (wordOf answer) ⌝ }
+    ensures { λ r. ⌜ r .word ≡ wordAfter (wordOf answer) 0 ⌝ }
 {
     match answer {
-        Word::Value(x) => Shown { number: 1, word: x },
-        Word::End => Shown { number: 0, word: 0 },
+        Word::Value(x) => Shown { number: 0, word: x },
+        Word::End => Shown {
+            number: NO_WORD,
+            word: 0,
+        },
     }
 }
 
-// 0 where the number named no field.
 pub fn of_element(answer: Element) -> Shown
-    ensures { λ r. ⌜ r .number ≡ fieldNamed (elementOf answer) ⌝ }
-    ensures { λ r. ⌜ r .word ≡ elementOrZero (elementOf answer) ⌝ }
+    ensures { λ r. ⌜ r .number ≡ elementNumber (elementOf answer) ⌝ }
+    ensures { λ r. ⌜ r .word ≡ elementAfter (elementOf answer) 0 ⌝ }
 {
     match answer {
-        Element::Value(x) => Shown { number: 1, word: x },
-        Element::NoField => Shown { number: 0, word: 0 },
+        Element::Value(x) => Shown { number: 0, word: x },
+        Element::NoField => Shown {
+            number: NO_FIELD,
+            word: 0,
+        },
     }
 }
 
 pub fn of_power(answer: PowerTurns) -> Raised
-    ensures { λ r. ⌜ r .number ≡ powerNamed (poweredOf answer) ⌝ }
-    ensures { λ r. ⌜ r .power ≡ powerOrZero (poweredOf answer) ⌝ }
-    ensures { λ r. ⌜ r .turns ≡ turnsOrZero (poweredOf answer) ⌝ }
+    ensures { λ r. ⌜ r .number ≡ powerNumber (poweredOf answer) ⌝ }
+    ensures { λ r. ⌜ r .power ≡ powerAfter (poweredOf answer) 0 ⌝ }
+    ensures { λ r. ⌜ r .turns ≡ turnsAfter (poweredOf answer) 0 ⌝ }
 {
     match answer {
         PowerTurns::Value(x, made) => Raised {
-            number: 1,
+            number: 0,
             power: x,
             turns: made,
         },
         PowerTurns::NoField => Raised {
-            number: 0,
+            number: NO_FIELD,
             power: 0,
             turns: 0,
         },
     }
 }
 
-// 2 where there is no inverse, 0 where the number named no field.
 pub fn of_inverse(answer: Inverted) -> Shown
     ensures { λ r. ⌜ r .number ≡ inverseNumber (invertedOf answer) ⌝ }
-    ensures { λ r. ⌜ r .word ≡ inverseOrZero (invertedOf answer) ⌝ }
+    ensures { λ r. ⌜ r .word ≡ inverseAfter (invertedOf answer) 0 ⌝ }
 {
     match answer {
-        Inverted::Found(u) => Shown { number: 1, word: u },
-        Inverted::Nothing => Shown { number: 2, word: 0 },
-        Inverted::NoField => Shown { number: 0, word: 0 },
+        Inverted::Found(u) => Shown { number: 0, word: u },
+        Inverted::Nothing => Shown {
+            number: NO_INVERSE,
+            word: 0,
+        },
+        Inverted::NoField => Shown {
+            number: NO_FIELD,
+            word: 0,
+        },
     }
 }

@@ -15,8 +15,3 @@ root field size = generatorOf field ^ ((primeOf field - 1) / size) % primeOf fie
 pub root-of-sheet : (ed : Edition) (w : List ℕ) → rootOfUnity (sheetOf ed w) ≡ root (getD w 0 0) (getD w 1 0)
 unfolding root rootOfUnity sheetOf
 root-of-sheet ed w = powerMod-is (generatorOf (getD w 0 0)) ((primeOf (getD w 0 0) - 1) / getD w 1 0) (primeOf (getD w 0 0))
-
--- the list is all n powers of the ω of n0 = n in field 2, from the first on
-pub record Stored (n : ℕ) (t : List ℕ) : Type 0 where
-  pub size : length t ≡ n
-  pub entry : (e : ℕ) → e < n → getD t e 0 ≡ power (fieldOf 2) (root 2 n) (1 + e)

@@ -1,5 +1,6 @@
-// The 256 powers of 1732600167, modulo 2013265921. Written by tools/powers.py 256.
+// Every 16th of the 4096 powers of 1282623253, modulo 2013265921. Written by tools/powers.py 256.
 pub const POWERS: [u32; 256] = [
+    1,
     1732600167,
     397765732,
     110965872,
@@ -255,5 +256,4 @@ pub const POWERS: [u32; 256] = [
     725165828,
     1856545343,
     1611842161,
-    1,
 ];

@@ -1,22 +1,12 @@
-// Verdicts as lines on standard output.
+// What the programs do that print a verdict: they read, have its line made, and write it.
 use edition::Edition;
+use input::Input;
 use libc::STDOUT_FILENO;
 use line::Line;
-use outcome::Verdict;
 ghost use Prim.Native.Nat.{_≤_};
 
-// A verdict as a line: the outcome, its number and place, and the reads.
-fn print(v: Verdict) {
-    send(STDOUT_FILENO, line::of_verdict(v));
-}
-
-// A refusal as a line: its number and place.
-pub fn refuse(fd: i32, number: u32, place: usize) {
-    send(fd, line::of_refusal(number, place));
-}
-
 // Writes the bytes of a line.
-fn send(fd: i32, line: Line)
+pub fn send(fd: i32, line: Line)
     requires { ⌜ line .length ≤ 64 ⌝ }
 {
     let bytes = line.bytes;
@@ -24,19 +14,24 @@ fn send(fd: i32, line: Line)
     io::write_all(fd, &bytes[..length]);
 }
 
-// Judges what a descriptor gives as a file of the edition, at most its first 65,536 bytes. No accepted file is so long.
+// Verifies what a descriptor gives as a file of the edition, at most its first 65,536 bytes. Where a read fails there is no verdict.
 pub fn check(e: Edition, fd: i32) {
     let mut buffer = [0u8; 65536];
-    let n = io::read_full(fd, &mut buffer);
-    print(verify::verify_in(e, &buffer[..n]));
+    let Input::Bytes(n) = input::fill(fd, &mut buffer) else {
+        input::not_read();
+        return;
+    };
+    let line = program_output::check(e, input::front(&buffer, n));
+    send(STDOUT_FILENO, line);
 }
 
-// Reads what a descriptor gives in the same way, as the first of verify's two steps does, and decides nothing. The line has 0 reads.
+// Reads what a descriptor gives in the same way, as the first of verify's two steps does, and decides nothing.
 pub fn read(e: Edition, fd: i32) {
     let mut buffer = [0u8; 65536];
-    let n = io::read_full(fd, &mut buffer);
-    print(Verdict {
-        outcome: verify::read_in(e, &buffer[..n]),
-        reads: 0,
-    });
+    let Input::Bytes(n) = input::fill(fd, &mut buffer) else {
+        input::not_read();
+        return;
+    };
+    let line = program_output::read(e, input::front(&buffer, n));
+    send(STDOUT_FILENO, line);
 }

@@ -1,13 +1,15 @@
 -- The numbers of an answer in code are those of the definition's.
 use Prim.Native.Nat.{ℕ}
-use mathlib.Core.Path.{_≡_, ap, _∙_}
+use native.Mathlib.Omega.{arith}
+use mathlib.Core.Path.{_≡_, refl, sym, ap, _∙_}
+use mathlib.Core.Logic.{_⊎_, inl, inr, ⊎-elim}
 use mathlib.Core.List.{List}
-use mathlib.Core.Option.{Option}
+use mathlib.Core.Option.{Option, none, some}
 use Rattle.definition.specs.Verdict.{Outcome, Verdict}
-use Rattle.definition.specs.Field.{FieldAnswer, PowerAnswer, InverseAnswer}
+use Rattle.definition.specs.Field.{FieldAnswer, element, noField, PowerAnswer, powered, inNoField, InverseAnswer, found, noInverse, unknownField}
 use Rattle.definition.specs.Prove as prove
 use Rattle.outcome.specs.Gives.{Gives}
-use Rattle.numbers.specs.Numbers.{AnswerNumbers, ElementNumbers, InverseNumbers, OutcomeNumbers, PowerNumbers, VerdictNumbers, WordNumbers, numberOf, placeIn, refusalOf, valueOf, wordThere, wordOrZero, fieldNamed, elementOrZero, powerNamed, powerOrZero, turnsOrZero, inverseNumber, inverseOrZero}
+use Rattle.numbers.specs.Numbers.{AnswerNumbers, OutcomeNumbers, VerdictNumbers, numberOf, placeIn, refusalOf, valueOf, wordNumber, wordAfter, elementNumber, elementAfter, powerNumber, powerAfter, turnsAfter, inverseNumber, inverseAfter}
 
 -- what is written of an outcome is what the definition's outcome says, and so on
 pub read-numbers : {o d : Outcome} {number place : ℕ} → OutcomeNumbers o number place → o ≡ d → OutcomeNumbers d number place
@@ -33,14 +35,45 @@ given-written n g = answer-written n (g .answer, g .output)
 pub output-written : {a : prove.Answer} {d : prove.Result} {number : ℕ} {output : List ℕ} → number ≡ refusalOf a → (a ≡ d .answer) × (output ≡ d .output) → (number ≡ refusalOf (d .answer)) × (output ≡ d .output)
 output-written n e = (n ∙ ap refusalOf (e .0), e .1)
 
-pub element-defined : {a d : FieldAnswer} {named element : ℕ} → ElementNumbers a named element → a ≡ d → ElementNumbers d named element
-element-defined n e = (n .0 ∙ ap fieldNamed e, n .1 ∙ ap elementOrZero e)
+-- A function that may write nothing: it answers 0, and what stands in its place after the call is the same whatever stood there before; or it answers a reason,
+-- and that is what stood there before.
+abbrev pub Optional : {A : Type 0} → (A → ℕ) → (A → ℕ → ℕ) → Type 0
+Optional {A} number after = (a : A) → ((number a ≡ 0) × ((before : ℕ) → after a 0 ≡ after a before)) ⊎ ((number a ≡ 0 → ⊥) × ((before : ℕ) → before ≡ after a before))
 
-pub inverse-defined : {a d : InverseAnswer} {number element : ℕ} → InverseNumbers a number element → a ≡ d → InverseNumbers d number element
-inverse-defined n e = (n .0 ∙ ap inverseNumber e, n .1 ∙ ap inverseOrZero e)
+pub element-optional : Optional elementNumber elementAfter
+unfolding elementNumber elementAfter
+element-optional (element x) = inl (refl, λ before. refl)
+element-optional noField = inr (λ e. omega arith, λ before. refl)
 
-pub word-defined : {a d : Option ℕ} {there word : ℕ} → WordNumbers a there word → a ≡ d → WordNumbers d there word
-word-defined n e = (n .0 ∙ ap wordThere e, n .1 ∙ ap wordOrZero e)
+pub word-optional : Optional wordNumber wordAfter
+unfolding wordNumber wordAfter
+word-optional (some x) = inl (refl, λ before. refl)
+word-optional none = inr (λ e. omega arith, λ before. refl)
 
-pub power-defined : {a d : PowerAnswer} {named element turns : ℕ} → PowerNumbers a named element turns → a ≡ d → PowerNumbers d named element turns
-power-defined n e = (n .0 ∙ ap powerNamed e, (n .1 .0 ∙ ap powerOrZero e, n .1 .1 ∙ ap turnsOrZero e))
+pub inverse-optional : Optional inverseNumber inverseAfter
+unfolding inverseNumber inverseAfter
+inverse-optional (found x) = inl (refl, λ before. refl)
+inverse-optional noInverse = inr (λ e. omega arith, λ before. refl)
+inverse-optional unknownField = inr (λ e. omega arith, λ before. refl)
+
+pub power-optional : Optional powerNumber powerAfter
+unfolding powerNumber powerAfter
+power-optional (powered x turns) = inl (refl, λ before. refl)
+power-optional inNoField = inr (λ e. omega arith, λ before. refl)
+
+pub turns-optional : Optional powerNumber turnsAfter
+unfolding powerNumber turnsAfter
+turns-optional (powered x turns) = inl (refl, λ before. refl)
+turns-optional inNoField = inr (λ e. omega arith, λ before. refl)
+
+-- what it answers, and what stands in its place after the call, where the store is made and where it is not
+module _ {A : Type 0} {number : A → ℕ} {after : A → ℕ → ℕ} (o : Optional number after) {a d : A} {n : ℕ} (number-is : n ≡ number a) (same : a ≡ d) where
+  pub stored : {value : ℕ} → value ≡ after a 0 → n ≡ 0 → (before : ℕ) → (n ≡ number d) × (value ≡ after d before)
+  stored value-is zero before =
+      let h = ⊎-elim (λ w. w .1 before) (λ k. absurd (k .0 (sym number-is ∙ zero))) (o a) in
+      (number-is ∙ ap number same, value-is ∙ (h ∙ ap (λ x. after x before) same))
+
+  pub not-stored : (n ≡ 0 → ⊥) → (before : ℕ) → (n ≡ number d) × (before ≡ after d before)
+  not-stored reason before =
+      let h = ⊎-elim (λ w. absurd (reason (number-is ∙ w .0))) (λ k. k .1 before) (o a) in
+      (number-is ∙ ap number same, h ∙ ap (λ x. after x before) same)

@@ -9,7 +9,16 @@ ghost use Rattle.definition.specs.Sheet.{edition1, edition2};
 ghost use Rattle.definition.specs.Convert.{toEdition1, toEdition2};
 ghost use Rattle.definition.specs.Field.{sum, difference, product, powerOf, powerTurnsOf, inverseOf};
 ghost use Rattle.reader.specs.Words.{wordIn, sheetWords};
-ghost use Rattle.numbers.specs.Numbers.{numberOf, placeIn, refusalOf, valueOf, wordThere, wordOrZero, fieldNamed, elementOrZero, powerNamed, powerOrZero, turnsOrZero, inverseNumber, inverseOrZero};
+ghost use Rattle.numbers.specs.Numbers.{numberOf, placeIn, refusalOf, valueOf, wordNumber, wordAfter, elementNumber, elementAfter, powerNumber, powerAfter, turnsAfter, inverseNumber, inverseAfter};
+
+// The number of this interface, of which the symbol's name has it too: the header and the Rust interface refer to the symbol, so that neither links with an archive
+// of another number.
+#[no_mangle]
+pub extern "C" fn tevrolig_interface_9() -> u32
+    ensures { λ r. ⌜ r ≡ 9 ⌝ }
+{
+    9
+}
 
 // Judges a file of edition 1. Answers 0 for accepted, else the fault's number, and writes the fault's place (0 where accepted) and the count of reads.
 #[no_mangle]
@@ -86,16 +95,18 @@ pub extern "C" fn tevrolig_decide_2(file: &[u8], place: &mut u64, reads: &mut u6
     n.number
 }
 
-// Shows a word of the stream, as the place of a refusal 5, 6, 7 or 14 names it. Answers 1 and writes the word, or 0 where the file's whole
-// blocks hold no word of that number, and then `word` is 0.
+// Shows a word of the stream, as the place of a refusal 5, 6, 7 or 14 names it. Answers 0 and writes the word, or answers NO_WORD where the file's whole
+// blocks hold no word of that number, and writes nothing.
 #[no_mangle]
 pub extern "C" fn tevrolig_word(file: &[u8], number: u64, word: &mut u32) -> u32
-    ensures { λ r. ⌜ r ≡ wordThere (wordIn (streamOf (now (file .entry))) number) ⌝ }
-    ensures { λ r. ⌜ now (word .exit) ≡ wordOrZero (wordIn (streamOf (now (file .entry))) number) ⌝ }
+    ensures { λ r. ⌜ r ≡ wordNumber (wordIn (streamOf (now (file .entry))) number) ⌝ }
+    ensures { λ r. ⌜ now (word .exit) ≡ wordAfter (wordIn (streamOf (now (file .entry))) number) (now (word .entry)) ⌝ }
 {
-    let n = numbers::of_word(reader::word_in(file, number as usize));
-    *word = n.word;
-    n.number
+    let shown = numbers::of_word(reader::word_in(file, number as usize));
+    if shown.number == 0 {
+        *word = shown.word;
+    }
+    shown.number
 }
 
 // Shows the sheet that a file holds, judged or not: writes its 12 words at the front of `output`. Answers 0; or a refusal's number, 1 where the file has no
@@ -191,52 +202,60 @@ pub extern "C" fn tevrolig_encode(
     n.number
 }
 
-// The sum of two words in a field. Each field operation answers 1 and writes the element, or 0 where the number names no field, and then
-// `element` is 0.
+// The sum of two words in a field. Each field operation answers 0 and writes the element, or answers why there is none and writes nothing: NO_FIELD where the
+// number names no field.
 #[no_mangle]
 pub extern "C" fn tevrolig_sum(field: u32, a: u32, b: u32, element: &mut u32) -> u32
-    ensures { λ r. ⌜ r ≡ fieldNamed (sum field a b) ⌝ }
-    ensures { λ r. ⌜ now (element .exit) ≡ elementOrZero (sum field a b) ⌝ }
+    ensures { λ r. ⌜ r ≡ elementNumber (sum field a b) ⌝ }
+    ensures { λ r. ⌜ now (element .exit) ≡ elementAfter (sum field a b) (now (element .entry)) ⌝ }
 {
-    let n = numbers::of_element(field::sum(field, a, b));
-    *element = n.word;
-    n.number
+    let sum = numbers::of_element(field::sum(field, a, b));
+    if sum.number == 0 {
+        *element = sum.word;
+    }
+    sum.number
 }
 
 // The difference of two words in a field.
 #[no_mangle]
 pub extern "C" fn tevrolig_difference(field: u32, a: u32, b: u32, element: &mut u32) -> u32
-    ensures { λ r. ⌜ r ≡ fieldNamed (difference field a b) ⌝ }
-    ensures { λ r. ⌜ now (element .exit) ≡ elementOrZero (difference field a b) ⌝ }
+    ensures { λ r. ⌜ r ≡ elementNumber (difference field a b) ⌝ }
+    ensures { λ r. ⌜ now (element .exit) ≡ elementAfter (difference field a b) (now (element .entry)) ⌝ }
 {
-    let n = numbers::of_element(field::difference(field, a, b));
-    *element = n.word;
-    n.number
+    let difference = numbers::of_element(field::difference(field, a, b));
+    if difference.number == 0 {
+        *element = difference.word;
+    }
+    difference.number
 }
 
 // The product of two words in a field.
 #[no_mangle]
 pub extern "C" fn tevrolig_product(field: u32, a: u32, b: u32, element: &mut u32) -> u32
-    ensures { λ r. ⌜ r ≡ fieldNamed (product field a b) ⌝ }
-    ensures { λ r. ⌜ now (element .exit) ≡ elementOrZero (product field a b) ⌝ }
+    ensures { λ r. ⌜ r ≡ elementNumber (product field a b) ⌝ }
+    ensures { λ r. ⌜ now (element .exit) ≡ elementAfter (product field a b) (now (element .entry)) ⌝ }
 {
-    let n = numbers::of_element(field::product(field, a, b));
-    *element = n.word;
-    n.number
+    let product = numbers::of_element(field::product(field, a, b));
+    if product.number == 0 {
+        *element = product.word;
+    }
+    product.number
 }
 
 // The power of a word in a field; the exponent is any word as it is.
 #[no_mangle]
 pub extern "C" fn tevrolig_power(field: u32, a: u32, exponent: u32, element: &mut u32) -> u32
-    ensures { λ r. ⌜ r ≡ fieldNamed (powerOf field a exponent) ⌝ }
-    ensures { λ r. ⌜ now (element .exit) ≡ elementOrZero (powerOf field a exponent) ⌝ }
+    ensures { λ r. ⌜ r ≡ elementNumber (powerOf field a exponent) ⌝ }
+    ensures { λ r. ⌜ now (element .exit) ≡ elementAfter (powerOf field a exponent) (now (element .entry)) ⌝ }
 {
-    let n = numbers::of_element(field::power(field, a, exponent));
-    *element = n.word;
-    n.number
+    let power = numbers::of_element(field::power(field, a, exponent));
+    if power.number == 0 {
+        *element = power.word;
+    }
+    power.number
 }
 
-// The same power, and the turns that its loop made: as many as the exponent has binary digits, none for 0. Where the number names no field, `turns` is 0 too.
+// The same power, and the turns that its loop made: as many as the exponent has binary digits, none for 0. Both are written, or neither.
 #[no_mangle]
 pub extern "C" fn tevrolig_power_turns(
     field: u32,
@@ -245,24 +264,27 @@ pub extern "C" fn tevrolig_power_turns(
     element: &mut u32,
     turns: &mut u32,
 ) -> u32
-    ensures { λ r. ⌜ r ≡ powerNamed (powerTurnsOf field a exponent) ⌝ }
-    ensures { λ r. ⌜ now (element .exit) ≡ powerOrZero (powerTurnsOf field a exponent) ⌝ }
-    ensures { λ r. ⌜ now (turns .exit) ≡ turnsOrZero (powerTurnsOf field a exponent) ⌝ }
+    ensures { λ r. ⌜ r ≡ powerNumber (powerTurnsOf field a exponent) ⌝ }
+    ensures { λ r. ⌜ now (element .exit) ≡ powerAfter (powerTurnsOf field a exponent) (now (element .entry)) ⌝ }
+    ensures { λ r. ⌜ now (turns .exit) ≡ turnsAfter (powerTurnsOf field a exponent) (now (turns .entry)) ⌝ }
 {
-    let n = numbers::of_power(field::power_turns(field, a, exponent));
-    *element = n.power;
-    *turns = n.turns;
-    n.number
+    let raised = numbers::of_power(field::power_turns(field, a, exponent));
+    if raised.number == 0 {
+        *element = raised.power;
+        *turns = raised.turns;
+    }
+    raised.number
 }
 
-// The inverse of a word in a field. Answers 1 and writes it, or answers 2 where there is none, exactly for 0, or 0 where the number names no field; `element`
-// is then 0.
+// The inverse of a word in a field; NO_INVERSE where there is none, which is so exactly for 0.
 #[no_mangle]
 pub extern "C" fn tevrolig_inverse(field: u32, a: u32, element: &mut u32) -> u32
     ensures { λ r. ⌜ r ≡ inverseNumber (inverseOf field a) ⌝ }
-    ensures { λ r. ⌜ now (element .exit) ≡ inverseOrZero (inverseOf field a) ⌝ }
+    ensures { λ r. ⌜ now (element .exit) ≡ inverseAfter (inverseOf field a) (now (element .entry)) ⌝ }
 {
-    let n = numbers::of_inverse(field::inverse(field, a));
-    *element = n.word;
-    n.number
+    let inverse = numbers::of_inverse(field::inverse(field, a));
+    if inverse.number == 0 {
+        *element = inverse.word;
+    }
+    inverse.number
 }

@@ -1,4 +1,4 @@
--- What the programs `prove`, `prove2` and `domains` make of the bytes that they read. A word is four bytes, the least significant first (01, Fields and the
+-- What the programs `prove`, `prove2`, `domains` and `domains2` make of the bytes that they read. A word is four bytes, the least significant first (01, Fields and the
 -- sheet); prove takes sheet, coefficients and coins (01, Verify, prove, encode), and here they stand one after the other. `prove2` takes a sheet of edition 2.
 use Prim.Native.Nat.{ℕ, _/_, _%_}
 use mathlib.Core.Bool.{not}

@@ -1,5 +1,5 @@
-//! Writes the files that the program over many files is run on, into the folder given, and prints their names, or with `--verdicts`
-//! the lines that the model says.
+//! Writes the files that the program over many files is run on, into the folder given, and prints the program's arguments, or with
+//! `--verdicts` the lines that the model says.
 
 use std::path::Path;
 use tevrolig_model::domain::Subgroup;
@@ -124,6 +124,14 @@ fn files() -> Vec<(String, Vec<u8>)> {
         files.push((name.into(), file));
     }
 
+    // A file of both editions, with two meanings: the words 12 to 17 are of edition 1's table 0 and of edition 2's sheet.
+    let both: [u32; 23] = [
+        0, 8, 4, 2, 0, 1, 1, 0, 0, 0, 0, 0, // sheet
+        0, 0, 0, 0, 0, 2, // table 0, or the sheet
+        1, 5, 3, 13, 16, // table 0, the fold coin and the final coefficients, or table 0
+    ];
+    files.push(("both-editions".into(), to_blocks(&both)));
+
     // The largest sheets, honest.
     let largest: [[u32; 12]; 3] = [
         [2, 4096, 2048, 2, 5, 2, 48, 48, 48, 48, 48, 48],
@@ -136,12 +144,38 @@ fn files() -> Vec<(String, Vec<u8>)> {
         let drawn = coins(&mut rng, sheet, false);
         files.push((format!("largest-{i}"), honest_file(sheet, &given, &drawn)));
     }
+
+    // Longer than any accepted file, up to what a program reads and past it: the largest file with a block more; the worked transcript with blocks more; a length that
+    // is no whole number of blocks; no sheet; the last block's check wrong; and a check that is wrong behind the first 65,536 bytes.
+    let longest = files[files.len() - 3].1.clone();
+    files.push(("blocks-68".into(), filled_to(longest, 68 * 512)));
+    files.push(("blocks-80".into(), filled_to(worked(&[]), 80 * 512)));
+    files.push(("bytes-50000".into(), filled_to(worked(&[]), 50_000)));
+    files.push(("blocks-127".into(), filled_to(Vec::new(), 127 * 512)));
+    for (name, blocks) in [("blocks-128", 128), ("blocks-129", 129)] {
+        let mut file = filled_to(worked(&[]), blocks * 512);
+        *file.last_mut().expect("a byte") ^= 1;
+        files.push((name.into(), file));
+    }
     files
 }
+
+/// A file with blocks of zeros behind it, all checks right, up to a length.
+fn filled_to(mut file: Vec<u8>, length: usize) -> Vec<u8> {
+    file.resize(length, 0);
+    generate::rewrite_checks(&mut file);
+    file
+}
+
+/// Arguments of the program that it can read nothing from, a folder and a name that no file has: it prints no line for them.
+const UNREADABLE: [&str; 2] = [".", "no-such-file"];
 
 fn main() {
     let folder = std::env::args().nth(1).expect("a folder");
     let verdicts = std::env::args().any(|word| word == "--verdicts");
+    for name in UNREADABLE.iter().filter(|_| !verdicts) {
+        println!("{name}");
+    }
     for (name, file) in files() {
         std::fs::write(Path::new(&folder).join(&name), &file).expect("the file is written");
         if verdicts {

@@ -3,9 +3,7 @@ use mathlib.Core.Path.{_∙_}
 use native.Mathlib.Omega.{arith}
 use borrow.Author.Needs.{needs}
 use Rattle.list_laws.specs.Zeros.{length-zeros}
-use Rattle.layouts.specs.SheetRules.{rounds-most}
-use Rattle.definition.specs.Sheet.{edition1}
-use Rattle.domain.specs.OfSheet.{fitting, points-of-sheet}
+use Rattle.domain.specs.OfSheet.{points-of-sheet}
 use Rattle.line.specs.Text.{begun}
 use Rattle.listing.specs.Listing.{keptText}
 use Rattle.listing.proofs.TableLaws.{text-of-sheet}
@@ -18,7 +16,7 @@ slice-aggregate-of-sheet c = search needs
 of-sheet-requires : tie.Need-of-sheet-requires
 of-sheet-requires c κs =
     let s = c .before .before in
-    ((s .pre .0, fitting edition1 (s .args .w .now) (s .pre .0) (s .pre .1)), length-zeros 4096)
+    ((s .pre .0, s .pre .1 .0), length-zeros 4096)
 
 shared-slice-read-rounds : tie.Need-shared-slice-read-rounds
 shared-slice-read-rounds c = search needs
@@ -49,7 +47,7 @@ domain-lines-requires c κs =
     let points = c .before .before .before .before .before .before .before .before .before in
     let s = points .before .before .before in
     let size = points .of-sheet .ensures in
-    (rounds-most edition1 (s .args .w .now) (s .pre .1), (omega (arith, size .0, size .1 .1), omega (arith, c .before .before .write .ensures .1, c .before .before .before .before .text .ensures .long, c .before .before .before .before .before .before .empty .ensures)))
+    (s .pre .1 .1, (omega (arith, size .0, size .1 .1), omega (arith, c .before .before .write .ensures .1, c .before .before .before .before .text .ensures .long, c .before .before .before .before .before .before .empty .ensures)))
 
 returns : tie.Need-returns
 returns c =
@@ -62,7 +60,7 @@ returns c =
     let size = points .of-sheet .ensures in
     let sheet = s .args .w .now in
     let first = w .ensures .0 ∙ begun (e .result) (t .result) keptText (e .ensures) (t .ensures) .text in
-    (text-of-sheet sheet _ (points-of-sheet edition1 sheet _ (size .1 .0)) (size .1 .1) (s .pre .0) (s .pre .1) first (lines .0), lines .1)
+    (record { kept = λ ed long passed. text-of-sheet ed sheet _ (points-of-sheet ed sheet _ (size .1 .0)) (size .1 .1) long passed first (lines .0) }, lines .1)
 
 pub kept-spec : {M : Type 1} → statement M
 kept-spec =

@@ -18,10 +18,9 @@ enum-told : tie.Need-enum-told
 enum-told c = search needs
 
 kept-requires : tie.Need-kept-requires
-unfolding editionOf
 kept-requires c κs =
     let t = c .before .before .before in
-    sheet-passes (t .before .front .result .now) (t .sheet-tests .ensures) (c .before .enum-told .given .1)
+    sheet-passes (editionOf (t .before .before .before .args .e)) (t .before .front .result .now) (t .sheet-tests .ensures) (c .before .enum-told .given .1)
 
 enum-known-tests : tie.Need-enum-known-tests
 enum-known-tests c = search needs
@@ -33,21 +32,21 @@ write-requires : tie.Need-write-requires
 write-requires c κs = search needs
 
 returns : tie.Need-returns
-unfolding editionOf
 returns c =
     let t = c .before .before .before .before in
     let f = t .before .front in
+    let ed = editionOf (t .before .before .before .args .e) in
     let k = c .kept .ensures in
-    (k .0 ∙ text-passed (f .result .now) (t .sheet-tests .ensures) (c .before .before .enum-told .given .1) ∙ ap sheetListing (f .ensures), k .1)
+    (text-passed ed (f .result .now) (t .sheet-tests .ensures) (c .before .before .enum-told .given .1) (k .0) ∙ ap (sheetListing ed) (f .ensures), k .1)
 
 returns-2 : tie.Need-returns-2
-unfolding editionOf
 returns-2 c =
     let t = c .before .before .before .before .before .before in
     let f = t .before .front in
+    let ed = editionOf (t .before .before .before .args .e) in
     let o = c .before .before .of-refusal .ensures in
     let w = c .write .ensures in
-    (w .0 ∙ o .0 ∙ text-refused (f .result .now) (t .sheet-tests .ensures) (c .before .before .before .before .tests .given .1) ∙ ap sheetListing (f .ensures), omega (arith, w .1, o .1))
+    (w .0 ∙ o .0 ∙ text-refused ed (f .result .now) (t .sheet-tests .ensures) (c .before .before .before .before .tests .given .1) ∙ ap (sheetListing ed) (f .ensures), omega (arith, w .1, o .1))
 
 pub of-words-spec : {M : Type 1} → statement M
 of-words-spec =
