@@ -1,4 +1,4 @@
-/* Tevrolig: the verifier for STIR transcripts, the prover that it answers, and the three fields below them, called from
+/* Tevrolig: the verifier for STIR transcripts, the prover that it answers, and the four fields below them, called from
  * C.
  *
  * The functions stand in libtevrolig.a, which `rt staticlib tevrolig` writes to target/staticlib for x86-64 Linux. They
@@ -24,13 +24,17 @@
  *
  * - Everything is lent for the call alone. No pointer is kept, and inputs are only read.
  * - Nothing is allocated and no state is kept, so calls may run in several threads at once, over the same inputs too.
- * - `place`, `reads` and `value` are written on every return, whatever was there before. `word`, `element` and `turns` are
- *   written where the function answers 0; else nothing is written there, and they keep what they had.
+ * - `place`, `reads` and `value` are written on every return, whatever was there before. `word`, `element`, `out` and
+ *   `turns` are written where the function answers 0; else nothing is written there, and they keep what they had.
  * - The stack that a call takes is bounded: below TEVROLIG_VERIFY_STACK bytes for tevrolig_verify and tevrolig_decide,
  *   below TEVROLIG_READ_STACK for tevrolig_read, likewise for prove, encode and the converters, in both editions, and
  *   below 1,024 for all others. This is measured, not proved.
  *
  * Words are unsigned 32-bit numbers. Numbers, places and positions count from 0.
+ *
+ * An element of field 0, 1 or 2 is one word below its p. One of field 3 is four words below p, which stand for
+ * a + bX + cX^2 + dX^3 with X^4 = 11, a first. Coefficients, table entries, replies and all coins but indices are elements;
+ * an index is one word in every field. Lengths and positions count words.
  *
  * There are two editions of a file, with a sheet of 12 words and one of 18. A file does not say of which it is: the
  * caller does, by the function that is called. Those without an edition in their name are of edition 1.
@@ -51,11 +55,11 @@ extern "C" {
 
 /* The version; rust/Cargo.toml and tevrolig.pc have the same, which tools/try-install checks. Its second number is that of
  * the interface: one more for each change to what a function answers or writes (CHANGELOG.md says what to change). */
-#define TEVROLIG_VERSION "0.9.0"
+#define TEVROLIG_VERSION "0.10.0"
 
 /* Answers the interface's number. Every object file that this header is compiled into refers to it, whatever else it calls,
  * so that it does not link with an archive of another interface: the linker then names the function that it misses. */
-uint32_t tevrolig_interface_9(void);
+uint32_t tevrolig_interface_10(void);
 
 #ifdef __has_attribute
 #if __has_attribute(retain)
@@ -65,7 +69,7 @@ uint32_t tevrolig_interface_9(void);
 #ifndef TEVROLIG_RETAIN
 #define TEVROLIG_RETAIN
 #endif
-static uint32_t (*const tevrolig_interface)(void) __attribute__((used)) TEVROLIG_RETAIN = tevrolig_interface_9;
+static uint32_t (*const tevrolig_interface)(void) __attribute__((used)) TEVROLIG_RETAIN = tevrolig_interface_10;
 #undef TEVROLIG_RETAIN
 
 /* A file is blocks of 512 bytes: 127 words of the stream, each least significant byte first, and a check word. */
@@ -75,14 +79,14 @@ static uint32_t (*const tevrolig_interface)(void) __attribute__((used)) TEVROLIG
 /* No file with more blocks is accepted, and no file that is proved or converted needs more. */
 #define TEVROLIG_MAX_BLOCKS 67
 
-/* The largest n0: no table has more words, and so no encoding. */
+/* No table has more words, and so no encoding: the largest n0 of the fields 0 to 2, and four times that of field 3. */
 #define TEVROLIG_MAX_TABLE 4096
 
 /* The sheet:
  *
  *   word   name         rule
- *   0      the field    0: p = 17; 1: p = 65537; 2: p = 2013265921
- *   1      n0           a power of two from 4 to 4096 that divides p - 1
+ *   0      the field    0: p = 17; 1: p = 65537; 2: p = 2013265921; 3: four words over p = 2013265921
+ *   1      n0           a power of two from 4 to 4096, or to 1024 in field 3, that divides p - 1
  *   2      d0           a power of two from 2 to n0/2
  *   3      k            a power of two from 2 to 16, at most d0
  *   4      M            0 to 5, with k^(M+1) at most d0
@@ -118,7 +122,7 @@ enum {
     TEVROLIG_CHECK = 2,      /* a block's check word is wrong */
     TEVROLIG_SHEET = 3,      /* a sheet word breaks its rule */
     TEVROLIG_BLOCKS = 4,     /* the sheet needs another number of blocks */
-    TEVROLIG_RANGE = 5,      /* a word after the sheet is out of range: no element of the field, or no index that is due */
+    TEVROLIG_RANGE = 5,      /* a word after the sheet is out of range: not below p, or no index that is due */
     TEVROLIG_FILL = 6,       /* a word after the end of the stream is not zero */
     TEVROLIG_OUT_COIN = 7,   /* an out coin of round i lies in domain i */
     TEVROLIG_CLASH = 8,      /* two equal points of a round have different values */
@@ -129,7 +133,7 @@ enum {
     TEVROLIG_EQUAL_OUT = 14, /* two out coins of a round are equal */
 
     /* of word and the field operations; no refusals of a file or an input, and so apart from those */
-    TEVROLIG_NO_FIELD = 100,   /* the number names no field */
+    TEVROLIG_NO_FIELD = 100,   /* the number names no field of one word */
     TEVROLIG_NO_INVERSE = 101, /* 0 has no inverse */
     TEVROLIG_NO_WORD = 102     /* the stream has no word of that number */
 };
@@ -145,8 +149,8 @@ enum {
  *   4        the number of blocks that the sheet needs
  *   5        the number of the first word out of range, as tevrolig_word counts
  *   6        the number of the first such word that is not zero
- *   7        the word number of the first such coin
- *   14       the word number of the second coin in the first such round
+ *   7        the word number of the first such coin, which is that of its first word
+ *   14       that of the second coin in the first such round, likewise
  *   8        the first such round, from 1 to M
  *   9        the first such position in the list of final indices
  *
@@ -190,17 +194,18 @@ uint32_t tevrolig_sheet_of(const uint8_t *file, size_t length, uint32_t *output,
 
 /* Writes the honest prover's file for d0 coefficients, lowest first, and a full list of coins, in the order in which the
  * stream has them: fold coin 0; for each round i from 1 to M its s out coins, combination coin, fold coin i and t_(i-1)
- * shift indices; at last t_M final indices. Answers 0 for done: `value` is the number of blocks, which stand at the front
+ * shift indices; at last t_M final indices. In field 3 there are 4*d0 words of coefficients, and a coin that is no index
+ * has four. Answers 0 for done: `value` is the number of blocks, which stand at the front
  * of the output, and the bytes after them are as before. Else it answers the number of the first test that fails, and no
  * byte of the output is written:
  *
  *   number   value
  *   10       0 where the sheet has not 12 words
  *   3        the first sheet word that breaks its rule, given those before
- *   10       1 where there are not d0 coefficients; 2 where the coins are not as many as the sheet makes due
- *   5        the first position out of range, in the coefficients followed by the coins
- *   7        the first such position, in the coins alone
- *   14       the position of the second coin in the first such round, likewise
+ *   10       1 where the coefficients have not as many words as the sheet makes due; 2 where the coins have not
+ *   5        the position of the first word out of range, in the coefficients followed by the coins
+ *   7        the position of the first such coin's first word, in the coins alone
+ *   14       that of the second coin in the first such round, likewise
  *   11       the number of blocks needed
  *
  * So an output of length 0 asks for the size, and TEVROLIG_MAX_BLOCKS blocks are enough for every input. */
@@ -226,15 +231,16 @@ uint32_t tevrolig_to_edition_2(const uint8_t *file, size_t length, uint8_t *outp
 uint32_t tevrolig_to_edition_1(const uint8_t *file, size_t length, uint8_t *output, size_t output_length,
                                uint64_t *value);
 
-/* Writes table 0 alone, the values of the polynomial at the n0 points of domain 0. Answers 0 for done: `value` is n0, the
- * number of words written, and the words after them are as before. Else it answers the number of the first test that
- * fails, and no word of the output is written: 10 with 0, 3, 10 with 1 and 5 as in tevrolig_prove, then 11 with n0. */
+/* Writes table 0 alone, the values of the polynomial at the n0 points of domain 0. Answers 0 for done: `value` is the
+ * number of words written, n0 or in field 3 4*n0, and the words after them are as before. Else it answers the number of
+ * the first test that fails, and no word of the output is written: 10 with 0, 3, 10 with 1 and 5 as in tevrolig_prove,
+ * then 11 with the number of words needed. */
 uint32_t tevrolig_encode(const uint32_t *sheet, size_t sheet_length, const uint32_t *coefficients,
                          size_t coefficients_length, uint32_t *output, size_t output_length, uint64_t *value);
 
-/* The operations of a field, given by its number as in word 0 of the sheet. They take a and b modulo p first, so any
- * words will do; an exponent is taken as it is. 0 to the power 0 is 1. Each answers 0 for done, and `element` is the
- * element, a word below p; or TEVROLIG_NO_FIELD where the number names no field, and writes nothing. */
+/* The operations of a field of one word, given by its number as in word 0 of the sheet: 0, 1 or 2. They take a and b
+ * modulo p first, so any words will do; an exponent is taken as it is. 0 to the power 0 is 1. Each answers 0 for done, and
+ * `element` is the element, a word below p; or TEVROLIG_NO_FIELD for any other number, and writes nothing. */
 uint32_t tevrolig_sum(uint32_t field, uint32_t a, uint32_t b, uint32_t *element);
 uint32_t tevrolig_difference(uint32_t field, uint32_t a, uint32_t b, uint32_t *element);
 uint32_t tevrolig_product(uint32_t field, uint32_t a, uint32_t b, uint32_t *element);
@@ -245,8 +251,18 @@ uint32_t tevrolig_power(uint32_t field, uint32_t a, uint32_t exponent, uint32_t 
 uint32_t tevrolig_inverse(uint32_t field, uint32_t a, uint32_t *element);
 
 /* The power of tevrolig_power, and the turns that its loop made: as many as the exponent has binary digits, none for 0.
- * Where the number names no field, neither is written. */
+ * Where the number names no field of one word, neither is written. */
 uint32_t tevrolig_power_turns(uint32_t field, uint32_t a, uint32_t exponent, uint32_t *element, uint32_t *turns);
+
+/* The operations of field 3, on elements of four words. They take each word modulo p first, so any words will do; an
+ * exponent is one word, taken as it is. Each answers 0 for done, and `out` has the four words of the element, each below
+ * p. There is no inverse exactly where all four words of a are 0 modulo p: TEVROLIG_NO_INVERSE, and nothing is written. */
+uint32_t tevrolig_sum_3(const uint32_t a[4], const uint32_t b[4], uint32_t out[4]);
+uint32_t tevrolig_difference_3(const uint32_t a[4], const uint32_t b[4], uint32_t out[4]);
+uint32_t tevrolig_product_3(const uint32_t a[4], const uint32_t b[4], uint32_t out[4]);
+uint32_t tevrolig_power_3(const uint32_t a[4], uint32_t exponent, uint32_t out[4]);
+uint32_t tevrolig_power_turns_3(const uint32_t a[4], uint32_t exponent, uint32_t out[4], uint32_t *turns);
+uint32_t tevrolig_inverse_3(const uint32_t a[4], uint32_t out[4]);
 
 #ifdef __cplusplus
 }

@@ -1,7 +1,7 @@
 """What the prover said of a must-fail edit: its errors, and which of them are refusals at a fact.
 
-At a fact: two types, sides or values differ, `omega` has numbers at which a goal fails, `search` finds no proof, `rw` finds nothing to rewrite or leaves something
-open. Of shape is whatever else the prover says of a text that it cannot read or that does not fit: no expression where one is expected, a name that is not in scope
+At a fact: two types, sides or values differ, `omega` has numbers at which a goal fails, `search` finds no proof, `rw` finds nothing to rewrite, or it or `simp` leaves
+something open. Of shape is whatever else the prover says of a text that it cannot read or that does not fit: no expression where one is expected, a name that is not in scope
 or not there, such as a need of code of another shape, a tuple or a part of one where the type has none. So are two that differ where the needs of a function are put
 together, in its `-spec`, since then there are others than the proof has, and an equation where an order is wanted, or an order for an equation. An error that
 only says that something else was not admitted is neither: it passes another one on.
@@ -18,7 +18,7 @@ FACT = re.compile(
     r"|`omega`: the (?:goal|part `[^`]*` of the goal) does not follow "
     r"|`search`: no proof of "
     r"|`rw`: no occurrence of "
-    r"|give a proof of that as the last argument, `rw"
+    r"|give a proof of that as the last argument, `(?:rw|simp)"
 )
 WHOLE = re.compile(
     r"the two types are `([^`]*)` \(expected\) and `([^`]*)` \(found\)"

@@ -10,12 +10,17 @@
 
 enum { MAX_BYTES = 65536, MAX_COINS = 1024, STACK = 1 << 22, PAINT = 0xA5 };
 
-/* Of edition 2: the longest file of all, the one with the largest k, and one whose folding numbers differ. The words 0 to 11 of the first two are sheets of
- * edition 1 too. */
-static const uint32_t SHEETS[3][TEVROLIG_SHEET_WORDS_2] = {
+enum { SHEET_COUNT = 6 };
+
+/* Of edition 2: the longest file of all, the one with the largest k, and one whose folding numbers differ; then the same with elements of four words. The words 0 to 11
+ * are a sheet of edition 1 too where the folding numbers are equal. */
+static const uint32_t SHEETS[SHEET_COUNT][TEVROLIG_SHEET_WORDS_2] = {
     {2, 4096, 2048, 2, 5, 2, 48, 48, 48, 48, 48, 48, 2, 2, 2, 2, 2, 2},
     {2, 4096, 2048, 16, 1, 2, 48, 48, 0, 0, 0, 0, 16, 0, 0, 0, 0, 2},
     {2, 4096, 2048, 16, 2, 2, 48, 29, 48, 0, 0, 0, 4, 2, 0, 0, 0, 2},
+    {3, 1024, 512, 2, 5, 2, 48, 48, 48, 29, 13, 48, 2, 2, 2, 2, 2, 2},
+    {3, 1024, 512, 16, 1, 2, 29, 48, 0, 0, 0, 0, 16, 0, 0, 0, 0, 2},
+    {3, 1024, 512, 16, 3, 1, 30, 6, 2, 48, 0, 0, 4, 2, 2, 0, 0, 2},
 };
 
 static uint8_t file[MAX_BYTES], output[MAX_BYTES];
@@ -64,17 +69,28 @@ static void read_file_2(void)
     answer = tevrolig_read_2(file, length, &place);
 }
 
+/* Words of an element, and of the coefficients. */
+static uint32_t width(void)
+{
+    return sheet[0] == 3 ? 4 : 1;
+}
+
+static size_t coefficient_words(void)
+{
+    return (size_t)width() * sheet[2];
+}
+
 static void prove(void)
 {
     uint64_t blocks;
-    answer = tevrolig_prove(sheet, TEVROLIG_SHEET_WORDS, coefficients, sheet[2], coins, coin_count, file, sizeof file, &blocks);
+    answer = tevrolig_prove(sheet, TEVROLIG_SHEET_WORDS, coefficients, coefficient_words(), coins, coin_count, file, sizeof file, &blocks);
     length = blocks * TEVROLIG_BLOCK_BYTES;
 }
 
 static void prove_2(void)
 {
     uint64_t blocks;
-    answer = tevrolig_prove_2(sheet, TEVROLIG_SHEET_WORDS_2, coefficients, sheet[2], coins, coin_count, file, sizeof file, &blocks);
+    answer = tevrolig_prove_2(sheet, TEVROLIG_SHEET_WORDS_2, coefficients, coefficient_words(), coins, coin_count, file, sizeof file, &blocks);
     length = blocks * TEVROLIG_BLOCK_BYTES;
 }
 
@@ -93,7 +109,7 @@ static void to_edition_1(void)
 static void encode(void)
 {
     uint64_t words;
-    answer = tevrolig_encode(sheet, TEVROLIG_SHEET_WORDS, coefficients, sheet[2], table, TEVROLIG_MAX_TABLE, &words);
+    answer = tevrolig_encode(sheet, TEVROLIG_SHEET_WORDS, coefficients, coefficient_words(), table, TEVROLIG_MAX_TABLE, &words);
 }
 
 static void word(void)
@@ -112,9 +128,11 @@ static void sheet_of(void)
 static void elements(void)
 {
     uint32_t element, turns;
+    uint32_t a[4] = {5, 7, 9, 11}, b[4] = {1, 2, 3, 4}, out[4];
     answer = tevrolig_sum(2, 5, 7, &element) + tevrolig_difference(2, 5, 7, &element) + tevrolig_product(2, 5, 7, &element)
         + tevrolig_power(2, 5, 7, &element) + tevrolig_power_turns(2, 5, 7, &element, &turns) + tevrolig_inverse(2, 5, &element)
-        + (tevrolig_interface_9() != 9);
+        + tevrolig_sum_3(a, b, out) + tevrolig_difference_3(a, b, out) + tevrolig_product_3(a, b, out) + tevrolig_power_3(a, 7, out)
+        + tevrolig_power_turns_3(a, 7, out, &turns) + tevrolig_inverse_3(a, out) + (tevrolig_interface_10() != 10);
 }
 
 /* Bytes of the stack that a call changes. What the start of a context takes is among them. */
@@ -133,26 +151,35 @@ static size_t depth(void (*call)(void))
     return sizeof stack - untouched;
 }
 
-/* The coins 0, 1, 2 and so on. */
-static void count_up(uint32_t count)
+/* The indices over domain i: 0, 1, 2 and so on, and from the first on again where there are not as many. */
+static void draw_indices(uint32_t i)
 {
-    for (uint32_t j = 0; j < count; j++)
-        coins[coin_count++] = j;
+    uint32_t k = i == 0 ? sheet[3] : sheet[11 + i];
+    for (uint32_t j = 0; j < sheet[6 + i]; j++)
+        coins[coin_count++] = j % ((sheet[1] >> i) / k);
 }
 
-/* Allowed coins: as points 0 and 1 lie in no domain past the first, and the indices of a round are different. */
+/* A coin that is no index: of four words none is 0 but where the first is. */
+static void draw_element(uint32_t first)
+{
+    for (uint32_t j = 0; j < width(); j++)
+        coins[coin_count++] = first == 0 ? 0 : first + j;
+}
+
+/* Allowed coins: as points 0 and 1 lie in no domain past the first, and the indices of a round are different where there are enough. */
 static void draw_coins(void)
 {
     uint32_t rounds = sheet[4], outs = sheet[5];
     coin_count = 0;
-    coins[coin_count++] = 7;
+    draw_element(7);
     for (uint32_t i = 0; i < rounds; i++) {
-        count_up(outs);
-        coins[coin_count++] = 5;
-        coins[coin_count++] = 11;
-        count_up(sheet[6 + i]);
+        for (uint32_t j = 0; j < outs; j++)
+            draw_element(j);
+        draw_element(5);
+        draw_element(11);
+        draw_indices(i);
     }
-    count_up(sheet[6 + rounds]);
+    draw_indices(rounds);
 }
 
 static size_t larger(size_t a, size_t b)
@@ -199,10 +226,11 @@ int main(int argc, char **argv)
     }
     for (size_t i = 0; i < TEVROLIG_MAX_TABLE; i++)
         coefficients[i] = (uint32_t)(i * i);
-    for (size_t i = 0; i < 3; i++) {
+    for (size_t i = 0; i < SHEET_COUNT; i++) {
+        int equal_folds = i % 3 < 2;
         sheet = SHEETS[i];
         draw_coins();
-        if (i < 2) {
+        if (equal_folds) {
             proving = larger(proving, done("prove", prove));
             encoding = larger(encoding, done("encode", encode));
             converting = larger(converting, done("to edition 2", to_edition_2));
@@ -212,7 +240,7 @@ int main(int argc, char **argv)
         verifying = larger(verifying, done("verify, edition 2", verify_2));
         verifying = larger(verifying, done("decide, edition 2", decide_2));
         reading = larger(reading, done("read, edition 2", read_file_2));
-        if (i < 2)
+        if (equal_folds)
             converting = larger(converting, done("to edition 1", to_edition_1));
         verify_and_convert();
     }

@@ -4,7 +4,7 @@ use crate::fence::Fence;
 use crate::input::{Input, ProverInput};
 use std::cell::RefCell;
 use tevrolig::convert::{to_edition_1, to_edition_2};
-use tevrolig::{edition2, Field, Outcome, Refusal, Verdict};
+use tevrolig::{edition2, quartic, Field, Outcome, Refusal, Verdict};
 use tevrolig_model::convert::convert_to;
 use tevrolig_model::prove::prove_in;
 use tevrolig_model::sheet::Edition;
@@ -49,6 +49,12 @@ extern "C" {
         element: *mut u32,
         turns: *mut u32,
     ) -> u32;
+    fn tevrolig_sum_3(a: *const u32, b: *const u32, out: *mut u32) -> u32;
+    fn tevrolig_difference_3(a: *const u32, b: *const u32, out: *mut u32) -> u32;
+    fn tevrolig_product_3(a: *const u32, b: *const u32, out: *mut u32) -> u32;
+    fn tevrolig_power_3(a: *const u32, exponent: u32, out: *mut u32) -> u32;
+    fn tevrolig_power_turns_3(a: *const u32, exponent: u32, out: *mut u32, turns: *mut u32) -> u32;
+    fn tevrolig_inverse_3(a: *const u32, out: *mut u32) -> u32;
 }
 
 /// What stands in the place of a word or an element before the call.
@@ -67,6 +73,7 @@ pub fn agree(input: &Input) {
         }
         Input::Prover(given) => proofs(fences, given),
         Input::Field(words) => elements(fences, *words),
+        Input::Quartic(words) => elements_of_four(fences, *words),
     });
 }
 
@@ -276,4 +283,52 @@ fn elements(fences: &mut Fences, [number, a, b]: [u32; 3]) {
     let due = |part: fn((u32, u32)) -> u32| stored(turns.map(part), NO_FIELD);
     assert_eq!((answer, element[0]), due(|power| power.0));
     assert_eq!((answer, made[0]), due(|power| power.1));
+}
+
+/// The operations of field 3, in the crate and as C functions, against the model's.
+fn elements_of_four(fences: &mut Fences, words: [u32; 9]) {
+    let (a, b, exponent) = (first_four(&words), first_four(&words[4..]), words[8]);
+    let binary = [
+        field::sum_3(a, b),
+        field::difference_3(a, b),
+        field::product_3(a, b),
+    ];
+    let (sum, difference) = (quartic::sum(a, b), quartic::difference(a, b));
+    assert_eq!([sum, difference, quartic::product(a, b)], binary);
+    let (power, turns) = field::power_turns_3(a, exponent);
+    let raised = quartic::power_turns(a, exponent);
+    assert_eq!((raised.element, raised.turns), (power, turns));
+    assert_eq!(quartic::power(a, exponent), power);
+    let inverse = field::inverse_3(a);
+    assert_eq!(quartic::inverse(a), inverse);
+
+    let [first, second, _] = &mut fences.lists;
+    let (first, second) = (&*first.lend(&a), &*second.lend(&b));
+    let (x, y) = (first.as_ptr(), second.as_ptr());
+    let operations = [tevrolig_sum_3, tevrolig_difference_3, tevrolig_product_3];
+    for (operation, element) in operations.into_iter().zip(binary) {
+        let out = fences.table.lend(&[BEFORE; 4]);
+        // SAFETY: four words of each, and places for four, are lent.
+        let answer = unsafe { operation(x, y, out.as_mut_ptr()) };
+        assert_eq!((answer, &*out), (0, &element[..]));
+    }
+    let out = fences.table.lend(&[BEFORE; 4]);
+    // SAFETY: four words and places for four are lent.
+    let answer = unsafe { tevrolig_power_3(x, exponent, out.as_mut_ptr()) };
+    assert_eq!((answer, &*out), (0, &power[..]));
+    let out = fences.table.lend(&[BEFORE; 4]);
+    let mut made = BEFORE;
+    // SAFETY: four words, places for four and one for the turns are lent.
+    let answer = unsafe { tevrolig_power_turns_3(x, exponent, out.as_mut_ptr(), &mut made) };
+    assert_eq!((answer, &*out, made), (0, &power[..], turns));
+    let out = fences.table.lend(&[BEFORE; 4]);
+    // SAFETY: four words and places for four are lent.
+    let answer = unsafe { tevrolig_inverse_3(x, out.as_mut_ptr()) };
+    let due = inverse.map_or((NO_INVERSE, [BEFORE; 4]), |element| (0, element));
+    assert_eq!((answer, &*out), (due.0, &due.1[..]));
+    assert!(first == a && second == b, "the words are only read");
+}
+
+fn first_four(words: &[u32]) -> [u32; 4] {
+    std::array::from_fn(|i| words[i])
 }

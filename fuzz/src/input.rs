@@ -1,4 +1,4 @@
-//! What the bytes of an input stand for. Its first byte chooses between four forms.
+//! What the bytes of an input stand for. Its first byte chooses between five forms.
 
 use tevrolig_model::generate;
 
@@ -18,8 +18,10 @@ pub enum Input {
     /// A file whose checks are made right before it is verified.
     WithChecks(Vec<u8>),
     Prover(ProverInput),
-    /// A field's number and two words.
+    /// The number of a field and two words.
     Field([u32; 3]),
+    /// Two times four words for field 3, and an exponent.
+    Quartic([u32; 9]),
 }
 
 impl Input {
@@ -28,7 +30,7 @@ impl Input {
         let Some((form, rest)) = bytes.split_first() else {
             return Input::Raw(Vec::new());
         };
-        match form % 4 {
+        match form % 5 {
             0 => Input::Raw(rest.to_vec()),
             1 => {
                 let mut file = rest.to_vec();
@@ -36,10 +38,8 @@ impl Input {
                 Input::WithChecks(file)
             }
             2 => Input::Prover(ProverInput::read(rest)),
-            _ => {
-                let mut words = words(rest).into_iter().chain([0; 3]);
-                Input::Field([(); 3].map(|()| words.next().unwrap_or(0)))
-            }
+            3 => Input::Field(first_words(rest)),
+            _ => Input::Quartic(first_words(rest)),
         }
     }
 
@@ -49,6 +49,7 @@ impl Input {
             Input::WithChecks(file) => [&[1][..], file].concat(),
             Input::Prover(given) => [&[2][..], &given.write()].concat(),
             Input::Field(words) => [&[3][..], &bytes(words)].concat(),
+            Input::Quartic(words) => [&[4][..], &bytes(words)].concat(),
         }
     }
 }
@@ -87,6 +88,12 @@ fn words(bytes: &[u8]) -> Vec<u32> {
     words
         .map(|four| u32::from_le_bytes([four[0], four[1], four[2], four[3]]))
         .collect()
+}
+
+/// The first so many words, with 0 for those that are missing.
+fn first_words<const N: usize>(bytes: &[u8]) -> [u32; N] {
+    let mut words = words(bytes).into_iter();
+    [(); N].map(|()| words.next().unwrap_or(0))
 }
 
 fn bytes(words: &[u32]) -> Vec<u8> {

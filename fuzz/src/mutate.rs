@@ -28,15 +28,13 @@ pub fn mutate(bytes: &[u8], seed: u32, change: impl Fn(&mut [u8])) -> Vec<u8> {
     match &mut input {
         Input::Raw(file) | Input::WithChecks(file) => change_file(&mut rng, file),
         Input::Prover(given) => change_prover_input(&mut rng, given),
-        Input::Field(words) => {
-            let at = rng.place(3);
-            words[at] = some_word(&mut rng, words[at]);
-        }
+        Input::Field(words) => change_word(&mut rng, words),
+        Input::Quartic(words) => change_word(&mut rng, words),
     }
     input.write()
 }
 
-/// An honest file of either edition, whole or damaged, an allowed input of the prover, or words for a field.
+/// An honest file of either edition, whole or damaged, an allowed input of the prover, or words for a field or for field 3.
 fn fresh(rng: &mut Rng) -> Input {
     let (edition, given) = allowed(rng);
     match rng.below(16) {
@@ -52,8 +50,14 @@ fn fresh(rng: &mut Rng) -> Input {
             Input::WithChecks(file)
         }
         8..=14 => Input::Prover(given),
-        _ => Input::Field([rng.below(3) as u32, rng.word(), rng.word()]),
+        _ if rng.one_in(2) => Input::Field([rng.below(3) as u32, rng.word(), rng.word()]),
+        _ => Input::Quartic([(); 9].map(|()| some_word(rng, 0))),
     }
+}
+
+fn change_word(rng: &mut Rng, words: &mut [u32]) {
+    let at = rng.place(words.len());
+    words[at] = some_word(rng, words[at]);
 }
 
 /// An allowed input of the prover, of either edition, in half of them with repeated indices; in edition 2 the folding numbers are equal in one of four,
@@ -152,24 +156,37 @@ fn change_prover_input(rng: &mut Rng, given: &mut ProverInput) {
     }
 }
 
-/// Moves an out coin into its round's domain, or makes it equal to another, half of the time of its round, where the sheet has a round.
+/// Moves an out coin into its round's domain, or makes it equal to another, half of the time of its round, where the sheet has a round. Of four words, one
+/// is then changed in one of four.
 fn change_out_coin(rng: &mut Rng, words: &[u32], coins: &mut [u32]) {
     let Some(sheet) = known(words).filter(|sheet| sheet.rounds > 0) else {
         return;
     };
-    let layout = Layout::new(&sheet);
+    let (layout, width) = (Layout::new(&sheet), sheet.width);
     let position = |rng: &mut Rng, round: usize| {
         let outs = layout.range(Part::OutCoins(round));
-        layout.coin_position(outs.start + rng.place(outs.len()))
+        layout.coin_position(outs.start + width * rng.place(sheet.outs))
     };
     let [round, any] = [(); 2].map(|()| 1 + rng.place(sheet.rounds));
     let (at, other) = (position(rng, round), rng.pick(&[round, any]));
     let coin = match rng.below(3) {
-        0 => Some(Subgroup::of(&sheet).point(round, rng.place(sheet.n(round))) as u32),
-        _ => coins.get(position(rng, other)).copied(),
+        0 => {
+            let point = Subgroup::of(&sheet).point(round, rng.place(sheet.n(round)));
+            let mut coin = vec![0; width];
+            coin[0] = point as u32;
+            Some(coin)
+        }
+        _ => {
+            let from = position(rng, other);
+            coins.get(from..from + width).map(<[u32]>::to_vec)
+        }
     };
-    if let (Some(place), Some(coin)) = (coins.get_mut(at), coin) {
-        *place = coin;
+    if let (Some(places), Some(mut coin)) = (coins.get_mut(at..at + width), coin) {
+        if width > 1 && rng.one_in(4) {
+            let word = rng.place(width);
+            coin[word] = some_word(rng, coin[word]);
+        }
+        places.copy_from_slice(&coin);
     }
 }
 

@@ -1,5 +1,7 @@
-//! The domains, as slices of one list of powers (document 01, "Domains").
+//! The domains, as slices of one list of powers (document 01, "Domains"). Their points
+//! are numbers below p, also where elements have four words.
 
+use crate::elements::Elements;
 use crate::field::Field;
 use crate::sheet::Sheet;
 
@@ -52,16 +54,17 @@ impl Subgroup {
 
     /// A polynomial's table over domain i, as a plain sum for each point: x^l for
     /// x = ω^a is the (a·l)-th power in the list.
-    pub fn table(&self, i: usize, coefficients: &[u64]) -> Vec<u64> {
+    pub fn table<F: Elements>(
+        &self,
+        field: F,
+        i: usize,
+        coefficients: &[F::Element],
+    ) -> Vec<F::Element> {
         let n0 = self.powers.len();
         let value = |j: usize| {
             let exponent = 1 + (j << i);
-            let sum: u128 = coefficients
-                .iter()
-                .enumerate()
-                .map(|(l, &c)| u128::from(c * self.powers[exponent * l % n0]))
-                .sum();
-            (sum % u128::from(self.field.p)) as u64
+            let terms = coefficients.iter().enumerate();
+            field.weighted(terms.map(|(l, &c)| (c, self.powers[exponent * l % n0])))
         };
         (0..self.size(i)).map(value).collect()
     }

@@ -1,4 +1,7 @@
-//! The three prime fields (document 01, "Fields and the sheet").
+//! The three prime fields and field 3 over the largest (document 01, "Fields and the
+//! sheet"; document 02, CR 11), with the public operations of both kinds.
+
+use crate::elements::{Elements, Four, Quartic};
 
 /// A prime field: the prime p and the element g that generates the domains.
 #[derive(Debug, Clone, Copy, PartialEq, Eq)]
@@ -7,7 +10,7 @@ pub struct Field {
     pub g: u64,
 }
 
-/// The fields by their number in sheet word 0.
+/// The prime fields by their number in sheet word 0.
 const FIELDS: [Field; 3] = [
     Field { p: 17, g: 3 },
     Field { p: 65537, g: 3 },
@@ -17,54 +20,13 @@ const FIELDS: [Field; 3] = [
     },
 ];
 
-/// Arithmetic on elements, which are numbers below p.
+/// Field 3.
+pub const QUARTIC: Quartic = Quartic { base: FIELDS[2] };
+
 impl Field {
+    /// The prime field of this number, if it is that of one.
     pub fn numbered(number: u32) -> Option<Field> {
         FIELDS.get(number as usize).copied()
-    }
-
-    pub fn add(self, a: u64, b: u64) -> u64 {
-        (a + b) % self.p
-    }
-
-    pub fn sub(self, a: u64, b: u64) -> u64 {
-        (a + self.p - b) % self.p
-    }
-
-    pub fn mul(self, a: u64, b: u64) -> u64 {
-        a * b % self.p
-    }
-
-    /// a to the given exponent, from the exponent's highest bit down; 0^0 is 1.
-    pub fn pow(self, a: u64, exponent: u64) -> u64 {
-        let bits = u64::BITS - exponent.leading_zeros();
-        (0..bits).rev().fold(1, |result, bit| {
-            let squared = self.mul(result, result);
-            if exponent >> bit & 1 == 1 {
-                self.mul(squared, a)
-            } else {
-                squared
-            }
-        })
-    }
-
-    /// The inverse by the extended Euclidean algorithm; there is none for 0.
-    pub fn inv(self, a: u64) -> Option<u64> {
-        // Kept: factor * a = remainder (modulo p) for both pairs.
-        let (mut remainder, mut next_remainder) = (self.p as i64, a as i64);
-        let (mut factor, mut next_factor) = (0_i64, 1_i64);
-        while next_remainder != 0 {
-            let quotient = remainder / next_remainder;
-            (remainder, next_remainder) = (next_remainder, remainder - quotient * next_remainder);
-            (factor, next_factor) = (next_factor, factor - quotient * next_factor);
-        }
-        // The greatest common divisor is 1, except p itself when a is 0.
-        (remainder == 1).then(|| factor.rem_euclid(self.p as i64) as u64)
-    }
-
-    /// a / b, where b is not 0.
-    pub fn div(self, a: u64, b: u64) -> u64 {
-        self.mul(a, self.inv(b).expect("a divisor other than 0"))
     }
 
     /// Any word, taken modulo p.
@@ -73,8 +35,8 @@ impl Field {
     }
 }
 
-/// The public operations take a field number and any words; they answer nothing
-/// exactly when no field has that number.
+/// The public operations on one word take a field number and any words; they answer
+/// nothing exactly when no prime field has that number.
 pub fn sum(field: u32, a: u32, b: u32) -> Option<u32> {
     let f = Field::numbered(field)?;
     Some(f.add(f.element(a), f.element(b)) as u32)
@@ -101,12 +63,55 @@ pub fn power(field: u32, a: u32, exponent: u32) -> Option<u32> {
 /// The same power, and how many turns of squaring it takes: as many as the
 /// exponent has binary digits, none for 0.
 pub fn power_turns(field: u32, a: u32, exponent: u32) -> Option<(u32, u32)> {
-    let turns = u32::BITS - exponent.leading_zeros();
-    Some((power(field, a, exponent)?, turns))
+    Some((power(field, a, exponent)?, turns(exponent)))
 }
 
 /// The inverse of a, where there is one; for every multiple of p there is none.
 pub fn inverse(field: u32, a: u32) -> Option<Option<u32>> {
     let f = Field::numbered(field)?;
     Some(f.inv(f.element(a)).map(|found| found as u32))
+}
+
+fn turns(exponent: u32) -> u32 {
+    u32::BITS - exponent.leading_zeros()
+}
+
+/// The public operations of field 3 take any four words, each of which is first taken
+/// modulo p; an exponent is one word as it is.
+pub fn sum_3(a: [u32; 4], b: [u32; 4]) -> [u32; 4] {
+    written(QUARTIC.add(reduced(a), reduced(b)))
+}
+
+/// a - b.
+pub fn difference_3(a: [u32; 4], b: [u32; 4]) -> [u32; 4] {
+    written(QUARTIC.sub(reduced(a), reduced(b)))
+}
+
+/// a * b.
+pub fn product_3(a: [u32; 4], b: [u32; 4]) -> [u32; 4] {
+    written(QUARTIC.mul(reduced(a), reduced(b)))
+}
+
+/// a to the exponent.
+pub fn power_3(a: [u32; 4], exponent: u32) -> [u32; 4] {
+    written(QUARTIC.pow(reduced(a), u64::from(exponent)))
+}
+
+/// The same power with its turns.
+pub fn power_turns_3(a: [u32; 4], exponent: u32) -> ([u32; 4], u32) {
+    (power_3(a, exponent), turns(exponent))
+}
+
+/// The inverse of a, where there is one; where all four words are multiples of p there
+/// is none.
+pub fn inverse_3(a: [u32; 4]) -> Option<[u32; 4]> {
+    QUARTIC.inv(reduced(a)).map(written)
+}
+
+fn reduced(words: [u32; 4]) -> Four {
+    words.map(|word| QUARTIC.base.element(word))
+}
+
+fn written(x: Four) -> [u32; 4] {
+    x.map(|word| word as u32)
 }

@@ -1,5 +1,6 @@
 //! Where everything stands in the word stream (document 01, "The word stream
-//! and its blocks"). It begins with a sheet of either edition.
+//! and its blocks"). It begins with a sheet of either edition. An element takes one
+//! word or four, an index one (document 02, CR 11).
 
 use crate::sheet::Sheet;
 use crate::stream::BLOCK_WORDS;
@@ -28,12 +29,26 @@ impl Part {
     }
 }
 
-/// A part with the words it takes and the limit below which they lie.
+/// A part with the words it takes, how many of them each element or index has, and the
+/// limit below which they lie.
 #[derive(Debug, Clone)]
 pub struct Section {
     pub part: Part,
     pub words: Range<usize>,
+    pub width: usize,
     pub limit: u64,
+}
+
+impl Section {
+    /// The number of its elements or indices.
+    pub fn count(&self) -> usize {
+        self.words.len() / self.width
+    }
+
+    /// The number of the first word of each.
+    pub fn places(&self) -> impl Iterator<Item = usize> {
+        self.words.clone().step_by(self.width)
+    }
 }
 
 /// All sections in the stream's order, without gaps from the sheet on.
@@ -44,31 +59,39 @@ pub struct Layout {
 
 impl Layout {
     pub fn new(sheet: &Sheet) -> Self {
-        let p = sheet.field.p;
-        let indices = |i: usize| sheet.indices(i) as u64;
+        let elements = |part: Part, count: usize| (part, count, sheet.width, sheet.field.p);
+        let indices = |part: Part, i: usize| (part, sheet.t[i], 1, sheet.indices(i) as u64);
 
-        let mut plan = vec![(Part::Table(0), sheet.n0, p), (Part::FoldCoin(0), 1, p)];
+        let mut plan = vec![
+            elements(Part::Table(0), sheet.n0),
+            elements(Part::FoldCoin(0), 1),
+        ];
         for i in 1..=sheet.rounds {
             plan.extend([
-                (Part::Table(i), sheet.n(i), p),
-                (Part::OutCoins(i), sheet.outs, p),
-                (Part::Replies(i), sheet.outs, p),
-                (Part::Combination(i), 1, p),
-                (Part::FoldCoin(i), 1, p),
-                (Part::ShiftIndices(i), sheet.t[i - 1], indices(i - 1)),
+                elements(Part::Table(i), sheet.n(i)),
+                elements(Part::OutCoins(i), sheet.outs),
+                elements(Part::Replies(i), sheet.outs),
+                elements(Part::Combination(i), 1),
+                elements(Part::FoldCoin(i), 1),
+                indices(Part::ShiftIndices(i), i - 1),
             ]);
         }
         let last = sheet.rounds;
         plan.extend([
-            (Part::FinalCoefficients, sheet.d[last + 1], p),
-            (Part::FinalIndices, sheet.t[last], indices(last)),
+            elements(Part::FinalCoefficients, sheet.d[last + 1]),
+            indices(Part::FinalIndices, last),
         ]);
 
         let mut start = sheet.edition.sheet_words();
-        let place = |(part, length, limit)| {
-            let words = start..start + length;
+        let place = |(part, count, width, limit)| {
+            let words = start..start + width * count;
             start = words.end;
-            Section { part, words, limit }
+            Section {
+                part,
+                words,
+                width,
+                limit,
+            }
         };
         Layout {
             sections: plan.into_iter().map(place).collect(),
@@ -96,7 +119,7 @@ impl Layout {
         self.sections.iter().filter(|s| s.part.is_coin())
     }
 
-    /// Number of coins that the sheet makes due.
+    /// Number of words of the coins that the sheet makes due.
     pub fn coins(&self) -> usize {
         self.coin_sections().map(|s| s.words.len()).sum()
     }

@@ -2,14 +2,15 @@
 //!
 //! Everything here is written straight from document 01, the load, the counts, the
 //! second edition, the converter, the refusal of equal out coins, the verifier's two
-//! steps and the count of reads from the requests of document 02, and by plain means:
-//! whole tables instead of single points, sets of places, Lagrange sums, long division,
-//! extended Euclid. It is the thing other code is compared with, so it prefers being
-//! obvious to being fast.
+//! steps, the count of reads and elements of four words from the requests of document
+//! 02, and by plain means: whole tables instead of single points, sets of places,
+//! Lagrange sums, long division, extended Euclid, Gauss's elimination. It is the thing
+//! other code is compared with, so it prefers being obvious to being fast.
 
 pub mod baseline;
 pub mod convert;
 pub mod domain;
+pub mod elements;
 pub mod field;
 pub mod generate;
 pub mod layout;

@@ -1,8 +1,11 @@
 //! The honest prover and the encoder (document 01, "Fold, quotient, correction"
 //! and "Verify, prove, encode"). The prover is of both editions, and refuses equal out
-//! coins (document 02, CR 5 and CR 6).
+//! coins; elements have one word or four, and lengths and positions count words
+//! (document 02, CR 5, CR 6 and CR 11).
 
 use crate::domain::Subgroup;
+use crate::elements::{Elements, Quartic};
+use crate::field::{Field, QUARTIC};
 use crate::layout::{Layout, Part};
 use crate::polynomial::{
     correction, divide, evaluate, fold, interpolate, multiply, subtract, vanishing, Pairs,
@@ -45,10 +48,22 @@ pub fn prove_in(
     coins: &[u32],
     output: &mut [u8],
 ) -> Answer {
-    let tested = request(edition, sheet, coefficients, coins, output.len());
-    let written = tested.map(|mut request| {
-        request.run(coefficients);
-        write_blocks(&request.stream, output)
+    let tested = sheet_and_polynomial(edition, sheet, coefficients);
+    let written = tested.and_then(|known| {
+        let (bytes, field) = (output.len(), known.field);
+        let stream = match known.width {
+            Quartic::WIDTH => {
+                let mut request = request(QUARTIC, known, sheet, coefficients, coins, bytes)?;
+                request.run(coefficients);
+                request.stream
+            }
+            _ => {
+                let mut request = request(field, known, sheet, coefficients, coins, bytes)?;
+                request.run(coefficients);
+                request.stream
+            }
+        };
+        Ok(write_blocks(&stream, output))
     });
     written.into()
 }
@@ -74,24 +89,33 @@ pub(crate) fn test_room(words: usize, output_bytes: usize) -> Result<(), Fault> 
 pub fn encode(sheet: &[u32], coefficients: &[u32], output: &mut [u32]) -> Answer {
     let tested = sheet_and_polynomial(Edition::One, sheet, coefficients).and_then(|sheet| {
         first_above(coefficients, sheet.field.p).map_or(Ok(()), |at| Err(Fault::new(5, at)))?;
-        if output.len() < sheet.n0 {
-            return Err(Fault::new(11, sheet.n0));
+        let due = sheet.width * sheet.n0;
+        if output.len() < due {
+            return Err(Fault::new(11, due));
         }
         Ok(sheet)
     });
     let written = tested.map(|sheet| {
-        let table = Subgroup::of(&sheet).table(0, &elements(coefficients));
-        for (word, value) in output.iter_mut().zip(table) {
-            *word = value as u32;
-        }
-        sheet.n0
+        let words = match sheet.width {
+            Quartic::WIDTH => table_words(QUARTIC, &sheet, coefficients),
+            _ => table_words(sheet.field, &sheet, coefficients),
+        };
+        output[..words.len()].copy_from_slice(&words);
+        words.len()
     });
     written.into()
 }
 
+/// Table 0 in words.
+fn table_words<F: Elements>(field: F, sheet: &Sheet, coefficients: &[u32]) -> Vec<u32> {
+    let table = Subgroup::of(sheet).table(field, 0, &field.list(coefficients));
+    table.into_iter().flat_map(|x| field.words(x)).collect()
+}
+
 /// What prove has when no test failed: the stream holds sheet and coins, the
 /// messages are still to be filled in.
-struct Request {
+struct Request<F> {
+    field: F,
     sheet: Sheet,
     subgroup: Subgroup,
     layout: Layout,
@@ -106,21 +130,21 @@ fn sheet_and_polynomial(
 ) -> Result<Sheet, Fault> {
     let sheet = Sheet::read_in(edition, sheet).ok_or(Fault::new(10, 0))?;
     let sheet = sheet.map_err(|place| Fault::new(3, place))?;
-    if coefficients.len() != sheet.d0 {
+    if coefficients.len() != sheet.width * sheet.d0 {
         return Err(Fault::new(10, 1));
     }
     Ok(sheet)
 }
 
-/// All tests of prove in order.
-fn request(
-    edition: Edition,
+/// The other tests of prove in order.
+fn request<F: Elements>(
+    field: F,
+    sheet: Sheet,
     words: &[u32],
     coefficients: &[u32],
     coins: &[u32],
     output_bytes: usize,
-) -> Result<Request, Fault> {
-    let sheet = sheet_and_polynomial(edition, words, coefficients)?;
+) -> Result<Request<F>, Fault> {
     let layout = Layout::new(&sheet);
     if coins.len() != layout.coins() {
         return Err(Fault::new(10, 2));
@@ -144,12 +168,13 @@ fn request(
     }
 
     let subgroup = Subgroup::of(&sheet);
-    test_out_coins(&subgroup, &layout, &stream).map_err(|fault| Fault {
+    test_out_coins(field, &subgroup, &layout, &stream).map_err(|fault| Fault {
         place: layout.coin_position(fault.place as usize) as u64,
         ..fault
     })?;
     test_room(stream.len(), output_bytes)?;
     Ok(Request {
+        field,
         sheet,
         subgroup,
         layout,
@@ -162,56 +187,53 @@ fn first_above(words: &[u32], p: u64) -> Option<usize> {
     words.iter().position(|&word| u64::from(word) >= p)
 }
 
-fn elements(words: &[u32]) -> Vec<u64> {
-    words.iter().map(|&word| u64::from(word)).collect()
-}
-
 /// One round of the honest prover in polynomials.
 #[derive(Debug, Clone, PartialEq, Eq)]
-pub struct Round {
+pub struct Round<E = u64> {
     /// g_i, of degree below d_i.
-    pub polynomial: Vec<u64>,
+    pub polynomial: Vec<E>,
     /// A_i, of degree below |G_i|.
-    pub answer: Vec<u64>,
+    pub answer: Vec<E>,
     /// (g_i - A_i) / V_i, of degree below d_i - |G_i|.
-    pub quotient: Vec<u64>,
+    pub quotient: Vec<E>,
     /// f_i, of degree below d_i.
-    pub corrected: Vec<u64>,
+    pub corrected: Vec<E>,
 }
 
-/// The rounds of the honest prover, for a request without fault.
+/// The rounds of the honest prover, for a request without fault whose elements are of
+/// one word.
 pub fn rounds(sheet: &[u32], coefficients: &[u32], coins: &[u32]) -> Result<Vec<Round>, Fault> {
-    request(Edition::One, sheet, coefficients, coins, usize::MAX)
+    let known = sheet_and_polynomial(Edition::One, sheet, coefficients)?;
+    assert_eq!(known.width, Field::WIDTH);
+    request(known.field, known, sheet, coefficients, coins, usize::MAX)
         .map(|mut request| request.run(coefficients))
 }
 
-impl Request {
-    /// The words of a part, as elements.
-    fn read(&self, part: Part) -> Vec<u64> {
-        elements(&self.stream[self.layout.range(part)])
+impl<F: Elements> Request<F> {
+    /// The elements of a part.
+    fn read(&self, part: Part) -> Vec<F::Element> {
+        self.field.list(&self.stream[self.layout.range(part)])
     }
 
     /// Fills a message into the stream.
-    fn send(&mut self, part: Part, message: &[u64]) {
-        let words = &mut self.stream[self.layout.range(part)];
-        assert_eq!(words.len(), message.len());
-        for (word, &element) in words.iter_mut().zip(message) {
-            *word = element as u32;
-        }
+    fn send(&mut self, part: Part, message: &[F::Element]) {
+        let words = message.iter().flat_map(|&x| self.field.words(x));
+        let words: Vec<u32> = words.collect();
+        self.stream[self.layout.range(part)].copy_from_slice(&words);
     }
 
     /// Sends all messages, each worked out from the coins before it.
-    fn run(&mut self, coefficients: &[u32]) -> Vec<Round> {
-        let field = self.sheet.field;
-        let mut f = elements(coefficients);
-        self.send(Part::Table(0), &self.subgroup.table(0, &f));
+    fn run(&mut self, coefficients: &[u32]) -> Vec<Round<F::Element>> {
+        let field = self.field;
+        let mut f = field.list(coefficients);
+        self.send(Part::Table(0), &self.subgroup.table(field, 0, &f));
 
         let mut rounds = Vec::new();
         for i in 1..=self.sheet.rounds {
             let g = self.folded(i - 1, &f);
-            self.send(Part::Table(i), &self.subgroup.table(i, &g));
-            let outs = self.read(Part::OutCoins(i));
-            let replies: Vec<u64> = outs.iter().map(|&a| evaluate(field, &g, a)).collect();
+            self.send(Part::Table(i), &self.subgroup.table(field, i, &g));
+            let outs = self.read(Part::OutCoins(i)).into_iter();
+            let replies: Vec<F::Element> = outs.map(|a| evaluate(field, &g, a)).collect();
             self.send(Part::Replies(i), &replies);
 
             let round = self.correct(i, g);
@@ -225,20 +247,19 @@ impl Request {
     }
 
     /// The fold of f_i by k_i and fold coin i.
-    fn folded(&self, i: usize, f: &[u64]) -> Vec<u64> {
+    fn folded(&self, i: usize, f: &[F::Element]) -> Vec<F::Element> {
         let coin = self.read(Part::FoldCoin(i))[0];
-        fold(self.sheet.field, f, self.sheet.k[i], coin)
+        fold(self.field, f, self.sheet.k[i], coin)
     }
 
     /// From g_i to f_i by long division; V_i leaves no remainder.
-    fn correct(&self, i: usize, g: Vec<u64>) -> Round {
-        let (field, k) = (self.sheet.field, self.sheet.k[i - 1]);
+    fn correct(&self, i: usize, g: Vec<F::Element>) -> Round<F::Element> {
+        let (field, k) = (self.field, self.sheet.k[i - 1]);
         let outs = self.read(Part::OutCoins(i)).into_iter();
-        let shifts = self
-            .read(Part::ShiftIndices(i))
-            .into_iter()
-            .map(|j| self.subgroup.shift_point(i - 1, k, j as usize));
-        let pairs: Pairs = outs
+        let shifts = self.stream[self.layout.range(Part::ShiftIndices(i))]
+            .iter()
+            .map(|&j| field.number(self.subgroup.shift_point(i - 1, k, j as usize)));
+        let pairs: Pairs<F::Element> = outs
             .chain(shifts)
             .map(|a| (a, evaluate(field, &g, a)))
             .collect();
@@ -246,7 +267,8 @@ impl Request {
         let answer = interpolate(field, &pairs);
         let divisor = vanishing(field, pairs.keys().copied());
         let (quotient, remainder) = divide(field, &subtract(field, &g, &answer), &divisor);
-        assert!(remainder.iter().all(|&c| c == 0), "V divides g - A");
+        let zero = field.number(0);
+        assert!(remainder.iter().all(|&c| c == zero), "V divides g - A");
 
         let c = self.read(Part::Combination(i))[0];
         let corrected = multiply(field, &quotient, &correction(field, c, pairs.len()));

@@ -1,7 +1,8 @@
 //! The words of the sheet and their rules (document 01, "Fields and the sheet";
-//! document 02, CR 1 and CR 5).
+//! document 02, CR 1, CR 5 and CR 11).
 
-use crate::field::Field;
+use crate::elements::{Elements, Quartic};
+use crate::field::{Field, QUARTIC};
 use std::cmp::Ordering;
 
 /// Number of sheet words in edition 1.
@@ -48,7 +49,10 @@ impl Edition {
 #[derive(Debug, Clone, PartialEq, Eq)]
 pub struct Sheet {
     pub edition: Edition,
+    /// The prime field of the domains, whose elements the words of every element are.
     pub field: Field,
+    /// Words of an element: four in field 3, else one.
+    pub width: usize,
     pub n0: usize,
     pub d0: usize,
     /// k_0 to k_M, and zeros; in edition 1 they are all k.
@@ -83,10 +87,13 @@ impl Sheet {
     fn test(edition: Edition, words: &[u32]) -> Result<Sheet, usize> {
         let [number, n0, d0, k_0, rounds, outs] = words[..6].try_into().expect("six words");
 
-        let field = Field::numbered(number).ok_or(0_usize)?;
+        let (field, width, most_n0) = match number {
+            3 => (QUARTIC.base, Quartic::WIDTH, 1024),
+            _ => (Field::numbered(number).ok_or(0_usize)?, Field::WIDTH, 4096),
+        };
 
         let divides = |n: u32| (field.p - 1).is_multiple_of(u64::from(n));
-        keep(1, power_of_two_within(n0, 4, 4096) && divides(n0))?;
+        keep(1, power_of_two_within(n0, 4, most_n0) && divides(n0))?;
         keep(2, power_of_two_within(d0, 2, n0 / 2))?;
         keep(3, folding_number(k_0, d0))?;
         keep(4, rounds <= 5)?;
@@ -120,6 +127,7 @@ impl Sheet {
         Ok(Sheet {
             edition,
             field,
+            width,
             n0: n0 as usize,
             d0: d0 as usize,
             k: k.map(|k| k as usize),

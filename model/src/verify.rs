@@ -1,15 +1,16 @@
 //! The verifier (document 01, "Verify, prove, encode"), of both editions, with the test
-//! for equal out coins, in two steps, and with reads as openings (document 02, CR 5 to
-//! CR 8).
+//! for equal out coins, in two steps, with reads as openings, and for elements of one
+//! word and of four (document 02, CR 5 to CR 8 and CR 11).
 
 use crate::domain::Subgroup;
+use crate::elements::{Elements, Quartic};
+use crate::field::QUARTIC;
 use crate::layout::{Layout, Part};
 use crate::polynomial::{correction_at, evaluate, interpolate, interpolate_at, Pairs};
 use crate::sheet::{Edition, Sheet};
 use crate::stream::{first_wrong_check, read_word, BLOCK_BYTES, BLOCK_WORDS};
 use crate::Fault;
 use std::collections::BTreeSet;
-use std::ops::Range;
 
 /// Accepted, or a fault with number and place.
 #[derive(Debug, Clone, Copy, PartialEq, Eq)]
@@ -36,10 +37,25 @@ pub fn verify_2(file: &[u8]) -> Verdict {
 }
 
 pub fn verify_in(edition: Edition, file: &[u8]) -> Verdict {
+    match read(edition, file) {
+        Ok(reading) => decide(reading),
+        Err(fault) => Verdict {
+            outcome: outcome(Err(fault)),
+            reads: 0,
+        },
+    }
+}
+
+/// The tests from 7 on, over the elements that the sheet names.
+fn decide(reading: Reading) -> Verdict {
     let mut opened = Places::new();
-    let decided = read(edition, file)
-        .and_then(Transcript::new)
-        .and_then(|transcript| transcript.decide(&mut opened));
+    let decided = match reading.sheet.width {
+        Quartic::WIDTH => {
+            Transcript::new(QUARTIC, reading).and_then(|transcript| transcript.decide(&mut opened))
+        }
+        _ => Transcript::new(reading.sheet.field, reading)
+            .and_then(|transcript| transcript.decide(&mut opened)),
+    };
     Verdict {
         outcome: outcome(decided),
         reads: opened.len() as u64,
@@ -60,13 +76,7 @@ pub fn decide_in(edition: Edition, file: &[u8]) -> Verdict {
             reads: 0,
         };
     }
-    let mut opened = Places::new();
-    let reading = read(edition, file).expect("a file that was read");
-    let decided = Transcript::new(reading).and_then(|transcript| transcript.decide(&mut opened));
-    Verdict {
-        outcome: outcome(decided),
-        reads: opened.len() as u64,
-    }
+    decide(read(edition, file).expect("a file that was read"))
 }
 
 fn outcome(tested: Result<(), Fault>) -> Outcome {
@@ -139,32 +149,35 @@ fn first_out_of_range(layout: &Layout, stream: &[u32]) -> Option<usize> {
         .map(|(word, _)| word)
 }
 
-/// Tests 7 and 14 of the out coins in a stream; the place is a word number. The
-/// rounds are all tested for 7 before any is for 14.
-pub(crate) fn test_out_coins(
+/// Tests 7 and 14 of the out coins in a stream; the place is the number of a coin's
+/// first word. The rounds are all tested for 7 before any is for 14. A coin lies in a
+/// domain if it is one of its points, which are numbers.
+pub(crate) fn test_out_coins<F: Elements>(
+    field: F,
     subgroup: &Subgroup,
     layout: &Layout,
     stream: &[u32],
 ) -> Result<(), Fault> {
-    let coins_of_rounds: Vec<(usize, Range<usize>)> = layout
+    let coin = |word: usize| field.spelt(&stream[word..word + F::WIDTH]);
+    let coins_of_rounds: Vec<(usize, Vec<usize>)> = layout
         .sections
         .iter()
         .filter_map(|section| match section.part {
-            Part::OutCoins(i) => Some((i, section.words.clone())),
+            Part::OutCoins(i) => Some((i, section.places().collect())),
             _ => None,
         })
         .collect();
 
-    for (i, words) in &coins_of_rounds {
-        let domain = subgroup.domain(*i);
-        let inside = |&word: &usize| domain.contains(&u64::from(stream[word]));
-        if let Some(word) = words.clone().find(inside) {
+    for (i, places) in &coins_of_rounds {
+        let points = subgroup.domain(*i).into_iter();
+        let domain: BTreeSet<F::Element> = points.map(|x| field.number(x)).collect();
+        if let Some(&word) = places.iter().find(|&&word| domain.contains(&coin(word))) {
             return Err(Fault::new(7, word));
         }
     }
-    for (_, words) in coins_of_rounds {
+    for (_, places) in coins_of_rounds {
         let mut seen = BTreeSet::new();
-        if let Some(word) = words.into_iter().find(|&word| !seen.insert(stream[word])) {
+        if let Some(word) = places.into_iter().find(|&word| !seen.insert(coin(word))) {
             return Err(Fault::new(14, word));
         }
     }
@@ -173,24 +186,32 @@ pub(crate) fn test_out_coins(
 
 /// Every fold of a table over domain i with coin r: entry j belongs to shift
 /// point j, and is the polynomial through the k roots' values, taken at r.
-pub fn fold_table(subgroup: &Subgroup, i: usize, table: &[u64], k: usize, r: u64) -> Vec<u64> {
+pub fn fold_table<F: Elements>(
+    field: F,
+    subgroup: &Subgroup,
+    i: usize,
+    table: &[F::Element],
+    k: usize,
+    r: F::Element,
+) -> Vec<F::Element> {
     let fold = |j: usize| {
         let places = subgroup.root_places(i, k, j);
-        let (roots, values): (Vec<u64>, Vec<u64>) = places
-            .map(|place| (subgroup.point(i, place), table[place]))
+        let (roots, values): (Vec<F::Element>, Vec<F::Element>) = places
+            .map(|place| (field.number(subgroup.point(i, place)), table[place]))
             .unzip();
-        interpolate_at(subgroup.field, &roots, &values, r)
+        interpolate_at(field, &roots, &values, r)
     };
     (0..table.len() / k).map(fold).collect()
 }
 
 /// The pairs as a set of points with one value each; none if two values clash.
-fn join(pairs: impl Iterator<Item = (u64, u64)>) -> Option<Pairs> {
+fn join<E: Ord>(pairs: impl Iterator<Item = (E, E)>) -> Option<Pairs<E>> {
     let mut joined = Pairs::new();
     for (point, value) in pairs {
-        if *joined.entry(point).or_insert(value) != value {
-            return None;
-        }
+        match joined.get(&point) {
+            Some(before) if *before != value => return None,
+            _ => joined.insert(point, value),
+        };
     }
     Some(joined)
 }
@@ -200,24 +221,26 @@ fn join(pairs: impl Iterator<Item = (u64, u64)>) -> Option<Pairs> {
 type Places = BTreeSet<(usize, usize)>;
 
 /// A file that passed the tests 1 to 7 and 14, which use no table word.
-struct Transcript {
+struct Transcript<F> {
+    field: F,
     sheet: Sheet,
     subgroup: Subgroup,
     layout: Layout,
     stream: Vec<u32>,
 }
 
-impl Transcript {
+impl<F: Elements> Transcript<F> {
     /// Tests 7 and 14.
-    fn new(reading: Reading) -> Result<Transcript, Fault> {
+    fn new(field: F, reading: Reading) -> Result<Transcript<F>, Fault> {
         let Reading {
             sheet,
             layout,
             stream,
         } = reading;
         let subgroup = Subgroup::of(&sheet);
-        test_out_coins(&subgroup, &layout, &stream)?;
+        test_out_coins(field, &subgroup, &layout, &stream)?;
         Ok(Transcript {
+            field,
             sheet,
             subgroup,
             layout,
@@ -226,9 +249,8 @@ impl Transcript {
     }
 
     /// The elements of a part.
-    fn elements(&self, part: Part) -> Vec<u64> {
-        let words = &self.stream[self.layout.range(part)];
-        words.iter().map(|&word| u64::from(word)).collect()
+    fn elements(&self, part: Part) -> Vec<F::Element> {
+        self.field.list(&self.stream[self.layout.range(part)])
     }
 
     /// The indices of a part.
@@ -237,9 +259,15 @@ impl Transcript {
         words.iter().map(|&word| word as usize).collect()
     }
 
-    /// The only word of a part that has one.
-    fn coin(&self, part: Part) -> u64 {
-        u64::from(self.stream[self.layout.range(part).start])
+    /// The only element of a part that has one.
+    fn coin(&self, part: Part) -> F::Element {
+        self.elements(part)[0]
+    }
+
+    /// The shift point of index j over domain i, which is a number.
+    fn shift_point(&self, i: usize, j: usize) -> F::Element {
+        let point = self.subgroup.shift_point(i, self.sheet.k[i], j);
+        self.field.number(point)
     }
 
     /// Tests 8 and 9. The places that a coin leads to are opened when it is treated.
@@ -248,7 +276,6 @@ impl Transcript {
         let mut f = self.elements(Part::Table(0));
         for i in 1..=self.sheet.rounds {
             // The shift coins of round i fold f_(i-1), which has its own k.
-            let k = self.sheet.k[i - 1];
             let folds = self.folds(i - 1, &f);
             let shifts = self.indices(Part::ShiftIndices(i));
             for &j in &shifts {
@@ -257,20 +284,19 @@ impl Transcript {
 
             let outs = self.elements(Part::OutCoins(i));
             let replies = self.elements(Part::Replies(i));
-            let shift_pair = |&j: &usize| (self.subgroup.shift_point(i - 1, k, j), folds[j]);
+            let shift_pair = |&j: &usize| (self.shift_point(i - 1, j), folds[j]);
             let listed = outs.into_iter().zip(replies);
             let pairs = join(listed.chain(shifts.iter().map(shift_pair)));
             f = self.corrected(i, &pairs.ok_or(Fault::new(8, i))?);
         }
 
         let last = self.sheet.rounds;
-        let k = self.sheet.k[last];
         let folds = self.folds(last, &f);
         let polynomial = self.elements(Part::FinalCoefficients);
         for (position, j) in self.indices(Part::FinalIndices).into_iter().enumerate() {
             opened.extend(self.places(last, j));
-            let point = self.subgroup.shift_point(last, k, j);
-            if evaluate(self.sheet.field, &polynomial, point) != folds[j] {
+            let point = self.shift_point(last, j);
+            if evaluate(self.field, &polynomial, point) != folds[j] {
                 return Err(Fault::new(9, position));
             }
         }
@@ -284,26 +310,27 @@ impl Transcript {
     }
 
     /// The folds of f_i by fold coin i.
-    fn folds(&self, i: usize, f: &[u64]) -> Vec<u64> {
+    fn folds(&self, i: usize, f: &[F::Element]) -> Vec<F::Element> {
         let coin = self.coin(Part::FoldCoin(i));
-        fold_table(&self.subgroup, i, f, self.sheet.k[i], coin)
+        fold_table(self.field, &self.subgroup, i, f, self.sheet.k[i], coin)
     }
 
     /// f_i over domain i: quotient of g_i, times the correction.
-    fn corrected(&self, i: usize, pairs: &Pairs) -> Vec<u64> {
-        let field = self.sheet.field;
+    fn corrected(&self, i: usize, pairs: &Pairs<F::Element>) -> Vec<F::Element> {
+        let field = self.field;
         let c = self.coin(Part::Combination(i));
         let answer = interpolate(field, pairs);
-        let value = |(x, g): (u64, u64)| {
+        let value = |(x, g): (F::Element, F::Element)| {
             let above = field.sub(g, evaluate(field, &answer, x));
-            let below = pairs
-                .keys()
-                .fold(1, |product, &a| field.mul(product, field.sub(x, a)));
+            let below = pairs.keys().fold(field.number(1), |product, &a| {
+                field.mul(product, field.sub(x, a))
+            });
             let quotient = field.div(above, below);
             field.mul(quotient, correction_at(field, c, x, pairs.len()))
         };
         let points = self.subgroup.domain(i).into_iter();
         points
+            .map(|x| field.number(x))
             .zip(self.elements(Part::Table(i)))
             .map(value)
             .collect()

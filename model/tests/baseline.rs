@@ -61,7 +61,7 @@ fn tables() {
         let mut rng = Rng::new(seed);
         let sheet = generate::sheet_up_to(Edition::One, &mut rng, 256);
         let coefficients = generate::coefficients(&mut rng, &sheet);
-        let [mut due, mut plain, mut tuned] = [vec![9; 512], vec![9; 512], vec![9; 512]];
+        let [mut due, mut plain, mut tuned] = [vec![9; 1100], vec![9; 1100], vec![9; 1100]];
         encode(&sheet, &coefficients, &mut due);
         baseline::encode::<false>(&sheet, &coefficients, &mut plain);
         baseline::encode::<true>(&sheet, &coefficients, &mut tuned);

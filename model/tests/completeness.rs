@@ -7,6 +7,8 @@ use common::*;
 use std::collections::BTreeSet;
 use std::time::{Duration, Instant};
 use tevrolig_model::domain::Subgroup;
+use tevrolig_model::elements::Elements;
+use tevrolig_model::field::QUARTIC;
 use tevrolig_model::generate::{self, rewrite_checks, Rng};
 use tevrolig_model::layout::Part;
 use tevrolig_model::polynomial::{evaluate, fold as fold_of, interpolate, interpolate_at, Pairs};
@@ -22,7 +24,7 @@ fn small_honest_files() {
         values.iter().map(|&value| (at, value)).collect()
     };
     let all = [
-        shape(0, &[0, 1, 2]),
+        shape(0, &[0, 1, 2, 3]),
         shape(4, &[0, 1, 2, 3, 4, 5]),
         shape(5, &[1, 2]),
         shape(10, &[2, 4, 8, 16]),
@@ -65,7 +67,7 @@ fn honest_files_of_any_size() {
 fn the_largest_honest_files() {
     let mut rng = Rng::new(102);
     #[rustfmt::skip]
-    let sheets: [&[u32]; 9] = [
+    let sheets: [&[u32]; 13] = [
         // The longest, the heaviest, and five rounds over field 1.
         &[2, 4096, 2048, 2, 5, 2, 48, 48, 48, 48, 48, 48],
         &[2, 4096, 2048, 16, 1, 2, 48, 48, 0, 0, 0, 0],
@@ -77,6 +79,11 @@ fn the_largest_honest_files() {
         &[2, 4096, 2048, 16, 3, 1, 48, 14, 2, 48, 0, 0, 8, 4, 2, 0, 0, 2],
         &[1, 4096, 2048, 16, 3, 1, 48, 30, 14, 48, 0, 0, 4, 2, 16, 0, 0, 2],
         &[2, 4096, 2048, 2, 3, 2, 48, 48, 29, 48, 0, 0, 4, 8, 16, 0, 0, 2],
+        // Elements of four words.
+        &[3, 1024, 512, 2, 5, 2, 48, 48, 48, 29, 13, 48],
+        &[3, 1024, 512, 16, 1, 2, 29, 48, 0, 0, 0, 0],
+        &[3, 1024, 512, 2, 5, 2, 48, 48, 48, 29, 13, 48, 2, 2, 2, 2, 2, 2],
+        &[3, 1024, 512, 16, 3, 1, 30, 6, 2, 48, 0, 0, 4, 2, 2, 0, 0, 2],
     ];
     for sheet in sheets {
         for hostile in [false, true] {
@@ -89,6 +96,10 @@ fn the_largest_honest_files() {
     // The six words more fit into the 67 blocks of edition 1.
     assert_eq!(layout(sheets[0]).blocks(), 67);
     assert_eq!(layout(sheets[4]).blocks(), 67);
+    // Four words each of a quarter of the points, but more coins.
+    assert_eq!(layout(sheets[9]).words(), 8466);
+    assert_eq!(layout(sheets[9]).blocks(), 67);
+    assert_eq!(layout(sheets[11]).blocks(), 67);
 }
 
 #[test]
@@ -141,48 +152,66 @@ fn hostile_coins_are_met() {
 fn tables_agree_with_polynomials() {
     let mut rng = Rng::new(104);
     for _ in 0..300 {
-        let words = generate::sheet_up_to(One, &mut rng, 64);
-        let sheet = Sheet::read(&words).unwrap();
-        let (field, k) = (sheet.field, sheet.k[0]);
-        let subgroup = Subgroup::of(&sheet);
-        let coefficients = generate::coefficients(&mut rng, &words);
-        let f: Vec<u64> = coefficients.iter().map(|&c| c.into()).collect();
-
-        let mut table = vec![0; sheet.n0];
-        let done = Answer::Done(sheet.n0 as u64);
-        assert_eq!(encode(&words, &coefficients, &mut table), done);
-        let table: Vec<u64> = table.into_iter().map(u64::from).collect();
-        let points = subgroup.domain(0);
-        for (&x, &value) in points.iter().zip(&table) {
-            assert_eq!(evaluate(field, &f, x), value);
-        }
-
-        let root = points[rng.place(points.len())];
-        for r in [0, root, rng.below(field.p)] {
-            let folded = fold_of(field, &f, k, r);
-            let folds = fold_table(&subgroup, 0, &table, k, r);
-            for (j, value) in folds.into_iter().enumerate() {
-                let point = subgroup.shift_point(0, k, j);
-                assert_eq!(evaluate(field, &folded, point), value);
-            }
-        }
-
-        let pairs: Pairs = points.iter().copied().zip(table.iter().copied()).collect();
-        let mut answer = interpolate(field, &pairs);
-        for x in [0, 1, root, rng.below(field.p)] {
-            let value = evaluate(field, &answer, x);
-            assert_eq!(interpolate_at(field, &points, &table, x), value);
-        }
-        assert!(answer.drain(sheet.d0..).all(|c| c == 0));
-        assert_eq!(answer, f);
+        let words = generate::sheet_of_one_word(One, &mut rng, 64);
+        table_agrees(Sheet::read(&words).unwrap().field, &mut rng, &words);
     }
+    for _ in 0..100 {
+        let words = generate::sheet_over(One, &mut rng, 3, 64);
+        table_agrees(QUARTIC, &mut rng, &words);
+    }
+}
+
+fn table_agrees<F: Elements>(field: F, rng: &mut Rng, words: &[u32]) {
+    let sheet = Sheet::read(words).unwrap();
+    assert_eq!(sheet.width, F::WIDTH);
+    let k = sheet.k[0];
+    let subgroup = Subgroup::of(&sheet);
+    let coefficients = generate::coefficients(rng, words);
+    let f = field.list(&coefficients);
+    let p = sheet.field.p;
+    let any = |rng: &mut Rng| {
+        let words: Vec<u32> = (0..F::WIDTH).map(|_| rng.below(p) as u32).collect();
+        field.spelt(&words)
+    };
+
+    let due = F::WIDTH * sheet.n0;
+    let mut table = vec![0; due];
+    let done = Answer::Done(due as u64);
+    assert_eq!(encode(words, &coefficients, &mut table), done);
+    let table = field.list(&table);
+    let points = subgroup.domain(0).into_iter();
+    let points: Vec<F::Element> = points.map(|x| field.number(x)).collect();
+    for (&x, &value) in points.iter().zip(&table) {
+        assert_eq!(evaluate(field, &f, x), value);
+    }
+
+    let (zero, root) = (field.number(0), points[rng.place(points.len())]);
+    for r in [zero, root, any(rng)] {
+        let folded = fold_of(field, &f, k, r);
+        let folds = fold_table(field, &subgroup, 0, &table, k, r);
+        for (j, value) in folds.into_iter().enumerate() {
+            let point = field.number(subgroup.shift_point(0, k, j));
+            assert_eq!(evaluate(field, &folded, point), value);
+        }
+    }
+
+    let pairs: Pairs<F::Element> = points.iter().copied().zip(table.iter().copied()).collect();
+    let mut answer = interpolate(field, &pairs);
+    for x in [zero, field.number(1), root, any(rng)] {
+        let value = evaluate(field, &answer, x);
+        assert_eq!(interpolate_at(field, &points, &table, x), value);
+    }
+    assert!(answer.drain(sheet.d0..).all(|c| c == zero));
+    assert_eq!(answer, f);
 }
 
 #[test]
 fn every_changed_word_gets_a_verdict() {
     let mut rng = Rng::new(105);
-    let sheets: [&[u32]; 6] = [
+    let sheets: [&[u32]; 8] = [
         &SHEET,
+        &[3, 16, 8, 2, 1, 2, 1, 1, 0, 0, 0, 0],
+        &[3, 16, 8, 2, 1, 1, 2, 2, 0, 0, 0, 0, 4, 0, 0, 0, 0, 2],
         &[0, 16, 8, 2, 1, 2, 1, 3, 0, 0, 0, 0],
         &[1, 32, 16, 2, 2, 1, 3, 2, 2, 0, 0, 0],
         &[2, 64, 16, 4, 1, 2, 1, 5, 0, 0, 0, 0],

@@ -4,6 +4,7 @@ mod common;
 
 use common::*;
 use tevrolig_model::domain::Subgroup;
+use tevrolig_model::elements::Elements;
 use tevrolig_model::field::Field;
 use tevrolig_model::polynomial::{correction_at, interpolate, Pairs};
 use tevrolig_model::prove::{rounds, Round};
@@ -64,7 +65,7 @@ fn domains_of_every_field() {
 #[test]
 fn p2_fold_at_shift_0() {
     let table: Vec<u64> = STREAM[12..28].iter().map(|&word| word.into()).collect();
-    assert_eq!(fold_table(&subgroup(), 0, &table, 2, 2)[0], 16);
+    assert_eq!(fold_table(field(), &subgroup(), 0, &table, 2, 2)[0], 16);
     assert_eq!(subgroup().shift_point(0, 2, 0), 9);
 }
 

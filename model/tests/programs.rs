@@ -75,18 +75,24 @@ fn check_verifies_the_first_65536_bytes() {
     assert_eq!(check(&long), "refused 4 1 0\n");
 }
 
+/// At most two blocks, or four where elements have four words.
+fn is_small(file: &[u8]) -> bool {
+    let most = if file.first() == Some(&3) { 2048 } else { 1024 };
+    file.len() <= most
+}
+
 #[test]
 fn definition_cases_are_small_and_of_every_kind() {
     let text = cases(&["9", "800"]);
     assert_eq!(text, cases(&["9", "800"]));
     assert_ne!(text, cases(&["10", "800"]));
     let mut kinds: BTreeMap<String, usize> = BTreeMap::new();
-    let (mut empty, mut fields) = (0, [0; 3]);
+    let (mut empty, mut fields) = (0, [0; 4]);
     for case in text.lines() {
         let (hexadecimal, verdict) = case.split_once(' ').unwrap();
         let file = bytes(hexadecimal);
         assert_eq!(verdict_line(One, &file), verdict);
-        assert!(file.len() <= 1024);
+        assert!(is_small(&file));
         empty += usize::from(file.is_empty());
         let kind = verdict.split(' ').nth(1).unwrap();
         *kinds.entry(kind.to_string()).or_default() += 1;
@@ -100,7 +106,7 @@ fn definition_cases_are_small_and_of_every_kind() {
     assert_eq!(kinds.len(), OUTCOMES.len());
     assert!(kinds.values().all(|&count| count >= 15), "{kinds:?}");
     assert!((200..=350).contains(&kinds["0"]), "{kinds:?}");
-    assert!(fields.iter().all(|&count| count >= 60), "{fields:?}");
+    assert!(fields.iter().all(|&count| count >= 40), "{fields:?}");
 }
 
 #[test]
@@ -112,7 +118,7 @@ fn definition_cases_of_edition_2() {
         let (hexadecimal, verdict) = case.split_once(' ').unwrap();
         let file = bytes(hexadecimal);
         assert_eq!(verdict_line(Two, &file), verdict);
-        assert!(file.len() <= 1024);
+        assert!(is_small(&file));
         let kind = verdict.split(' ').nth(1).unwrap();
         *kinds.entry(kind.to_string()).or_default() += 1;
         if kind == "0" && file[16] > 0 {
@@ -146,7 +152,7 @@ fn definition_cases_in_one_step() {
             _ => decide_in(edition, &file),
         };
         assert_eq!(line(verdict), said);
-        assert!(file.len() <= 1024);
+        assert!(is_small(&file));
         let kind = said.split(' ').nth(1).unwrap();
         *kinds.entry((number, step, kind)).or_default() += 1;
     }

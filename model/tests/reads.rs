@@ -6,6 +6,7 @@ mod common;
 use common::*;
 use tevrolig_model::baseline::{self, Lists, Newton};
 use tevrolig_model::convert::with_equal_folds;
+use tevrolig_model::elements::Elements;
 use tevrolig_model::generate::repeats::{self, reads_due, Met};
 use tevrolig_model::generate::{self, Rng};
 use tevrolig_model::layout::Part;
@@ -177,7 +178,11 @@ fn lists_of_every_length() {
     }
 }
 
+/// The baselines have elements of one word alone.
 fn agree_with_baselines(edition: Edition, file: &[u8]) {
+    if read_word(file, 0) == 3 {
+        return;
+    }
     let verdicts = [
         baseline::verify::<Newton, false>(edition, file),
         baseline::verify::<Newton, true>(edition, file),

@@ -1,5 +1,5 @@
 //! The sheet of both editions: every rule of its words, and the order in which they
-//! are tested (document 01, "Fields and the sheet"; document 02, CR 1 and CR 5).
+//! are tested (document 01, "Fields and the sheet"; document 02, CR 1, CR 5 and CR 11).
 
 mod common;
 
@@ -23,10 +23,11 @@ fn first_broken(words: &[u32]) -> Option<usize> {
         Two => (1..=i).map(|l| w[11 + l]).product::<u64>() * w[3],
     };
     let kept = |place: usize| match place {
-        0 => w[0] <= 2,
+        0 => w[0] <= 3,
         1 => {
-            let order = [16, 65536, 2013265920][w[0] as usize];
-            power_of_two(w[1]) && (4..=4096).contains(&w[1]) && order % w[1] == 0
+            let order = [16, 65536, 2013265920, 2013265920][w[0] as usize];
+            let most = if w[0] == 3 { 1024 } else { 4096 };
+            power_of_two(w[1]) && (4..=most).contains(&w[1]) && order % w[1] == 0
         }
         2 => power_of_two(w[2]) && 2 <= w[2] && w[2] <= w[1] / 2,
         3 => [2, 4, 8, 16].contains(&w[3]) && w[3] <= w[2],
@@ -71,14 +72,16 @@ type Changes<'a> = &'a [(usize, u32)];
 
 /// The changes to TWO_ROUNDS that break a rule, and the place found.
 const BROKEN: &[(Changes, usize)] = &[
-    (&[(0, 3)], 0),
+    (&[(0, 4)], 0),
     (&[(0, u32::MAX)], 0),
     (&[(1, 0)], 1),
     (&[(1, 2)], 1),
     (&[(1, 6)], 1),
     (&[(1, 8192)], 1),
     (&[(1, 1 << 31)], 1),
-    (&[(0, 0)], 1), // 256 does not divide 16
+    (&[(0, 0)], 1),            // 256 does not divide 16
+    (&[(0, 3), (1, 2048)], 1), // n0 ends at 1024 in field 3
+    (&[(0, 3), (1, 4096), (2, 1)], 1),
     (&[(2, 0)], 2),
     (&[(2, 1)], 2),
     (&[(2, 63)], 2),
@@ -117,8 +120,9 @@ const BROKEN: &[(Changes, usize)] = &[
 
 /// The same for LARGE_FIRST, with d = 512 32 8 4.
 const BROKEN_2: &[(Changes, usize)] = &[
-    (&[(0, 3)], 0),
+    (&[(0, 4)], 0),
     (&[(0, 0)], 1), // 1024 does not divide 16
+    (&[(0, 3), (1, 2048)], 1),
     (&[(1, 1000)], 1),
     (&[(2, 1024)], 2),
     (&[(3, 0)], 3),
@@ -181,8 +185,17 @@ const BROKEN_2: &[(Changes, usize)] = &[
 ];
 
 /// Changes that break no rule: the greatest t, and other folding numbers.
-const FINE: &[Changes] = &[&[(6, 29)], &[(7, 13)], &[(8, 48)]];
+const FINE: &[Changes] = &[
+    &[(6, 29)],
+    &[(7, 13)],
+    &[(8, 48)],
+    &[(0, 3)],
+    &[(0, 3), (1, 1024)],
+    &[(0, 2), (1, 4096)],
+];
 const FINE_2: &[Changes] = &[
+    &[(0, 3)],
+    &[(0, 2), (1, 2048)],
     &[(6, 29)],
     &[(7, 5)],
     &[(8, 48)],
@@ -320,7 +333,7 @@ fn drawn_sheets_are_of_every_kind() {
     let mut seen = BTreeSet::new();
     let (mut falling, mut rising, mut equal, mut different) = (0, 0, 0, 0);
     let mut rounds = [0; 6];
-    for _ in 0..20_000 {
+    for _ in 0..60_000 {
         let sheet = Sheet::read(&generate::sheet(Two, &mut rng)).unwrap();
         let folds = sheet.folds().to_vec();
         seen.insert(folds.clone());

@@ -2,6 +2,7 @@
 //! against what document 01 says of them ("Domains").
 
 use tevrolig_model::domain::Subgroup;
+use tevrolig_model::elements::Elements;
 use tevrolig_model::field::Field;
 
 const TABLE: &str = include_str!("../../crates/powers/src/table.rt");

@@ -28,10 +28,10 @@ pub type Convert = unsafe extern "C" fn(*const u8, usize, *mut u8, usize, &mut u
 /// Refers to the function that has the interface's number in its name, whatever else is called: so that this crate does not link with an archive of another
 /// interface.
 #[used]
-static INTERFACE: unsafe extern "C" fn() -> u32 = tevrolig_interface_9;
+static INTERFACE: unsafe extern "C" fn() -> u32 = tevrolig_interface_10;
 
 extern "C" {
-    pub fn tevrolig_interface_9() -> u32;
+    pub fn tevrolig_interface_10() -> u32;
 
     pub fn tevrolig_verify(file: *const u8, length: usize, place: &mut u64, reads: &mut u64)
         -> u32;
@@ -75,6 +75,18 @@ extern "C" {
         turns: &mut u32,
     ) -> u32;
     pub fn tevrolig_inverse(field: u32, a: u32, element: &mut u32) -> u32;
+
+    pub fn tevrolig_sum_3(a: &[u32; 4], b: &[u32; 4], out: &mut [u32; 4]) -> u32;
+    pub fn tevrolig_difference_3(a: &[u32; 4], b: &[u32; 4], out: &mut [u32; 4]) -> u32;
+    pub fn tevrolig_product_3(a: &[u32; 4], b: &[u32; 4], out: &mut [u32; 4]) -> u32;
+    pub fn tevrolig_power_3(a: &[u32; 4], exponent: u32, out: &mut [u32; 4]) -> u32;
+    pub fn tevrolig_power_turns_3(
+        a: &[u32; 4],
+        exponent: u32,
+        out: &mut [u32; 4],
+        turns: &mut u32,
+    ) -> u32;
+    pub fn tevrolig_inverse_3(a: &[u32; 4], out: &mut [u32; 4]) -> u32;
 
     pub fn tevrolig_prove(
         sheet: *const u32,

@@ -1,9 +1,10 @@
-//! The operations of the three fields.
+//! The operations of the three fields whose elements are one word.
 
 use crate::archive;
 use std::fmt::{self, Display, Formatter};
 
-/// One of the fields, by its number as in word 0 of the sheet: 0 has p = 17, 1 has p = 65537, 2 has p = 2013265921.
+/// One of the fields whose elements are one word, by its number as in word 0 of the sheet: 0 has p = 17, 1 has p = 65537, 2 has p = 2013265921. Field 3 has
+/// [functions of its own](crate::quartic).
 ///
 /// Its operations take any words, modulo p, and answer elements, which are words below p.
 ///
@@ -34,7 +35,7 @@ pub struct Powered {
 }
 
 impl Field {
-    /// The field of this number; nothing where the number names none.
+    /// The field of this number; nothing where the number names none of one word.
     ///
     /// ```
     /// assert!(tevrolig::Field::new(2).is_some());

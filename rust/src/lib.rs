@@ -1,4 +1,4 @@
-//! The proved verifier for STIR transcripts, the prover that it answers, and the three fields below them, called from Rust.
+//! The proved verifier for STIR transcripts, the prover that it answers, and the four fields below them, called from Rust.
 //!
 //! The archive's functions are proved against the written definition for every input; they allocate nothing and keep no state. What
 //! stands here only hands slices over and names the answers: it has no rule of its own.
@@ -27,7 +27,10 @@
 //! [`verify`] may be asked in two steps: [`read`] where a file comes in, and [`decide`] where it counts.
 //!
 //! An answer of the archive that has no name here is a value too (`Unknown`, with its number and place), and no panic. With an archive of another interface than
-//! this crate's, `rustc` does not link: it misses `tevrolig_interface_9`. `CHANGELOG.md` says what to change from one version to the next.
+//! this crate's, `rustc` does not link: it misses `tevrolig_interface_10`. `CHANGELOG.md` says what to change from one version to the next.
+//!
+//! An element of field 0, 1 or 2 is one word, one of field 3 is four: lengths and positions count words everywhere, and reads count table entries. [`Field`] has the
+//! operations of the fields of one word, [`quartic`] those of field 3.
 //!
 //! What stands here is for files of edition 1. [`edition2`] has verify, its two steps and prove for edition 2, with a folding number for each round,
 //! and [`convert`] the way from one to the other. **The edition, and each kind of file that a request adds, is fixed outside the file:** never try one
@@ -40,6 +43,7 @@ pub mod convert;
 pub mod edition2;
 mod field;
 mod prove;
+pub mod quartic;
 mod steps;
 mod verdict;
 

@@ -21,15 +21,15 @@ pub enum InputRefusal {
     SheetLength2,
     /// 3: this word of the sheet breaks its rule, given those before.
     Sheet { word: u64 },
-    /// 10 at 1: there are not d0 coefficients.
+    /// 10 at 1: there are not d0 coefficients, which in field 3 are four words each.
     CoefficientCount,
-    /// 10 at 2: the coins are not as many as the sheet makes due.
+    /// 10 at 2: the coins have not as many words as the sheet makes due.
     CoinCount,
-    /// 5: the word at this position of the coefficients followed by the coins is no element of the field, or no index that is due.
+    /// 5: the word at this position of the coefficients followed by the coins is not below p, or no index that is due.
     Range { position: u64 },
-    /// 7: the coin at this position is an out coin of a round i and lies in domain i.
+    /// 7: the coin at this position is an out coin of a round i and lies in domain i. In field 3 the position is that of its first word.
     OutCoin { position: u64 },
-    /// 14: the coin at this position is the second out coin of a round and equals the first.
+    /// 14: the coin at this position, likewise, is the second out coin of a round and equals the first.
     EqualOut { position: u64 },
     /// 11 of prove: the output has not room for these blocks.
     OutputBlocks { needed: u64 },
@@ -136,7 +136,8 @@ impl std::error::Error for InputRefusal {}
 /// Writes the honest prover's file to the front of the output and answers its number of blocks; the bytes after them are as before.
 ///
 /// There are d0 coefficients, lowest first. The coins are in the order in which the stream has them: fold coin 0; for each round i from 1 to
-/// M its out coins, combination coin, fold coin i and shift indices; at last the final indices. [`MAX_BLOCKS`](crate::MAX_BLOCKS) blocks
+/// M its out coins, combination coin, fold coin i and shift indices; at last the final indices. In field 3 a coefficient has four words, and so has
+/// a coin that is no index. [`MAX_BLOCKS`](crate::MAX_BLOCKS) blocks
 /// are enough for every input, and an empty output asks for the size.
 ///
 /// ```
@@ -204,8 +205,8 @@ pub(crate) fn prove_with(
     answered(number, value, sheet_length, blocks)
 }
 
-/// Writes table 0 to the front of the output, the polynomial's values at the points of domain 0, and answers n0, their number; the words after
-/// them are as before.
+/// Writes table 0 to the front of the output, the polynomial's values at the points of domain 0, and answers the number of its words, n0 or in field 3
+/// four times n0; the words after them are as before.
 ///
 /// ```
 /// let sheet = [0, 16, 8, 2, 1, 1, 1, 1, 0, 0, 0, 0];

@@ -25,13 +25,13 @@ pub enum Refusal {
     Sheet { word: u64 },
     /// 4: the file has another number of blocks than the sheet needs.
     Blocks { needed: u64 },
-    /// 5: this word of the stream is no element of the field, or no index that is due.
+    /// 5: this word of the stream is not below p, or no index that is due.
     Range { word: u64 },
     /// 6: this word comes after the stream's end and is not zero.
     Fill { word: u64 },
-    /// 7: this word of the stream is an out coin of a round i and lies in domain i.
+    /// 7: this word of the stream is an out coin of a round i, or in field 3 its first word, and the coin lies in domain i.
     OutCoin { word: u64 },
-    /// 14: this word of the stream is the second out coin of a round and equals the first.
+    /// 14: this word of the stream is, likewise, the second out coin of a round, which equals the first.
     EqualOut { word: u64 },
     /// 8: two equal points of this round have different values.
     Clash { round: u64 },

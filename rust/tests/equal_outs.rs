@@ -129,12 +129,13 @@ fn rounds_may_share_their_out_coins() {
             .map(|section| layout.coin_position(section.words.start))
             .collect();
         // A coin outside domain 1 is outside the later ones, which are parts of it.
-        let mut coins = input.coins[outs[0]..outs[0] + known.outs].to_vec();
+        let words = known.width * known.outs;
+        let mut coins = input.coins[outs[0]..outs[0] + words].to_vec();
         for &at in &outs[1..] {
             if rng.one_in(2) {
-                coins.reverse();
+                coins.rotate_left(known.width);
             }
-            input.coins[at..at + known.outs].copy_from_slice(&coins);
+            input.coins[at..at + words].copy_from_slice(&coins);
         }
         input.is_proved(0, &format!("shared out coins, seed {seed}"));
         shared += usize::from(known.outs == 2);

@@ -87,8 +87,11 @@ fn the_largest_inputs_are_proved() {
 /// its round's k.
 #[test]
 fn every_position_of_an_input() {
-    let sheets: [&[u32]; 6] = [
+    let sheets: [&[u32]; 9] = [
         &[0, 16, 8, 2, 1, 1, 1, 1, 0, 0, 0, 0],
+        &[3, 16, 8, 2, 1, 2, 1, 3, 0, 0, 0, 0],
+        &[3, 64, 16, 2, 2, 1, 3, 2, 4, 0, 0, 0],
+        &[3, 32, 16, 2, 1, 2, 3, 2, 0, 0, 0, 0, 4, 0, 0, 0, 0, 2],
         &[1, 256, 64, 2, 2, 2, 4, 3, 5, 0, 0, 0],
         &[2, 64, 32, 2, 3, 1, 3, 2, 2, 7, 0, 0],
         &[0, 16, 8, 2, 1, 1, 2, 2, 0, 0, 0, 0, 4, 0, 0, 0, 0, 2],
@@ -101,13 +104,15 @@ fn every_position_of_an_input() {
         let (known, layout) = input.known();
         let what = format!("every position, seed {seed}");
         let length = 512 * layout.blocks();
-        for at in 0..known.d0 {
+        let (width, coefficients) = (known.width, input.coefficients.len());
+        for at in 0..coefficients {
             let kept = input.coefficients[at];
             for word in [known.field.p as u32, u32::MAX] {
                 input.coefficients[at] = word;
                 assert_eq!(input.prove(length, &what), refused((5, at)));
                 if input.edition == One {
-                    assert_eq!(input.encode(known.n0, &what), refused((5, at)));
+                    let words = width * known.n0;
+                    assert_eq!(input.encode(words, &what), refused((5, at)));
                 }
             }
             input.coefficients[at] = kept;
@@ -118,28 +123,41 @@ fn every_position_of_an_input() {
             .collect();
         let subgroup = Subgroup::of(&known);
         for (at, (part, limit)) in every.into_iter().enumerate() {
-            let kept = input.coins[at];
+            let kept = input.coins.clone();
             for word in [limit as u32, u32::MAX] {
                 input.coins[at] = word;
-                assert_eq!(input.prove(length, &what), refused((5, known.d0 + at)));
+                assert_eq!(input.prove(length, &what), refused((5, coefficients + at)));
             }
             if let Part::OutCoins(round) = part {
+                let first = layout.coin_position(layout.range(part).start);
+                if !(at - first).is_multiple_of(width) {
+                    // A later word makes another coin of it, whatever it is.
+                    input.coins[at] = 1 + kept[at] % 1000;
+                    input.is_proved(0, &what);
+                    input.coins = kept;
+                    continue;
+                }
                 for point in subgroup.domain(round) {
+                    input.coins[at..at + width].fill(0);
                     input.coins[at] = point as u32;
                     assert_eq!(input.prove(length, &what), refused((7, at)));
+                    if width > 1 {
+                        input.coins[at + 1 + point as usize % (width - 1)] = 1;
+                        assert_ne!(input.prove(length, &what), refused((7, at)));
+                    }
                 }
                 if known.outs == 2 {
-                    let first = layout.coin_position(layout.range(part).start);
-                    input.coins[at] = input.coins[2 * first + 1 - at];
+                    let other = 2 * first + width - at;
+                    input.coins.copy_within(other..other + width, at);
                     for length in [length, 0] {
-                        assert_eq!(input.prove(length, &what), refused((14, first + 1)));
+                        assert_eq!(input.prove(length, &what), refused((14, first + width)));
                     }
                 }
             } else {
                 input.coins[at] = limit as u32 - 1;
                 input.is_proved(0, &what);
             }
-            input.coins[at] = kept;
+            input.coins = kept;
         }
         input.is_proved(0, &what);
     }
@@ -160,9 +178,10 @@ fn any_lists() {
             for list in [&mut input.sheet, &mut input.coefficients, &mut input.coins] {
                 generate::disturb(&mut rng, list);
             }
-            if let (true, [_, first, second, ..]) = (rng.one_in(8), &mut input.coins[..]) {
+            let width = if sheet[0] == 3 { 4 } else { 1 };
+            if rng.one_in(8) && input.coins.len() >= 3 * width {
                 // Out coins, where there are rounds with two.
-                *second = *first;
+                input.coins.copy_within(width..2 * width, 2 * width);
             }
             let length = rng.pick(&[0, 511, 512, 1024, 1500]);
             let what = format!("any, {edition:?}, seed {seed}");

@@ -104,7 +104,7 @@ impl Faulty {
                 Some((10, 2))
             }
             Test::Coefficients => {
-                let length = self.sheet.d0;
+                let length = self.sheet.width * self.sheet.d0;
                 let (at, later) = (some_place(rng, length), some_place(rng, length));
                 for at in [at, at.max(later)] {
                     self.input.coefficients[at] = too_large(rng, self.sheet.field.p);
@@ -117,7 +117,7 @@ impl Faulty {
                 for at in [at, at.max(later)] {
                     self.input.coins[at] = too_large(rng, limits[at]);
                 }
-                Some((5, self.sheet.d0 + at))
+                Some((5, self.sheet.width * self.sheet.d0 + at))
             }
             Test::OutCoins => self.break_out_coins(rng).map(|at| (7, at)),
             Test::EqualOuts => self.make_out_coins_equal(rng).map(|at| (14, at)),
@@ -138,9 +138,11 @@ impl Faulty {
             if words.is_empty() {
                 return None;
             }
-            let word = words.start + rng.place(words.len());
+            let width = self.sheet.width;
+            let word = words.start + width * rng.place(words.len() / width);
             let at = self.layout.coin_position(word);
             let point = subgroup.point(round, rng.place(self.sheet.n(round)));
+            self.input.coins[at..at + width].fill(0);
             self.input.coins[at] = point as u32;
             first = Some(first.map_or(at, |other: usize| other.min(at)));
         }
@@ -153,13 +155,15 @@ impl Faulty {
         for _ in 0..=rng.place(2) {
             let round = 1 + rng.place(self.sheet.rounds);
             let words = self.layout.range(Part::OutCoins(round));
-            if words.len() < 2 {
+            let width = self.sheet.width;
+            if words.len() < 2 * width {
                 return None;
             }
             let at = self.layout.coin_position(words.start);
-            let coin = self.input.coins[at + rng.place(2)];
-            self.input.coins[at..at + 2].fill(coin);
-            first = Some(first.map_or(at + 1, |other: usize| other.min(at + 1)));
+            let second = at + width;
+            let [from, to] = rng.pick(&[[at, second], [second, at]]);
+            self.input.coins.copy_within(from..from + width, to);
+            first = Some(first.map_or(second, |other: usize| other.min(second)));
         }
         first
     }
@@ -183,7 +187,7 @@ fn faulty_inputs(edition: Edition, seeds: Range<u64>, tests: &[Test]) {
         let due = if proving {
             faulty.layout.blocks()
         } else {
-            faulty.sheet.n0
+            faulty.sheet.width * faulty.sheet.n0
         };
         let size = if proving { 512 * due } else { due };
         faulty.length = size + rng.place(100);

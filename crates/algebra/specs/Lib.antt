@@ -1,5 +1,5 @@
--- Algebra over the definition's own operations and polynomials: fields on words, polynomials as coefficient lists, roots of unity, and the three
--- prime fields. A lemma takes a field F, and its laws L where it uses them.
+-- Algebra over the definition's own operations and polynomials: fields on words, polynomials as coefficient lists, roots of unity, the three prime
+-- fields, and the field of four words over one of them. A lemma takes a field F, and its laws L where it uses them.
 -- fields, and a solver for identities in them
 pub mod Laws
 pub mod RingLaws
@@ -26,3 +26,11 @@ pub mod PrimeField
 pub mod PowerLoop
 pub mod Divisors
 pub mod PublicInverse
+-- elements of four words
+pub mod Quadratic
+pub mod Quartic
+pub mod Field3
+pub mod FieldIn
+pub mod PublicField3
+pub mod InDomain
+pub mod Planes

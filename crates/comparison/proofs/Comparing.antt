@@ -1,24 +1,30 @@
 -- The final polynomial beside the folds, and one turn of the walk that compares. Assumes nothing.
-use Prim.Native.Nat.{ℕ, _+_, _-_, _*_, _≤_, _<_}
+use Prim.Native.Nat.{ℕ, _+_, _-_, _*_, _≤_, _<_, suc-le-suc, zero-le}
 use mathlib.Core.Path.{_≡_, _∙_, sym, ap}
 use mathlib.Core.Bool.{Bool, true, false, not}
-use mathlib.Core.List.{List}
+use mathlib.Core.List.{List, [], _∷_}
 use mathlib.Core.Option.{Option, none, some}
 use native.Mathlib.Numerals.{add-one}
 use native.Mathlib.Omega.{arith}
 use lib.ListN.{length, drop, getD, drop-of-length-le, List·getD-eq-default}
 use Rattle.definition.specs.Lists.{firstTrue}
-use Rattle.definition.specs.Field.{Field, power}
+use Rattle.definition.specs.Field.{Field, elementsIn, embed, fieldIn, fieldOf, numberIn, power, primeField, primeOf, quads, spellingOf}
 use Rattle.definition.specs.Polynomial.{evaluate, geometric}
 use Rattle.algebra.specs.Laws.{FieldLaws}
-use Rattle.algebra.specs.RootsOfUnity.{minusOne}
+use Rattle.algebra.specs.RootsOfUnity.{minusOne, power-zero}
+use Rattle.spelling.specs.ByField.{ElementOf, at-one, at-three, elementsAt, fieldAt, lawsAt, pointsAt}
+use Rattle.spelling.specs.Field3.{base, field3}
+use Rattle.quartic.specs.declared.Four.{Four}
+use Rattle.quartic.specs.Meaning.{quadOf}
+use Rattle.elements.specs.Meaning.{valueAt, valueIn}
 use Rattle.domain.specs.Powers.{PowersOver}
 use Rattle.sums.specs.Sums.{products, products-powers}
-use Rattle.folds.specs.PointsIn.{shiftIn, shift-power}
+use Rattle.folds.specs.PointsIn.{PowerTable, shiftIn, shift-power}
 use Rattle.fractions.specs.declared.Oracle.{Oracle}
+use Rattle.fractions.specs.Points.{powers-as-words}
 use Rattle.fractions.specs.Values.{Fits, Below, rootIn}
 use Rattle.root_values.specs.Places.{PreparedOver}
-use Rattle.rounds.specs.RoundLaws.{ComparedOver, compared, differsIn}
+use Rattle.rounds.specs.RoundLaws.{ComparedOver, compared, differsIn, signs-at}
 use Rattle.rounds.specs.SamplesIn.{foldBy, numbered, sampleBy, sampleIn}
 use Rattle.rounds.proofs.Shifts.{numbered-front, numbered-map, sample-same}
 
@@ -48,6 +54,26 @@ comparison-is F L signs pw table ac vg oracle k r js roots fits ready coefficien
     compared F L signs pw table ac vg oracle k r fits coefficients js below
     (e ∙ ap (firstTrue 0) (numbered-map (λ i j. differsIn F coefficients (sampleBy F pw roots oracle k r i j)) (λ j. differsIn F coefficients (sampleIn F pw table ac vg oracle k r j)) js
     (λ i l. ap (differsIn F coefficients) (sample-same F pw table ac vg oracle k r js roots fits ready i l))))
+
+-- ---- by the field's number
+
+-- where the points as elements are the powers of some ω, so are the words: the table is not empty, since half of its powers make -1
+pub power-table : (field : ℕ) (pw : List ℕ) {ω : ElementOf field} → PowersOver (fieldAt field) ω (pointsAt field pw) → PowerTable field pw
+power-table field pw {ω} w = (getD pw 0 0, powers-as-words field pw (some pw w) w)
+  where
+    some : (pw : List ℕ) → PowersOver (fieldAt field) ω (pointsAt field pw) → 0 < length pw
+    some [] w = absurd (signs-at field (sym (w .half) ∙ power-zero (fieldAt field) (lawsAt field) ω))
+    some (x ∷ pw) w = suc-le-suc zero-le
+
+-- the final polynomial's value at each spelling
+module _ (field : ℕ) (coefficients : List ℕ) (x : ℕ) (v : Four) where
+  pub value-three : field ≡ 3 → quadOf v ≡ evaluate field3 (quads coefficients) (embed base x) → valueAt field v ≡ evaluate (fieldAt field) (elementsAt field coefficients) (numberIn (spellingOf field) x)
+  unfolding spellingOf primeOf fieldIn elementsIn numberIn embed primeField valueIn
+  value-three h p = at-three (λ n. valueAt n v ≡ evaluate (fieldAt n) (elementsAt n coefficients) (numberIn (spellingOf n) x)) field h p
+
+  pub value-one : (field ≡ 3 → ⊥) → v .a ≡ evaluate (fieldOf field) coefficients x → valueAt field v ≡ evaluate (fieldAt field) (elementsAt field coefficients) (numberIn (spellingOf field) x)
+  unfolding fieldIn elementsIn numberIn fieldOf valueIn
+  value-one h p = at-one (λ σ. valueIn σ v ≡ evaluate (fieldIn σ (primeOf field)) (elementsIn σ coefficients) (numberIn σ x)) field h p
 
 -- ---- comparing, from the first index to the last
 

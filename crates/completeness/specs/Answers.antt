@@ -7,6 +7,7 @@ use mathlib.Core.Option.{Option, none, some}
 use mathlib.Core.Path.{_≡_, refl, sym, subst}
 use lib.ListN.{getD, length, replicate, length-append}
 use Rattle.definition.specs.Deciding.{outInDomain}
+use Rattle.definition.specs.Field.{begunBy}
 use Rattle.definition.specs.Layout.{coinKinds, layout, message}
 use Rattle.definition.specs.Lists.{firstOf, firstTrue}
 use Rattle.definition.specs.Prove.{coefficientsTest, coinDomainTest, coinEqualTest, coinsTest, encode, encodeTests, finish, inputRangeTest, outputTest, proveIn, proveTests, refusal, sheetLengthTest}
@@ -16,7 +17,8 @@ use Rattle.definition.specs.Verdict.{Outcome, _then_, accepted, refuseAt, refus
 use Rattle.definition.specs.Verify.{verifyIn}
 use Rattle.list_laws.specs.First.{FirstAt, FirstTrue, first-of, first-true}
 use Rattle.list_laws.specs.Lists.{zip-short}
-use Rattle.layouts.specs.Levels.{outCoinCount, roundsOf}
+use Rattle.layouts.specs.Levels.{outCoinCount, roundsOf, sheetField, wordsFor}
+use Rattle.layouts.specs.Spellings.{begun-length, count-below, count-one}
 use Rattle.layouts.specs.RulesByWord.{rules-counted, rules-length, turn-of-word}
 use Rattle.completeness.specs.AcceptedExactly.{refused-exactly}
 use Rattle.completeness.specs.EqualOuts.{repeated-most}
@@ -77,11 +79,11 @@ module _ (ed : Edition) (w f coins output : List ℕ) where
       (then-refuses Q (coefficientsTest (sheetOf ed w) f) _ (if-refuses Q 10 1 _ Faults.ProveRefusal.coefficient·count)
       (then-refuses Q (coinsTest (sheetOf ed w) coins) _ (if-refuses Q 10 2 _ Faults.ProveRefusal.coin·count)
       (then-refuses Q (inputRangeTest (sheetOf ed w) (coinKinds (layout (sheetOf ed w))) (f ++ coins)) _
-      (at-refuses Q 5 0 _ (λ j l. Faults.ProveRefusal.word·over (0 + j) (omega (arith, zip-short (outOfRange (sheetOf ed w)) (replicate (sheetOf ed w .degree) message ++ coinKinds (layout (sheetOf ed w))) (f ++ coins), length-append f coins))))
+      (at-refuses Q 5 0 _ (λ j l. Faults.ProveRefusal.word·over (0 + j) (omega (arith, zip-short (outOfRange (sheetOf ed w)) (replicate (wordsFor (sheetOf ed w) (sheetOf ed w .degree)) message ++ coinKinds (layout (sheetOf ed w))) (f ++ coins), length-append f coins))))
       (then-refuses Q (coinDomainTest (sheetOf ed w) coins) _
-      (at-refuses Q 7 0 _ (λ j l. Faults.ProveRefusal.coin·inside (0 + j) (omega (arith, zip-short (outInDomain (sheetOf ed w)) (coinKinds (layout (sheetOf ed w))) coins))))
+      (at-refuses Q 7 0 _ (λ j l. Faults.ProveRefusal.coin·inside (0 + j) (omega (arith, zip-short (outInDomain (sheetOf ed w .spelling) (sheetOf ed w)) (coinKinds (layout (sheetOf ed w))) (begunBy (sheetOf ed w .spelling) coins), begun-length (sheetOf ed w .spelling) coins))))
       (then-refuses Q (coinEqualTest (sheetOf ed w) coins) _
-      (at-refuses Q 14 0 _ (λ j l. Faults.ProveRefusal.coin·equal (0 + j) (omega (arith, repeated-most none (coinKinds (layout (sheetOf ed w))) coins))))
+      (at-refuses Q 14 0 _ (λ j l. Faults.ProveRefusal.coin·equal (0 + j) (omega (arith, repeated-most (sheetField (sheetOf ed w)) none (coinKinds (layout (sheetOf ed w))) (begunBy (sheetOf ed w .spelling) coins), begun-length (sheetOf ed w .spelling) coins))))
       (if-refuses Q 11 _ _ Faults.ProveRefusal.output·short)))))))) e
 
 module _ (w f output : List ℕ) where
@@ -94,16 +96,18 @@ module _ (w f output : List ℕ) where
       (then-refuses Q (sheetTest edition1 w) _ (refuses-sheet Q edition1 w Faults.EncodeRefusal.rule·broken)
       (then-refuses Q (coefficientsTest (sheetOf edition1 w) f) _ (if-refuses Q 10 1 _ Faults.EncodeRefusal.coefficient·count)
       (then-refuses Q (inputRangeTest (sheetOf edition1 w) [] f) _
-      (at-refuses Q 5 0 _ (λ j l. Faults.EncodeRefusal.word·over (0 + j) (omega (arith, zip-short (outOfRange (sheetOf edition1 w)) (replicate (sheetOf edition1 w .degree) message ++ []) f))))
+      (at-refuses Q 5 0 _ (λ j l. Faults.EncodeRefusal.word·over (0 + j) (omega (arith, zip-short (outOfRange (sheetOf edition1 w)) (replicate (wordsFor (sheetOf edition1 w) (sheetOf edition1 w .degree)) message ++ []) f))))
       (if-refuses Q 11 _ _ Faults.EncodeRefusal.output·short))))) e
 
 -- A refusal of verify is a fault, and each fault has its range.
 module _ (ed : Edition) (file : List ℕ) where
   -- an out coin of a round is among the words due
-  out-below : (i j q : ℕ) → i < roundsOf (sheetIn ed file) → j < outCoinCount (sheetIn ed file) → q ≡ partStart ed (sheetIn ed file) (outs i) + j →
+  out-below : (i j q : ℕ) → i < roundsOf (sheetIn ed file) → j < outCoinCount (sheetIn ed file) → q ≡ partStart ed (sheetIn ed file) (outs i) + wordsFor (sheetIn ed file) j →
       (sheetLength ed ≤ q) × (q < dueOf ed (sheetIn ed file))
   unfolding partLength
-  out-below i j q l u e = let r = part-below ed (sheetIn ed file) (outs i) l j u in (omega (arith, e, r .0), omega (arith, e, r .1))
+  out-below i j q l u e =
+      let σ = sheetIn ed file .spelling in
+      let r = part-below ed (sheetIn ed file) (outs i) l (wordsFor (sheetIn ed file) j) (omega (arith, count-below σ j (outCoinCount (sheetIn ed file)) u, count-one σ .0)) in (omega (arith, e, r .0), omega (arith, e, r .1))
 
   fault-placed : (n q : ℕ) → Fault ed file n q → VerifyRefusal ed file n q
   fault-placed n q p = at-turn (numberTurn n) refl p

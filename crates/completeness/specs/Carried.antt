@@ -5,35 +5,39 @@ use native.Mathlib.Omega.{arith}
 use mathlib.Core.List.{List, [], _∷_, _++_, zipWith, append-nil}
 use mathlib.Core.Option.{none}
 use mathlib.Core.Path.{_≡_, refl, sym, ap, _∙_, subst}
-use lib.ListN.{length, take, drop, replicate, length-drop, take-append-drop}
+use lib.ListN.{length, take, drop, replicate, length-append, length-drop, take-append-drop}
 use lib.Seq.{drop-at, length-take-le, take-add, take-append-le, take-at, take-take}
 use Rattle.definition.specs.Block.{blockCount, fileOf, streamOf}
 use Rattle.definition.specs.Convert.{bodyOf}
 use Rattle.definition.specs.Deciding.{counted, decide, deciding, equalTest, outInDomain, outTest, outTests, repeatedOuts}
-use Rattle.definition.specs.Field.{primeField}
+use Rattle.definition.specs.Field.{begunBy, numberIn}
 use Rattle.definition.specs.Layout.{layout, readTranscript, wordsDue}
 use Rattle.definition.specs.Lists.{firstTrue}
 use Rattle.definition.specs.Reading.{outOfRange, rangeTest, reading, sheetTest}
-use Rattle.definition.specs.Sheet.{Edition, Sheet, firstLevel, rootOfUnity, sheetLength, sheetOf}
+use Rattle.definition.specs.Sheet.{Edition, Sheet, firstLevel, sheetLength, sheetOf}
 use Rattle.definition.specs.Verdict.{Outcome, Verdict, _then_, accepted, refuseAt, thenVerdict}
 use Rattle.definition.specs.Verify.{verifyIn}
 use Rattle.list_laws.specs.All.{All}
-use Rattle.layouts.specs.EachWord.{Each, each-false}
+use Rattle.layouts.specs.EachWord.{Each, InRange, each-false}
 use Rattle.layouts.specs.FileTrip.{fillCount, filled}
 use Rattle.layouts.specs.FileWords.{stream-length}
+use Rattle.layouts.specs.Levels.{sheetField, sheetRoot}
 use Rattle.layouts.specs.Passed.{Passed, passed}
 use Rattle.layouts.specs.SheetLevels.{sheet-front}
+use Rattle.layouts.specs.Spellings.{begun-length}
 use Rattle.layouts.specs.Tests.{at-passes}
-use Rattle.completeness.specs.EqualOuts.{repeated-front}
+use Rattle.layouts.specs.WholeCoins.{layout-whole}
+use Rattle.completeness.specs.EqualOuts.{repeated-same}
 use Rattle.completeness.specs.FileBack.{file-back}
-use Rattle.completeness.specs.FileRead.{InRange, file-reads, stream-is}
-use Rattle.completeness.specs.FrontOfStream.{transcript-front, zip-front}
+use Rattle.completeness.specs.FileRead.{file-reads, stream-is}
+use Rattle.completeness.specs.FrontOfStream.{begun-front, inside-front, transcript-front, zip-front}
 
 -- the verdict on words after a sheet h, where the first of them has number n
 unfoldable pub decidedFrom : Sheet → List ℕ → ℕ → Verdict
 decidedFrom h words n =
-    thenVerdict (refuseAt 7 (firstTrue n (zipWith (outInDomain h) (layout h) words)) then refuseAt 14 (firstTrue n (repeatedOuts none (layout h) words)))
-    (counted (decide (primeField (h .prime)) (rootOfUnity h) (firstLevel h) (readTranscript h words)))
+    let begun = begunBy (h .spelling) words in
+    thenVerdict (refuseAt 7 (firstTrue n (zipWith (outInDomain (h .spelling) h) (layout h) begun)) then refuseAt 14 (firstTrue n (repeatedOuts (sheetField h) none (layout h) begun)))
+    (counted (decide (sheetField h) (sheetRoot h) (firstLevel h) (readTranscript (h .spelling) h words)))
 
 pub verdict-is : (a : Edition) (bytes : List ℕ) → reading a bytes ≡ accepted → verifyIn a bytes ≡ decidedFrom (sheetOf a (streamOf bytes)) (drop (sheetLength a) (streamOf bytes)) (sheetLength a)
 unfolding verifyIn deciding outTests outTest equalTest decidedFrom thenVerdict
@@ -129,10 +133,19 @@ module _ (a : Edition) (bytes : List ℕ) (read : reading a bytes ≡ accepted) 
     unfolding decidedFrom bodyOf
     carried-verdict =
         let xs = drop n s in
-        let zs : zipWith (outInDomain h) (layout h) (body ++ fill) ≡ zipWith (outInDomain h) (layout h) xs = zip-front (outInDomain h) (layout h) xs fill (omega (arith, enough, length-drop n s)) in
-        let rs : repeatedOuts none (layout h) (body ++ fill) ≡ repeatedOuts none (layout h) xs = repeated-front none (layout h) body fill body-long
-        ∙ sym (ap (repeatedOuts none (layout h)) (sym (take-append-drop (length (layout h)) xs)) ∙ repeated-front none (layout h) body (drop (length (layout h)) xs) body-long) in
-        let ts : readTranscript h (body ++ fill) ≡ readTranscript h xs = transcript-front h (body ++ fill) xs
-        (take-append-le (length (layout h)) body fill (omega (arith, body-long)) ∙ take-take (length (layout h)) (length (layout h)) xs (omega arith)) in
+        let σ = h .spelling in
+        let F = sheetField h in
+        let us = begunBy σ (body ++ fill) in
+        let vs = begunBy σ xs in
+        let front : take (length (layout h)) (body ++ fill) ≡ take (length (layout h)) xs =
+        take-append-le (length (layout h)) body fill (omega (arith, body-long)) ∙ take-take (length (layout h)) (length (layout h)) xs (omega arith) in
+        let lu : length (layout h) ≤ length (body ++ fill) = omega (arith, body-long, length-append body fill) in
+        let lv : length (layout h) ≤ length xs = omega (arith, enough, length-drop n s) in
+        let ku : length (layout h) ≤ length us = omega (arith, lu, begun-length σ (body ++ fill)) in
+        let kv : length (layout h) ≤ length vs = omega (arith, lv, begun-length σ xs) in
+        let same-outs = begun-front σ (layout h) (body ++ fill) xs (layout-whole h) lu lv front in
+        let zs : zipWith (outInDomain σ h) (layout h) us ≡ zipWith (outInDomain σ h) (layout h) vs = inside-front σ h (numberIn σ 0) (layout h) us vs ku kv same-outs in
+        let rs : repeatedOuts F none (layout h) us ≡ repeatedOuts F none (layout h) vs = repeated-same F (numberIn σ 0) none (layout h) us vs ku kv same-outs in
+        let ts : readTranscript σ h (body ++ fill) ≡ readTranscript σ h xs = transcript-front h (body ++ fill) xs front in
         verdict-is b file carried-reads ∙ (λ i. decidedFrom (carried-sheet i) (carried-words i) (sheetLength b))
-        ∙ (λ i. thenVerdict (refuseAt 7 (firstTrue (sheetLength b) (zs i)) then refuseAt 14 (firstTrue (sheetLength b) (rs i))) (counted (decide (primeField (h .prime)) (rootOfUnity h) (firstLevel h) (ts i))))
+        ∙ (λ i. thenVerdict (refuseAt 7 (firstTrue (sheetLength b) (zs i)) then refuseAt 14 (firstTrue (sheetLength b) (rs i))) (counted (decide F (sheetRoot h) (firstLevel h) (ts i))))

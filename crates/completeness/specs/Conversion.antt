@@ -12,16 +12,17 @@ use borrow.Author.Tests.{eq-eqb, ne-eqb}
 use Rattle.definition.specs.Block.{fileOf, streamOf}
 use Rattle.definition.specs.Convert.{backward, bodyOf, foldsTest, forward, spread}
 use Rattle.definition.specs.Deciding.{counted, decide, outInDomain, repeatedOuts}
-use Rattle.definition.specs.Field.{primeField}
+use Rattle.definition.specs.Field.{begunBy}
 use Rattle.definition.specs.Layout.{layout, readTranscript, wordsDue}
 use Rattle.definition.specs.Lists.{firstTrue}
 use Rattle.definition.specs.Reading.{reading, sheetTest}
-use Rattle.definition.specs.Sheet.{Edition, Sheet, edition1, edition2, firstLevel, foldPlaces, foldWords, rootOfUnity, sheetLength, sheetOf}
+use Rattle.definition.specs.Sheet.{Edition, Sheet, edition1, edition2, firstLevel, foldPlaces, foldWords, sheetLength, sheetOf}
 use Rattle.definition.specs.Verdict.{Outcome, Verdict, _then_, accepted, refuseAt, refused, thenVerdict}
 use Rattle.definition.specs.Verify.{verifyIn}
 use Rattle.list_laws.specs.All.{All}
 use Rattle.list_laws.specs.Lists.{take-replicate}
 use Rattle.layouts.specs.Passed.{passed}
+use Rattle.layouts.specs.Levels.{sheetField, sheetRoot}
 use Rattle.layouts.specs.SheetLevels.{rules-back, sheet-front}
 use Rattle.layouts.specs.SheetRules.{rounds-most}
 use Rattle.layouts.specs.Tests.{at-none, none-true}
@@ -93,7 +94,7 @@ module _ (a : Edition) (bytes : List ℕ) (read : reading a bytes ≡ accepted) 
   abbrev words : List ℕ
   words = drop (sheetLength a) (streamOf bytes)
 
-  decide-later : Refuses Stays (decide (primeField (h .prime)) (rootOfUnity h) (firstLevel h) (readTranscript h words) .outcome)
+  decide-later : Refuses Stays (decide (sheetField h) (sheetRoot h) (firstLevel h) (readTranscript (h .spelling) h words) .outcome)
   decide-later =
       let Q = Stays in
       subst (Refuses Q) (sym (decided a h (streamOf bytes) (ordered a bytes read .long)))
@@ -102,9 +103,10 @@ module _ (a : Edition) (bytes : List ℕ) (read : reading a bytes ≡ accepted) 
   pub higher : decidedFrom (sheetOf a (streamOf bytes)) (drop (sheetLength a) (streamOf bytes)) 18 ≡ converted (decidedFrom (sheetOf a (streamOf bytes)) (drop (sheetLength a) (streamOf bytes)) 12)
   unfolding decidedFrom counted
   higher =
-      let zs = zipWith (outInDomain h) (layout h) words in
-      let v = counted (decide (primeField (h .prime)) (rootOfUnity h) (firstLevel h) (readTranscript h words)) in
-      let rs = repeatedOuts none (layout h) words in
+      let begun = begunBy (h .spelling) words in
+      let zs = zipWith (outInDomain (h .spelling) h) (layout h) begun in
+      let v = counted (decide (sheetField h) (sheetRoot h) (firstLevel h) (readTranscript (h .spelling) h words)) in
+      let rs = repeatedOuts (sheetField h) none (layout h) begun in
       (λ i. thenVerdict (refuseAt 7 (first-six 12 zs i) then refuseAt 14 (first-six 12 rs i)) v) ∙ moved-tests (firstTrue 12 zs) (firstTrue 12 rs) v decide-later
 
 -- spreading looks at 12 words

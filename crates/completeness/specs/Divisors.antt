@@ -1,23 +1,22 @@
 -- Nothing is divided by 0 (02, CR 3), whatever the tables, replies and final coefficients of a file are: where its coins pass refusals 5 and 7, all that deciding
 -- divides by has an inverse.
-use Prim.Native.Nat.{ℕ, suc, _%_, _≤_, _<_}
+use Prim.Native.Nat.{ℕ, suc, _≤_, _<_}
 use native.Mathlib.Nat
 use native.Mathlib.Omega.{arith}
 use mathlib.Core.List.{List, [], _∷_, _++_, flatMap, map, zipWith, map-map}
 use mathlib.Core.Option.{some}
 use mathlib.Core.Path.{_≡_, sym, ap, _∙_, subst}
-use lib.ListN.{length, take, drop, replicate, length-drop, length-replicate}
-use borrow.Author.Tests.{eq-eqb}
+use lib.ListN.{length, take, drop, replicate, length-drop, length-replicate, length-take}
 use Rattle.definition.specs.Block.{fileOf, streamOf}
 use Rattle.definition.specs.Deciding.{answers, deciding, nextFunction, outInDomain, outTest, outTests}
 use Rattle.definition.specs.Domain.{domain, point, rootNumbers, shiftPoint}
-use Rattle.definition.specs.Field.{Field, primeField}
-use Rattle.definition.specs.Layout.{Kind, coin, index, laterCount, layout, limit, message, out, readRest, readTranscript, restLayout, roundCoins, roundLayout, wordsDue}
+use Rattle.definition.specs.Field.{Element, Field, Spelling, begunBy, elementsIn, wordCount}
+use Rattle.definition.specs.Layout.{Kind, coin, index, laterCount, layout, limit, message, outLayout, readRest, readTranscript, restLayout, roundCoins, roundLayout, wordsDue}
 use Rattle.definition.specs.Lists.{range}
 use Rattle.definition.specs.Polynomial.{Sample, distinct, evaluate, pair, points, vanishing}
 use Rattle.definition.specs.Prover.{honestStream}
 use Rattle.definition.specs.Reading.{outOfRange, rangeTest, reading, sheetTest}
-use Rattle.definition.specs.Sheet.{Edition, Level, Sheet, finalCount, firstLevel, laterLevels, rootOfUnity, sheetLength, sheetOf, shiftCount}
+use Rattle.definition.specs.Sheet.{Edition, Level, Sheet, finalCount, firstLevel, laterLevels, sheetLength, sheetOf, shiftCount}
 use Rattle.definition.specs.Transcript.{Rest, Round, round}
 use Rattle.definition.specs.Verdict.{Verdict, accepted}
 use Rattle.definition.specs.Verify.{verifyIn}
@@ -28,14 +27,14 @@ use Rattle.algebra.specs.Different.{Apart, Differ}
 use Rattle.algebra.specs.Divisors.{vanishing-differs}
 use Rattle.algebra.specs.Interpolation.{all-of-points}
 use Rattle.algebra.specs.Laws.{FieldLaws}
-use Rattle.algebra.specs.PrimeField.{signs-differ}
 use Rattle.algebra.specs.RingLaws.{reduce-power}
-use Rattle.algebra.specs.RootsOfUnity.{minusOne}
-use Rattle.layouts.specs.EachWord.{Front, Passes, front-at, front-false, front-run, front-tail, in-range}
+use Rattle.layouts.specs.EachWord.{Each, Front, InRange, Outside, each-length, front-at, front-false, front-run, in-range, outs-begun}
+use Rattle.layouts.specs.LayoutFacts.{later-length, laterLayout, outs-length}
 use Rattle.layouts.specs.LevelSizes.{Chain, chain-head}
-use Rattle.layouts.specs.Levels.{roundsOf, sheetField, sheetRoot}
+use Rattle.layouts.specs.Levels.{roundsOf, sheetField, sheetRoot, wordsFor}
 use Rattle.layouts.specs.Passed.{passed}
 use Rattle.layouts.specs.SheetLevels.{Steps}
+use Rattle.layouts.specs.Spellings.{begun-drop, begun-length}
 use Rattle.layouts.specs.Tests.{at-passes, then-passes, verdict-passes}
 use Rattle.completeness.specs.Completeness.{completeness, sheetReady}
 use Rattle.completeness.specs.DecidingAccepts.{AdmissibleRound, Foldable}
@@ -43,7 +42,7 @@ use Rattle.completeness.specs.DistinctPoints.{all-distinct, distinct-apa
 use Rattle.completeness.specs.Domains.{foldable}
 use Rattle.completeness.specs.AdmissibleCoins.{admissible-round}
 use Rattle.completeness.specs.Numbered.{Allowed, Nonzero, decidingDivisors, divisors, foldDivisors, restDivisors, samplesAt}
-use Rattle.completeness.specs.Ready.{Ready, ready}
+use Rattle.completeness.specs.Ready.{Ready, ready, sheet-laws}
 use Rattle.completeness.specs.RunByNumber as run
 
 all-pair : {A : Type 0} (P : A → Type 0) (xs ys : List A) → All P xs → All (λ (p : Sample A). P (p .point)) (pair xs ys)
@@ -118,42 +117,60 @@ module _ {A : Type 0} (F : Field A) (L : FieldLaws F) (ω : A) where
 
 -- ---- the words of a stream
 
+-- the first words of a layout in range, and what they begin off the domains
 module _ (h : Sheet) (q : Ready h) where
-  abbrev F : Field ℕ
-  F = primeField (h .prime)
+  abbrev σ : Spelling
+  σ = h .spelling
 
-  abbrev ω : ℕ
-  ω = rootOfUnity h
+  abbrev F : Field (Element (h .spelling))
+  F = sheetField h
 
-  abbrev signs : minusOne (primeField (h .prime)) ≡ primeField (h .prime) .𝟙 → ⊥
-  signs = signs-differ (h .prime) (q .large)
+  abbrev ω : Element (h .spelling)
+  ω = sheetRoot h
 
   level-folds : (b : Level) (ls : List Level) → Chain (suc (q .e)) b ls → Foldable F ω b
-  level-folds b ls ch = foldable F (q .laws) ω signs (q .e) (q .root) b (chain-head (suc (q .e)) b ls ch)
+  level-folds b ls ch = foldable F (q .laws) ω (q .signs) (q .e) (q .root) b (chain-head (suc (q .e)) b ls ch)
 
-  rest-found : (s : ℕ) (b : Level) (ls : List Level) (w : List ℕ) → Chain (suc (q .e)) b ls → Steps s b ls → Front (Passes h) (restLayout s b ls) w →
-      (f : ℕ → ℕ) (r : ℕ) → All (Found F) (restDivisors F ω b f r (readRest s b ls w))
-  unfolding restLayout roundLayout roundCoins restDivisors readRest laterCount limit
-  rest-found s b [] w ch st p f r =
-      let js = take (b .repetitions) (drop (finalCount b) w) in
-      let indices = front-run (Passes h) (b .repetitions) (index (shiftCount b)) (drop (finalCount b) w)
-      (front-at (Passes h) (finalCount b) (replicate (finalCount b) message) _ w (length-replicate (finalCount b) message) p .1) in
+  rest-found : (s : ℕ) (b : Level) (ls : List Level) (w : List ℕ) → Chain (suc (q .e)) b ls → Steps s b ls → Front (InRange h) (restLayout (h .spelling) s b ls) w →
+      Front (Outside h) (restLayout (h .spelling) s b ls) (begunBy (h .spelling) w) →
+      (f : ℕ → Element (h .spelling)) (r : Element (h .spelling)) → All (Found F) (restDivisors F ω b f r (readRest (h .spelling) s b ls w))
+  unfolding restLayout roundLayout roundCoins restDivisors readRest limit
+  rest-found s b [] w ch st p o f r =
+      let n = wordCount σ (finalCount b) in
+      let js = take (b .repetitions) (drop n w) in
+      let indices = front-run (InRange h) (b .repetitions) (index (shiftCount b)) (drop n w) (front-at (InRange h) n (replicate n message) _ w (length-replicate n message) p .1) in
       folds-found F (q .laws) ω b (level-folds b [] ch) f js (all-map js indices (λ j k. in-range h (index (shiftCount b)) j k))
-  rest-found s b (l ∷ ls) w ch st p f r =
-      let later = coin ∷ coin ∷ replicate (b .repetitions) (index (shiftCount b)) in
-      let w₁ = drop (l .size) w in
-      let w₂ = drop s w₁ in
-      let w₃ = drop s w₂ in
-      let parts = subst (λ (ks : List Kind). Front (Passes h) ks w) (regroup (replicate (l .size) message) (replicate s (out l)) (replicate s message) later (restLayout s l ls)) p in
-      let table = front-at (Passes h) (l .size) (replicate (l .size) message) _ w (length-replicate (l .size) message) parts in
-      let outs = front-at (Passes h) s (replicate s (out l)) _ w₁ (length-replicate s (out l)) (table .1) in
-      let replies = front-at (Passes h) s (replicate s message) _ w₂ (length-replicate s message) (outs .1) in
-      let rest = front-at (Passes h) (laterCount b) later (restLayout s l ls) w₃ (omega (arith, length-replicate (b .repetitions) (index (shiftCount b)))) (replies .1) in
-      let admissible = admissible-round h (q .laws) signs (q .e) (q .root) s b l (take s w₁) (take (laterCount b) w₃) (ch .1) (chain-head (suc (q .e)) l ls (ch .2)) (st .0) (outs .0) (rest .0) in
-      let ρ : Round ℕ = record { table = take (l .size) w; coins = roundCoins l (take s w₁) (take (laterCount b) w₃); replies = take s w₂ } in
+  rest-found s b (l ∷ ls) w ch st p o f r =
+      let later = laterLayout σ b in
+      let n = wordCount σ (l .size) in
+      let m = wordCount σ s in
+      let k = laterCount σ b in
+      let w₁ = drop n w in
+      let w₂ = drop m w₁ in
+      let w₃ = drop m w₂ in
+      let kinds = regroup (replicate n message) (outLayout σ s l) (replicate m message) later (restLayout σ s l ls) in
+      let parts = subst (λ (ks : List Kind). Front (InRange h) ks w) kinds p in
+      let table = front-at (InRange h) n (replicate n message) _ w (length-replicate n message) parts in
+      let outs = front-at (InRange h) m (outLayout σ s l) _ w₁ (outs-length σ s l) (table .1) in
+      let replies = front-at (InRange h) m (replicate m message) _ w₂ (length-replicate m message) (outs .1) in
+      let rest = front-at (InRange h) k later (restLayout σ s l ls) w₃ (later-length σ b) (replies .1) in
+      let b₀ = begunBy σ w in
+      let places = subst (λ (ks : List Kind). Front (Outside h) ks b₀) kinds o in
+      let table′ = front-at (Outside h) n (replicate n message) _ b₀ (length-replicate n message) places in
+      let outs′ = front-at (Outside h) m (outLayout σ s l) _ (drop n b₀) (outs-length σ s l) (table′ .1) in
+      let replies′ = front-at (Outside h) m (replicate m message) _ (drop m (drop n b₀)) (length-replicate m message) (outs′ .1) in
+      let rest′ = front-at (Outside h) k later (restLayout σ s l ls) (drop m (drop m (drop n b₀))) (later-length σ b) (replies′ .1) in
+      let e₁ = begun-drop σ n w in
+      let e₂ = ap (drop m) e₁ ∙ begun-drop σ m w₁ in
+      let e₃ = ap (drop m) e₂ ∙ begun-drop σ m w₂ in
+      let e₄ = ap (drop k) e₃ ∙ begun-drop σ k w₃ in
+      let long : m ≤ length w₁ = omega (arith, each-length (InRange h) (outLayout σ s l) (take m w₁) (outs .0), outs-length σ s l, length-take m w₁, Nat.min-le-right m (length w₁)) in
+      let away = outs-begun σ (Outside h) s l w₁ long (subst (λ (xs : List (Element (h .spelling))). Each (Outside h) (outLayout σ s l) (take m xs)) e₁ (outs′ .0)) in
+      let admissible = admissible-round h (q .laws) (q .signs) (q .e) (q .root) s b l (take m w₁) (take k w₃) (ch .1) (chain-head (suc (q .e)) l ls (ch .2)) (st .0) (outs .0) away (rest .0) in
+      let ρ : Round (Element (h .spelling)) = record { table = elementsIn σ (take n w); coins = roundCoins σ l (take m w₁) (take k w₃); replies = elementsIn σ (take m w₂) } in
       let next = nextFunction F ω (distinct F (answers F ω b f r ρ)) ρ .value in
-      round-found F (q .laws) ω b f r ρ admissible (level-folds b (l ∷ ls) ch) (readRest s l ls (drop (laterCount b) w₃))
-      (rest-found s l ls (drop (laterCount b) w₃) (ch .2) (st .1) (rest .1) next (ρ .coins .fold))
+      round-found F (q .laws) ω b f r ρ admissible (level-folds b (l ∷ ls) ch) (readRest σ s l ls (drop k w₃))
+      (rest-found s l ls (drop k w₃) (ch .2) (st .1) (rest .1) (subst (Front (Outside h) (restLayout σ s l ls)) e₄ (rest′ .1)) next (ρ .coins .fold))
 
 -- a stream that passes refusals 3, 5 and 7, with all words due
 stream-found : (ed : Edition) (w : List ℕ) → sheetTest ed w ≡ accepted → wordsDue ed (sheetOf ed w) ≤ length w →
@@ -162,18 +179,24 @@ stream-found : (ed : Edition) (w : List ℕ) → sheetTest ed w ≡ accepted →
 unfolding wordsDue rangeTest outTest layout readTranscript decidingDivisors
 stream-found ed w sheet due range outside =
     let h = sheetOf ed w in
+    let σ = h .spelling in
     let n = sheetLength ed in
     let q = ready ed w (omega (arith, due)) sheet in
-    let rest = restLayout (h .outCoins) (firstLevel h) (laterLevels h) in
-    let words = front-false (outOfRange h) (outInDomain h) n (layout h) (drop n w) (omega (arith, due, length-drop n w)) (at-passes 5 _ range) (at-passes 7 _ outside) in
-    let after = front-at (Passes h) (h .size) (replicate (h .size) message) (coin ∷ rest) (drop n w) (length-replicate (h .size) message) words .1 in
-    rest-found h q (h .outCoins) (firstLevel h) (laterLevels h) (drop 1 (drop (h .size) (drop n w))) (q .chain) (q .steps)
-    (front-tail (Passes h) coin rest (drop (h .size) (drop n w)) after) _ _
+    let rest = restLayout σ (h .outCoins) (firstLevel h) (laterLevels h) in
+    let a = wordsFor h (h .size) in
+    let c = wordsFor h 1 in
+    let v = drop n w in
+    let words = front-false (outOfRange h) n (layout h) v (omega (arith, due, length-drop n w)) (at-passes 5 _ range) in
+    let begun = front-false (outInDomain σ h) n (layout h) (begunBy σ v) (omega (arith, due, length-drop n w, begun-length σ v)) (at-passes 7 _ outside) in
+    let after = front-at (InRange h) c (replicate c coin) rest (drop a v) (length-replicate c coin) (front-at (InRange h) a (replicate a message) (replicate c coin ++ rest) v (length-replicate a message) words .1) .1 in
+    let after′ = front-at (Outside h) c (replicate c coin) rest (drop a (begunBy σ v)) (length-replicate c coin)
+    (front-at (Outside h) a (replicate a message) (replicate c coin ++ rest) (begunBy σ v) (length-replicate a message) begun .1) .1 in
+    rest-found h q (h .outCoins) (firstLevel h) (laterLevels h) (drop c (drop a v)) (q .chain) (q .steps) after
+    (subst (Front (Outside h) rest) (ap (drop c) (begun-drop σ a v) ∙ begun-drop σ c (drop a v)) after′) _ _
 
--- what has an inverse in a prime field differs from 0
-found-nonzero : (p x : ℕ) → Found (primeField p) x → x % p ≡ 0 → ⊥
-unfolding primeField
-found-nonzero p x found z = some≢none (found .0) (sym (found .1) ∙ simp (eq-eqb (x % p) 0 z))
+-- what has an inverse differs from 0
+found-nonzero : {A : Type 0} (F : Field A) (L : FieldLaws F) (x : A) → Found F x → F ._⊕_ x (F .𝟘) ≡ F .𝟘 → ⊥
+found-nonzero F L x found z = some≢none (found .0) (sym (found .1) ∙ L .inverse-none x (sym (L .add-zero x) ∙ z))
 
 -- every file that passes reading and refusal 7
 pub file-divisors : (ed : Edition) (bytes : List ℕ) → reading ed bytes ≡ accepted →
@@ -181,7 +204,7 @@ pub file-divisors : (ed : Edition) (bytes : List ℕ) → reading ed bytes ≡ a
     All (Nonzero (sheetOf ed (streamOf bytes))) (decidingDivisors ed (streamOf bytes))
 file-divisors ed bytes read outside =
     let p = passed ed bytes read in
-    all-map (decidingDivisors ed (streamOf bytes)) (stream-found ed (streamOf bytes) (p .sheet) (p .due) (p .range) outside) (λ x u. found-nonzero (sheetOf ed (streamOf bytes) .prime) x u)
+    all-map (decidingDivisors ed (streamOf bytes)) (stream-found ed (streamOf bytes) (p .sheet) (p .due) (p .range) outside) (λ x u. found-nonzero (sheetField (sheetOf ed (streamOf bytes))) (sheet-laws ed (streamOf bytes)) x u)
 
 -- every honest run: its file, and the prover's own interpolation
 module _ {ed : Edition} {w f coins : List ℕ} (ok : Allowed ed w f coins) where
@@ -198,4 +221,4 @@ module _ {ed : Edition} {w f coins : List ℕ} (ok : Allowed ed w f coins) where
   prover-divisors i l =
       let h = sheetOf ed w in
       let F = sheetField h in
-      all-map (divisors F (samplesAt h f coins (suc i))) (divisors-found F (sheetReady ok .laws) (sheetRoot h) (samplesAt h f coins (suc i)) (run.samples-apart ok i l)) (λ x u. found-nonzero (h .prime) x u)
+      all-map (divisors F (samplesAt h f coins (suc i))) (divisors-found F (sheetReady ok .laws) (sheetRoot h) (samplesAt h f coins (suc i)) (run.samples-apart ok i l)) (λ x u. found-nonzero F (sheetReady ok .laws) x u)

@@ -4,12 +4,11 @@ use mathlib.Core.List.{List}
 use mathlib.Core.Path.{_≡_, ap, _∙_}
 use lib.ListN.{length}
 use Rattle.definition.specs.Domain.{point, shiftPoint}
-use Rattle.definition.specs.Field.{Field}
+use Rattle.definition.specs.Field.{Element, Field}
 use Rattle.definition.specs.Prove.{sheetLengthTest}
 use Rattle.definition.specs.Reading.{sheetTest}
 use Rattle.definition.specs.Sheet.{Edition, sheetLength, sheetOf, shiftCount}
 use Rattle.definition.specs.Verdict.{accepted}
-use Rattle.algebra.specs.PrimeField.{signs-differ}
 use Rattle.algebra.specs.RingLaws.{sub-self}
 use Rattle.algebra.specs.RootsOfUnity.{minusOne}
 use Rattle.layouts.specs.Lawful.{lawful}
@@ -31,11 +30,11 @@ module _ (ed : Edition) (w : List ℕ) (words : sheetLengthTest ed w ≡ accepte
   abbrev q : Ready (sheetOf ed w)
   q = ready ed w long passed
 
-  abbrev F : Field ℕ
+  abbrev F : Field (Element (sheetOf ed w .spelling))
   F = sheetField (sheetOf ed w)
 
   abbrev signs : minusOne (sheetField (sheetOf ed w)) ≡ sheetField (sheetOf ed w) .𝟙 → ⊥
-  signs = signs-differ (sheetOf ed w .prime) (q .large)
+  signs = q .signs
 
   pub points-different : (i a b : ℕ) → i ≤ roundsOf (sheetOf ed w) → a < levelOf (sheetOf ed w) i .size → b < levelOf (sheetOf ed w) i .size →
       point F (sheetRoot (sheetOf ed w)) (levelOf (sheetOf ed w) i) a ≡ point F (sheetRoot (sheetOf ed w)) (levelOf (sheetOf ed w) i) b → a ≡ b
@@ -51,4 +50,4 @@ module _ (ed : Edition) (w : List ℕ) (words : sheetLengthTest ed w ≡ accepte
   pub shifts-off-domain : (i m j : ℕ) → i < roundsOf (sheetOf ed w) → point F (sheetRoot (sheetOf ed w)) (levelOf (sheetOf ed w) (suc i)) m ≡ shiftPoint F (sheetRoot (sheetOf ed w)) (levelOf (sheetOf ed w) i) j → ⊥
   shifts-off-domain i m j l e =
       Domains.never-meet F (q .laws) (sheetRoot (sheetOf ed w)) signs (q .e) (q .root) (outCoinCount (sheetOf ed w)) (levelOf (sheetOf ed w) i) (levelOf (sheetOf ed w) (suc i)) m j (step (sheetOf ed w) (lawful ed w long passed) i l)
-      (ap (λ (x : ℕ). F ._⊖_ x (shiftPoint F (sheetRoot (sheetOf ed w)) (levelOf (sheetOf ed w) i) j)) e ∙ sub-self F (q .laws) (shiftPoint F (sheetRoot (sheetOf ed w)) (levelOf (sheetOf ed w) i) j))
+      (ap (λ (x : Element (sheetOf ed w .spelling)). F ._⊖_ x (shiftPoint F (sheetRoot (sheetOf ed w)) (levelOf (sheetOf ed w) i) j)) e ∙ sub-self F (q .laws) (shiftPoint F (sheetRoot (sheetOf ed w)) (levelOf (sheetOf ed w) i) j))

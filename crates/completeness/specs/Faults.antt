@@ -10,13 +10,14 @@ use lib.ListN.{length, getD, take, drop}
 use Rattle.definition.specs.Block.{blockCount, checkWord, streamOf, wordOf}
 use Rattle.definition.specs.Deciding.{Function, answers, nextFunction, tableFunction}
 use Rattle.definition.specs.Domain.{foldAt, point, shiftPoint}
+use Rattle.definition.specs.Field.{Element, elementsIn, numberIn}
 use Rattle.definition.specs.Layout.{wordsDue}
 use Rattle.definition.specs.Lists.{range}
 use Rattle.definition.specs.Polynomial.{Sample, distinct, evaluate}
 use Rattle.definition.specs.Sheet.{Edition, Sheet, edition1, finalCount, sheetLength, sheetOf, shiftCount}
 use Rattle.definition.specs.Transcript.{Round}
 use Rattle.definition.specs.Verdict.{Outcome, accepted, refused}
-use Rattle.layouts.specs.Levels.{levelOf, outCoinCount, roundStart, roundsOf, sheetField, sheetRoot, total}
+use Rattle.layouts.specs.Levels.{elementAt, levelOf, outCoinCount, roundStart, roundsOf, sheetField, sheetRoot, total, wordsFor}
 use Rattle.layouts.specs.PlainRules.{KeepsRule, wordTurn}
 use Rattle.completeness.specs.Numbered.{Due, Message, final, lengthOf, levelReads, replies, startOf, table}
 
@@ -55,18 +56,18 @@ PartDue h finals = Unit {0}
 -- the word number of its first word; the number of its words; and the limit below which they are in range
 unfoldable pub partStart : Edition → Sheet → Part → ℕ
 partStart ed h (words m) = startOf ed h m
-partStart ed h (outs i) = roundStart ed h (suc i) + levelOf h (suc i) .size
-partStart ed h (combination i) = roundStart ed h (suc i) + (levelOf h (suc i) .size + (outCoinCount h + outCoinCount h))
-partStart ed h (fold zero) = roundStart ed h 0 + levelOf h 0 .size
-partStart ed h (fold (suc i)) = roundStart ed h (suc i) + (levelOf h (suc i) .size + (outCoinCount h + (outCoinCount h + 1)))
-partStart ed h (shifts i) = roundStart ed h (suc i) + (levelOf h (suc i) .size + (outCoinCount h + (outCoinCount h + 2)))
-partStart ed h finals = roundStart ed h (suc (roundsOf h)) + finalCount (levelOf h (roundsOf h))
+partStart ed h (outs i) = roundStart ed h (suc i) + wordsFor h (levelOf h (suc i) .size)
+partStart ed h (combination i) = roundStart ed h (suc i) + wordsFor h (levelOf h (suc i) .size + (outCoinCount h + outCoinCount h))
+partStart ed h (fold zero) = roundStart ed h 0 + wordsFor h (levelOf h 0 .size)
+partStart ed h (fold (suc i)) = roundStart ed h (suc i) + wordsFor h (levelOf h (suc i) .size + (outCoinCount h + (outCoinCount h + 1)))
+partStart ed h (shifts i) = roundStart ed h (suc i) + wordsFor h (levelOf h (suc i) .size + (outCoinCount h + (outCoinCount h + 2)))
+partStart ed h finals = roundStart ed h (suc (roundsOf h)) + wordsFor h (finalCount (levelOf h (roundsOf h)))
 
 unfoldable pub partLength : Sheet → Part → ℕ
 partLength h (words m) = lengthOf h m
-partLength h (outs i) = outCoinCount h
-partLength h (combination i) = 1
-partLength h (fold i) = 1
+partLength h (outs i) = wordsFor h (outCoinCount h)
+partLength h (combination i) = wordsFor h 1
+partLength h (fold i) = wordsFor h 1
 partLength h (shifts i) = levelOf h i .repetitions
 partLength h finals = levelOf h (roundsOf h) .repetitions
 
@@ -78,43 +79,49 @@ partLimit h (fold i) = h .prime
 partLimit h (shifts i) = shiftCount (levelOf h i)
 partLimit h finals = shiftCount (levelOf h (roundsOf h))
 
--- word j of a part, all its words, and the number of words due: those up to the last final index
+-- word j of a part, all its words, and the number of words due: those up to the last final index; and where a part is of elements, element j and all of them
 abbrev pub partWord : Edition → Sheet → List ℕ → Part → ℕ → ℕ
 partWord ed h w x j = getD w (partStart ed h x + j) 0
 
 unfoldable pub partWords : Edition → Sheet → List ℕ → Part → List ℕ
 partWords ed h w x = take (partLength h x) (drop (partStart ed h x) w)
 
+abbrev pub partElement : Edition → (h : Sheet) → List ℕ → Part → ℕ → Element (h .spelling)
+partElement ed h w x j = elementAt (h .spelling) w (partStart ed h x + wordsFor h j)
+
+abbrev pub partElements : Edition → (h : Sheet) → List ℕ → Part → List (Element (h .spelling))
+partElements ed h w x = elementsIn (h .spelling) (partWords ed h w x)
+
 abbrev pub dueOf : Edition → Sheet → ℕ
 dueOf ed h = partStart ed h finals + partLength h finals
 
 -- THE VERIFIER'S FUNCTIONS. Round i + 1 as it stands in the stream; f_i, with its value at each point number of domain i; and G_(i+1)'s list, a pair for each out coin and each shift
 -- index of round i + 1.
-abbrev pub roundIn : Edition → Sheet → List ℕ → ℕ → Round ℕ
+abbrev pub roundIn : Edition → (h : Sheet) → List ℕ → ℕ → Round (Element (h .spelling))
 roundIn ed h w i = record {
   coins = record {
     level = levelOf h (suc i);
-    outs = partWords ed h w (outs i);
-    combination = partWord ed h w (combination i) 0;
-    fold = partWord ed h w (fold (suc i)) 0;
+    outs = partElements ed h w (outs i);
+    combination = partElement ed h w (combination i) 0;
+    fold = partElement ed h w (fold (suc i)) 0;
     shifts = partWords ed h w (shifts i);
   };
-  table = partWords ed h w (words (table (suc i)));
-  replies = partWords ed h w (words (replies (suc i)));
+  table = partElements ed h w (words (table (suc i)));
+  replies = partElements ed h w (words (replies (suc i)));
 }
 
-unfoldable pub functionIn : Edition → Sheet → List ℕ → ℕ → Function ℕ
-functionIn ed h w zero = tableFunction (sheetField h) (sheetRoot h) (levelOf h 0) (partWords ed h w (words (table 0)))
+unfoldable pub functionIn : Edition → (h : Sheet) → List ℕ → ℕ → Function (Element (h .spelling))
+functionIn ed h w zero = tableFunction (sheetField h) (sheetRoot h) (levelOf h 0) (partElements ed h w (words (table 0)))
 functionIn ed h w (suc i) =
     nextFunction (sheetField h) (sheetRoot h)
-    (distinct (sheetField h) (answers (sheetField h) (sheetRoot h) (levelOf h i) (functionIn ed h w i .value) (partWord ed h w (fold i) 0) (roundIn ed h w i)))
+    (distinct (sheetField h) (answers (sheetField h) (sheetRoot h) (levelOf h i) (functionIn ed h w i .value) (partElement ed h w (fold i) 0) (roundIn ed h w i)))
     (roundIn ed h w i)
 
-unfoldable pub pairsIn : Edition → Sheet → List ℕ → ℕ → List (Sample ℕ)
-pairsIn ed h w i = answers (sheetField h) (sheetRoot h) (levelOf h i) (functionIn ed h w i .value) (partWord ed h w (fold i) 0) (roundIn ed h w i)
+unfoldable pub pairsIn : Edition → (h : Sheet) → List ℕ → ℕ → List (Sample (Element (h .spelling)))
+pairsIn ed h w i = answers (sheetField h) (sheetRoot h) (levelOf h i) (functionIn ed h w i .value) (partElement ed h w (fold i) 0) (roundIn ed h w i)
 
-abbrev pub pairIn : Edition → Sheet → List ℕ → ℕ → ℕ → Sample ℕ
-pairIn ed h w i a = getD (pairsIn ed h w i) a (record { point = 0; value = 0 })
+abbrev pub pairIn : Edition → (h : Sheet) → List ℕ → ℕ → ℕ → Sample (Element (h .spelling))
+pairIn ed h w i a = getD (pairsIn ed h w i) a (record { point = numberIn (h .spelling) 0; value = numberIn (h .spelling) 0 })
 
 -- two pairs of round i + 1 agree: with equal points they have equal values
 abbrev pub Agree : Edition → Sheet → List ℕ → ℕ → ℕ → ℕ → Type 0
@@ -123,8 +130,8 @@ Agree ed h w i a b = pairIn ed h w i a .point ≡ pairIn ed h w i b .point → p
 -- at final index j, the final polynomial has the value of the fold of f_M
 abbrev pub Matches : Edition → Sheet → List ℕ → ℕ → Type 0
 Matches ed h w j =
-    evaluate (sheetField h) (partWords ed h w (words final)) (shiftPoint (sheetField h) (sheetRoot h) (levelOf h (roundsOf h)) (partWord ed h w finals j))
-    ≡ foldAt (sheetField h) (sheetRoot h) (levelOf h (roundsOf h)) (functionIn ed h w (roundsOf h) .value) (partWord ed h w (fold (roundsOf h)) 0) (partWord ed h w finals j)
+    evaluate (sheetField h) (partElements ed h w (words final)) (shiftPoint (sheetField h) (sheetRoot h) (levelOf h (roundsOf h)) (partWord ed h w finals j))
+    ≡ foldAt (sheetField h) (sheetRoot h) (levelOf h (roundsOf h)) (functionIn ed h w (roundsOf h) .value) (partElement ed h w (fold (roundsOf h)) 0) (partWord ed h w finals j)
 
 -- WHAT AN ACCEPTED FILE KEEPS, one field for each refusal.
 pub record Kept (ed : Edition) (file : List ℕ) : Type 0 where
@@ -143,10 +150,10 @@ pub record Kept (ed : Edition) (file : List ℕ) : Type 0 where
   pub fill : (n : ℕ) → dueOf ed (sheetIn ed file) ≤ n → n < 127 * blocksIn file → getD (streamOf file) n 0 ≡ 0
   -- 7: every out coin of every round i + 1 is different from every point of domain i + 1
   pub outside : (i : ℕ) → i < roundsOf (sheetIn ed file) → (j : ℕ) → j < outCoinCount (sheetIn ed file) → (m : ℕ) → m < levelOf (sheetIn ed file) (suc i) .size →
-      partWord ed (sheetIn ed file) (streamOf file) (outs i) j ≡ point (sheetField (sheetIn ed file)) (sheetRoot (sheetIn ed file)) (levelOf (sheetIn ed file) (suc i)) m → ⊥
+      partElement ed (sheetIn ed file) (streamOf file) (outs i) j ≡ point (sheetField (sheetIn ed file)) (sheetRoot (sheetIn ed file)) (levelOf (sheetIn ed file) (suc i)) m → ⊥
   -- 14: in no round two out coins are equal
   pub apart : (i : ℕ) → i < roundsOf (sheetIn ed file) → (a b : ℕ) → a < outCoinCount (sheetIn ed file) → b < outCoinCount (sheetIn ed file) →
-      partWord ed (sheetIn ed file) (streamOf file) (outs i) a ≡ partWord ed (sheetIn ed file) (streamOf file) (outs i) b → a ≡ b
+      partElement ed (sheetIn ed file) (streamOf file) (outs i) a ≡ partElement ed (sheetIn ed file) (streamOf file) (outs i) b → a ≡ b
   -- 8: in every round any two pairs agree
   pub agree : (i : ℕ) → i < roundsOf (sheetIn ed file) → (a b : ℕ) → a < length (pairsIn ed (sheetIn ed file) (streamOf file) i) → b < length (pairsIn ed (sheetIn ed file) (streamOf file) i) → Agree ed (sheetIn ed file) (streamOf file) i a b
   -- 9: at every final index the final polynomial is the fold of f_M
@@ -172,16 +179,16 @@ RangeFault ed h w q = (x : Part) × PartDue h x × ((j : ℕ) × (j < partLength
 abbrev pub FillFault : Edition → List ℕ → ℕ → Type 0
 FillFault ed file q = (dueOf ed (sheetIn ed file) ≤ q) × (q < 127 * blocksIn file) × (getD (streamOf file) q 0 ≡ 0 → ⊥)
 
--- a word number q, of out coin j of round i + 1, which is point m of domain i + 1
+-- a word number q, of the first word of out coin j of round i + 1, which is point m of domain i + 1
 abbrev pub DomainFault : Edition → Sheet → List ℕ → ℕ → Type 0
 DomainFault ed h w q =
-    (i : ℕ) × (i < roundsOf h) × ((j : ℕ) × (j < outCoinCount h) × (q ≡ partStart ed h (outs i) + j)
-    × ((m : ℕ) × (m < levelOf h (suc i) .size) × (getD w q 0 ≡ point (sheetField h) (sheetRoot h) (levelOf h (suc i)) m)))
+    (i : ℕ) × (i < roundsOf h) × ((j : ℕ) × (j < outCoinCount h) × (q ≡ partStart ed h (outs i) + wordsFor h j)
+    × ((m : ℕ) × (m < levelOf h (suc i) .size) × (elementAt (h .spelling) w q ≡ point (sheetField h) (sheetRoot h) (levelOf h (suc i)) m)))
 
--- a word number q, of out coin j of round i + 1, which is equal to out coin a before it
+-- a word number q, of the first word of out coin j of round i + 1, which is equal to out coin a before it
 abbrev pub EqualFault : Edition → Sheet → List ℕ → ℕ → Type 0
 EqualFault ed h w q =
-    (i : ℕ) × (i < roundsOf h) × ((j : ℕ) × (j < outCoinCount h) × (q ≡ partStart ed h (outs i) + j) × ((a : ℕ) × (a < j) × (getD w q 0 ≡ partWord ed h w (outs i) a)))
+    (i : ℕ) × (i < roundsOf h) × ((j : ℕ) × (j < outCoinCount h) × (q ≡ partStart ed h (outs i) + wordsFor h j) × ((a : ℕ) × (a < j) × (elementAt (h .spelling) w q ≡ partElement ed h w (outs i) a)))
 
 -- a round i + 1, in which pairs a and b do not agree
 abbrev pub ClashFault : Edition → Sheet → List ℕ → ℕ → Type 0
@@ -235,12 +242,12 @@ pub data Used (ed : Edition) (h : Sheet) (w : List ℕ) : ℕ → ℕ → Type 0
   by·final : (j m : ℕ) → j < partLength h finals → m < levelOf h (roundsOf h) .fold → FinalTreated ed h w j →
       Used ed h w (roundsOf h) (partWord ed h w finals j + m * shiftCount (levelOf h (roundsOf h)))
 
--- two streams, the first with sheet h, have the same words outside the tables, and the same table words at every place that deciding uses in the first
+-- two streams, the first with sheet h, have the same words outside the tables, and the same table entries at every place that deciding uses in the first
 abbrev pub SameOutside : Edition → Sheet → List ℕ → List ℕ → Type 0
-SameOutside ed h v w = (n : ℕ) → ((i j : ℕ) → i ≤ roundsOf h → j < levelOf h i .size → n ≡ startOf ed h (table i) + j → ⊥) → getD v n 0 ≡ getD w n 0
+SameOutside ed h v w = (n : ℕ) → ((i j : ℕ) → i ≤ roundsOf h → j < lengthOf h (table i) → n ≡ startOf ed h (table i) + j → ⊥) → getD v n 0 ≡ getD w n 0
 
 abbrev pub SameWhereUsed : Edition → Sheet → List ℕ → List ℕ → Type 0
-SameWhereUsed ed h v w = (i y : ℕ) → Used ed h v i y → partWord ed h v (words (table i)) y ≡ partWord ed h w (words (table i)) y
+SameWhereUsed ed h v w = (i y : ℕ) → Used ed h v i y → partElement ed h v (words (table i)) y ≡ partElement ed h w (words (table i)) y
 
 -- the reads of the shift indices of the first m rounds, k_i for each different index of round i + 1; and the reads that go with an outcome: those of the rounds up to the
 -- clash for 8; for 9 those of all rounds, and k_M for each different final index up to and with the failing one; and for accepted those of all indices
@@ -287,11 +294,11 @@ pub data EncodeRefusal (w f : List ℕ) : ℕ → ℕ → Type 0 where
   rule·broken : (i : ℕ) → i < 12 → EncodeRefusal w f 3 i
   coefficient·count : EncodeRefusal w f 10 1
   word·over : (q : ℕ) → q < length f → EncodeRefusal w f 5 q
-  output·short : EncodeRefusal w f 11 (getD w 1 0)
+  output·short : EncodeRefusal w f 11 (wordsFor (sheetOf edition1 w) (getD w 1 0))
 
--- what encode asks of its input: 12 words that keep their rules, and d0 elements
+-- what encode asks of its input: 12 words that keep their rules, and the words of d0 elements
 pub record Encodable (w f : List ℕ) : Type 0 where
   pub words : length w ≡ 12
   pub rules : (i : ℕ) → i < 12 → KeepsRule edition1 w i
-  pub count : length f ≡ getD w 2 0
+  pub count : length f ≡ wordsFor (sheetOf edition1 w) (getD w 2 0)
   pub range : (j : ℕ) → j < length f → getD f j 0 < sheetOf edition1 w .prime

@@ -16,7 +16,7 @@ use Rattle.definition.specs.Reading.{blocksTest, bodyTests, checkTest, fillTest
 use Rattle.definition.specs.Sheet.{Edition, Sheet, edition1, edition2, sheetLength, sheetOf}
 use Rattle.definition.specs.Verdict.{_then_, accepted}
 use Rattle.list_laws.specs.All.{All, all-append}
-use Rattle.layouts.specs.EachWord.{Each, each-length, each-none}
+use Rattle.layouts.specs.EachWord.{Each, InRange, each-length, each-none}
 use Rattle.layouts.specs.FileTrip.{Word, file-checks, file-length, file-stream, fillCount, filled}
 use Rattle.completeness.specs.Ready.{layout-fits, ready}
 use Rattle.layouts.specs.SheetLevels.{rules-front, sheet-front}
@@ -27,10 +27,6 @@ no-fill : (from n : ℕ) → firstTrue from (map (λ (x : ℕ). not (eqb x 0)) (
 unfolding firstTrue
 no-fill from zero = refl
 no-fill from (suc n) = no-fill (suc from) n
-
--- in range, by kind
-abbrev pub InRange : Sheet → Kind → ℕ → Type 0
-InRange h k x = outOfRange h k x ≡ false
 
 -- words in range are words
 words-of-kinds : (h : Sheet) (ks : List Kind) (w : List ℕ) → All (λ k. limit (h .prime) k ≤ 4294967296) ks → Each (InRange h) ks w → All Word w

@@ -25,6 +25,8 @@ pub mod AdmissibleCoins
 pub mod Allowed
 -- nothing is divided by 0
 pub mod Divisors
+-- elements of four words
+pub mod FourWords
 -- the honest file is accepted, and the premises can be met
 pub mod RoundTrip
 pub mod HonestStream

@@ -18,7 +18,7 @@ use Rattle.algebra.specs.Laws.{FieldLaws}
 use Rattle.layouts.specs.Lawful.{lawful}
 use Rattle.layouts.specs.LayoutByRound.{coins-due}
 use Rattle.layouts.specs.LevelSizes.{Sized, positive-sizes}
-use Rattle.layouts.specs.Levels.{coinsBefore, levelOf, outCoinCount, roundsOf, sheetField, sheetRoot, total}
+use Rattle.layouts.specs.Levels.{coinsBefore, levelOf, outCoinCount, roundsOf, sheetField, sheetRoot, total, wordsFor}
 use Rattle.layouts.specs.LevelsByNumber.{Paired}
 use Rattle.completeness.specs.Allowed.{allowed-count, allowed-enough}
 use Rattle.completeness.specs.DecidingAccepts.{Admissible, allPlaces}
@@ -92,7 +92,7 @@ module _ (h : Sheet) (coins : List ℕ) where
     few-indices i l = go (ltb i (roundsOf h)) refl
       where
         go : (b : Bool) → ltb i (roundsOf h) ≡ b → length (cond b (shiftIndices h coins (suc i)) (finalIndices h coins)) ≤ levelOf h i .repetitions
-        go true e = omega (arith, length-take (levelOf h i .repetitions) (drop (coinsBefore h (suc i) + (outCoinCount h + 2)) coins))
+        go true e = omega (arith, length-take (levelOf h i .repetitions) (drop (coinsBefore h (suc i) + wordsFor h (outCoinCount h + 2)) coins))
         go false e =
             let last : i ≡ roundsOf h = omega (arith, ltb-false i (roundsOf h) e) in
             omega (arith, full, length-drop (coinsBefore h (suc (roundsOf h))) coins, ap (λ (n : ℕ). levelOf h n .repetitions) last)

@@ -10,7 +10,7 @@ use lib.ListN.{length, take, drop}
 use borrow.Author.Tests.{ne-eqb}
 use Rattle.definition.specs.Block.{streamOf}
 use Rattle.definition.specs.Deciding.{Decision, Place, counted, decide, decideFinal, decideRest, deciding, equalTest, outTest, outTests, placesOf, readsOf, treated}
-use Rattle.definition.specs.Field.{Field}
+use Rattle.definition.specs.Field.{Element, Field}
 use Rattle.definition.specs.Layout.{layout, readTranscript}
 use Rattle.definition.specs.Lists.{different, firstTrue, range}
 use Rattle.definition.specs.Polynomial.{clash}
@@ -25,7 +25,7 @@ use Rattle.layouts.specs.Levels.{levelOf, roundsOf, sheetField, sheetRoot, tota
 use Rattle.layouts.specs.LevelsByNumber.{Paired}
 use Rattle.completeness.specs.Answers.{Refuses, at-refuses, if-refuses, refuses-sheet, then-refuses}
 use Rattle.completeness.specs.DecidedByNumber.{clashes, decide-rounds, decided, finalTests, rest-final, rest-round, restAfter}
-use Rattle.completeness.specs.Faults.{Part, PartDue, finals, fold, functionIn, pairsIn, partLength, partLimit, partWord, partWords, readsBefore, readsWith, sheetIn, shifts}
+use Rattle.completeness.specs.Faults.{Part, PartDue, finals, fold, functionIn, pairsIn, partElement, partLength, partLimit, partWord, partWords, readsBefore, readsWith, sheetIn, shifts}
 use Rattle.completeness.specs.Numbered.{levelReads}
 use Rattle.completeness.specs.PairsByNumber.{part-length, part-word}
 use Rattle.completeness.specs.Places.{same-places}
@@ -41,10 +41,10 @@ pub record Indexed (ed : Edition) (h : Sheet) (w : List ℕ) : Type 0 where
   pub finals·below : All (λ j. j < shiftCount (levelOf h (roundsOf h))) (partWords ed h w finals)
 
 module _ (ed : Edition) (h : Sheet) (w : List ℕ) (indexed : Indexed ed h w) where
-  abbrev F : Field ℕ
+  abbrev F : Field (Element (h .spelling))
   F = sheetField h
 
-  abbrev ω : ℕ
+  abbrev ω : Element (h .spelling)
   ω = sheetRoot h
 
   abbrev M : ℕ
@@ -84,19 +84,19 @@ module _ (ed : Edition) (h : Sheet) (w : List ℕ) (indexed : Indexed ed h w) wh
   treated-below (some q) = all-take _ (suc q) (partWords ed h w finals) (indexed .finals·below)
 
   rest-reads : (m i : ℕ) (before : List Place) → i + m ≡ M → All (λ p. p .table < i) before →
-      readsOf (decideRest F ω (levelOf h i) (functionIn ed h w i) (partWord ed h w (fold i) 0) before (restAfter ed h w i m) .used)
+      readsOf (decideRest F ω (levelOf h i) (functionIn ed h w i) (partElement ed h w (fold i) 0) before (restAfter ed h w i m) .used)
       ≡ readsOf before + readsFrom i m (firstTrue (suc i) (clashes ed h w i m)) (firstTrue 0 (finalTests ed h w))
   unfolding decideRest decideFinal range firstTrue functionIn pairsIn readsFrom total
   rest-reads zero i before e lower =
       let q : i ≡ M = omega arith in
       let f = firstTrue 0 (finalTests ed h w) in
-      ap (λ (j : ℕ). readsOf (decideRest F ω (levelOf h j) (functionIn ed h w j) (partWord ed h w (fold j) 0) before (restAfter ed h w j 0) .used)) q
-      ∙ ap (λ (r : Transcript.Rest ℕ). readsOf (decideRest F ω (levelOf h M) (functionIn ed h w M) (partWord ed h w (fold M) 0) before r .used)) (rest-final ed h w)
+      ap (λ (j : ℕ). readsOf (decideRest F ω (levelOf h j) (functionIn ed h w j) (partElement ed h w (fold j) 0) before (restAfter ed h w j 0) .used)) q
+      ∙ ap (λ (r : Transcript.Rest (Element (h .spelling))). readsOf (decideRest F ω (levelOf h M) (functionIn ed h w M) (partElement ed h w (fold M) 0) before r .used)) (rest-final ed h w)
       ∙ indices-read M before (treated (partWords ed h w finals) f) (omega arith) (subst (λ (j : ℕ). All (λ p. p .table < j) before) q lower) (treated-below f) ∙ omega arith
   rest-reads (suc m) i before e lower =
       let now = before ++ placesOf (levelOf h i) (functionIn ed h w i .places) (partWords ed h w (shifts i)) in
-      ap (λ (r : Transcript.Rest ℕ). readsOf (decideRest F ω (levelOf h i) (functionIn ed h w i) (partWord ed h w (fold i) 0) before r .used)) (rest-round ed h w i m)
-      ∙ go (decideRest F ω (levelOf h (suc i)) (functionIn ed h w (suc i)) (partWord ed h w (fold (suc i)) 0) now (restAfter ed h w (suc i) m)) (clashes ed h w (suc i) m) (clash F (pairsIn ed h w i))
+      ap (λ (r : Transcript.Rest (Element (h .spelling))). readsOf (decideRest F ω (levelOf h i) (functionIn ed h w i) (partElement ed h w (fold i) 0) before r .used)) (rest-round ed h w i m)
+      ∙ go (decideRest F ω (levelOf h (suc i)) (functionIn ed h w (suc i)) (partElement ed h w (fold (suc i)) 0) now (restAfter ed h w (suc i) m)) (clashes ed h w (suc i) m) (clash F (pairsIn ed h w i))
       (rest-reads m (suc i) now (omega arith) higher)
     where
       f : Option ℕ
@@ -125,7 +125,7 @@ module _ (ed : Edition) (h : Sheet) (w : List ℕ) (indexed : Indexed ed h w) wh
   by-outcome none (some j) = refl
   by-outcome (some q) f = ap (λ (n : ℕ). shiftReads 0 n) (let e : q - 0 ≡ q = omega arith in e)
 
-  decided-reads : Paired h → (d : Decision) → d ≡ decide F ω (firstLevel h) (readTranscript h (drop (sheetLength ed) w)) → counted d .reads ≡ readsWith ed h w (counted d .outcome)
+  decided-reads : Paired h → (d : Decision) → d ≡ decide F ω (firstLevel h) (readTranscript (h .spelling) h (drop (sheetLength ed) w)) → counted d .reads ≡ readsWith ed h w (counted d .outcome)
   unfolding counted readsOf different
   decided-reads long d e =
       let c = firstTrue 1 (clashes ed h w 0 M) in

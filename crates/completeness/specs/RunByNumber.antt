@@ -7,21 +7,21 @@ use mathlib.Core.Path.{_≡_, refl, sym, ap, _∙_, subst}
 use lib.ListN.{length, getD, take, length-map}
 use lib.Pow.{pow-mono}
 use Rattle.definition.specs.Domain.{domain, point}
-use Rattle.definition.specs.Field.{Field}
+use Rattle.definition.specs.Field.{Element, Field, elementsIn, numberIn}
 use Rattle.definition.specs.Layout.{readCoins}
 use Rattle.definition.specs.Lists.{productOf, range}
 use Rattle.definition.specs.Polynomial.{addPoly, correctedPoly, distinct, evaluate, geometric, mulPoly, points}
 use Rattle.definition.specs.Prover.{nextPoly}
 use Rattle.definition.specs.Sheet.{Edition, Level, Sheet, finalCount, firstLevel, sheetLength, sheetOf}
 use Rattle.definition.specs.Transcript.{Coins}
-use Rattle.list_laws.specs.All.{all-map, all-places, at-place}
+use Rattle.list_laws.specs.All.{All, all-map, all-places, at-place}
 use Rattle.list_laws.specs.Lists.{range-length}
 use Rattle.algebra.specs.Coefficients
 use Rattle.algebra.specs.Coefficients.{Elements}
 use Rattle.algebra.specs.Different.{Apart, same-place}
+use Rattle.algebra.specs.FieldIn.{below-in, read-below, reduced-in}
 use Rattle.algebra.specs.Laws.{FieldLaws}
 use Rattle.algebra.specs.Lengths
-use Rattle.algebra.specs.PrimeField.{signs-differ}
 use Rattle.layouts.specs.Lawful.{Lawful, lawful}
 use Rattle.layouts.specs.Levels.{levelOf, roundsOf, sheetField, sheetRoot}
 use Rattle.layouts.specs.LevelsByNumber.{level-first, undivided, undivided-degree}
@@ -32,8 +32,7 @@ use Rattle.completeness.specs.DecidingAccepts
 use Rattle.completeness.specs.DecidingAccepts.{Admissible, AdmissibleRound, Foldable}
 use Rattle.completeness.specs.DistinctPoints.{all-distinct, kept-places}
 use Rattle.completeness.specs.Domains.{domain-apart, foldable}
-use Rattle.completeness.specs.AdmissibleCoins.{element-below, reduced}
-use Rattle.completeness.specs.Numbered.{Allowed, answerPoly, coinsOf, combinationCoin, correctedOf, finalIndices, foldCoin, pairAt, pairsOf, quotientPoly, roundPoly, samplesAt, vanishingPoly}
+use Rattle.completeness.specs.Numbered.{Allowed, ElementOf, answerPoly, coinsOf, combinationCoin, correctedOf, finalIndices, foldCoin, pairAt, pairsOf, quotientPoly, roundPoly, samplesAt, vanishingPoly}
 use Rattle.completeness.specs.Ready.{ready-sized}
 use Rattle.completeness.specs.RoundPolynomials
 
@@ -46,7 +45,7 @@ admissible-at h coins L js (suc m) i zero l f = subst (λ (j : ℕ). AdmissibleR
 admissible-at h coins L js (suc m) i (suc n) l f =
     subst (λ (j : ℕ). AdmissibleRound (sheetField h) L (sheetRoot h) (levelOf h j) (coinsOf h coins (suc j))) (suc-add i n ∙ sym (add-suc i n)) (admissible-at h coins L js m (suc i) n (omega arith) (f .1))
 
-first-length : (ed : Edition) (w f : List ℕ) {coins : List ℕ} → Allowed ed w f coins → length f ≡ levelOf (sheetOf ed w) 0 .degree
+first-length : (ed : Edition) (w f : List ℕ) {coins : List ℕ} → Allowed ed w f coins → length (elementsIn (sheetOf ed w .spelling) f) ≡ levelOf (sheetOf ed w) 0 .degree
 first-length ed w f ok = allowed-degree ok ∙ sym (undivided-degree (sheetOf ed w))
 
 pub corrected-is : (h : Sheet) (f coins : List ℕ) (i : ℕ) → correctedOf h f coins (suc i)
@@ -55,10 +54,10 @@ unfolding correctedOf nextPoly correctedPoly quotientPoly answerPoly samplesAt p
 corrected-is h f coins i = refl
 
 module _ {ed : Edition} {w f coins : List ℕ} (ok : Allowed ed w f coins) where
-  abbrev F : Field ℕ
+  abbrev F : Field (Element (sheetOf ed w .spelling))
   F = sheetField (sheetOf ed w)
 
-  abbrev ω : ℕ
+  abbrev ω : Element (sheetOf ed w .spelling)
   ω = sheetRoot (sheetOf ed w)
 
   abbrev L : FieldLaws (sheetField (sheetOf ed w))
@@ -72,10 +71,10 @@ module _ {ed : Edition} {w f coins : List ℕ} (ok : Allowed ed w f coins) where
 
   admissible-all : Admissible F L ω (levelOf (sheetOf ed w) 0) (map (coinsOf (sheetOf ed w) coins) (range 1 (roundsOf (sheetOf ed w)))) (finalIndices (sheetOf ed w) coins)
   admissible-all =
-      subst (λ (c : Coins ℕ). Admissible F L ω (levelOf (sheetOf ed w) 0) (c .rounds) (c .finals)) (coins-read (sheetOf ed w) coins (lawful-sheet .paired))
-      (subst (λ (b : Level). Admissible F L ω b (readCoins (sheetOf ed w) coins .rounds) (readCoins (sheetOf ed w) coins .finals)) (level-first (sheetOf ed w)) admissible-read)
+      subst (λ (c : Coins (Element (sheetOf ed w .spelling))). Admissible F L ω (levelOf (sheetOf ed w) 0) (c .rounds) (c .finals)) (coins-read (sheetOf ed w) coins (lawful-sheet .paired))
+      (subst (λ (b : Level). Admissible F L ω b (readCoins (sheetOf ed w .spelling) (sheetOf ed w) coins .rounds) (readCoins (sheetOf ed w .spelling) (sheetOf ed w) coins .finals)) (level-first (sheetOf ed w)) admissible-read)
     where
-      admissible-read : Admissible F L ω (firstLevel (sheetOf ed w)) (readCoins (sheetOf ed w) coins .rounds) (readCoins (sheetOf ed w) coins .finals)
+      admissible-read : Admissible F L ω (firstLevel (sheetOf ed w)) (readCoins (sheetOf ed w .spelling) (sheetOf ed w) coins .rounds) (readCoins (sheetOf ed w .spelling) (sheetOf ed w) coins .finals)
       admissible-read = admissible-coins ok
 
   -- the coins of round i + 1 are fair
@@ -83,7 +82,7 @@ module _ {ed : Edition} {w f coins : List ℕ} (ok : Allowed ed w f coins) where
   admissible-round i l = subst (λ (j : ℕ). AdmissibleRound F L ω (levelOf (sheetOf ed w) j) (coinsOf (sheetOf ed w) coins (suc j))) (zero-add i) (admissible-at (sheetOf ed w) coins L _ (roundsOf (sheetOf ed w)) 0 i l admissible-all)
 
   pub level-folds : (i : ℕ) → i ≤ roundsOf (sheetOf ed w) → Foldable F ω (levelOf (sheetOf ed w) i)
-  level-folds i l = foldable F L ω (signs-differ (sheetOf ed w .prime) (sheetReady ok .large)) (sheetReady ok .e) (sheetReady ok .root) (levelOf (sheetOf ed w) i) (ready-sized ed w long (ok .sheet) i l)
+  level-folds i l = foldable F L ω (sheetReady ok .signs) (sheetReady ok .e) (sheetReady ok .root) (levelOf (sheetOf ed w) i) (ready-sized ed w long (ok .sheet) i l)
 
   -- DEGREES. f_i has d_i coefficients, and so has g_i; g_(i+1) has d_i/k.
   pub corrected-length : (i : ℕ) → i ≤ roundsOf (sheetOf ed w) → length (correctedOf (sheetOf ed w) f coins i) ≡ levelOf (sheetOf ed w) i .degree
@@ -106,24 +105,27 @@ module _ {ed : Edition} {w f coins : List ℕ} (ok : Allowed ed w f coins) where
   round-length (suc i) l = folded-length i (omega arith) ∙ sym (admissible-round i (omega arith) .degree)
 
   -- the coefficients of every g_i and f_i are elements
-  element-at : (g : List ℕ) → Elements F L g → (j : ℕ) → j < length g → getD g j 0 < sheetOf ed w .prime
+  element-at : (g : List (Element (sheetOf ed w .spelling))) → Elements F L g → (j : ℕ) → j < length g → ElementOf (sheetOf ed w) (getD g j (numberIn (sheetOf ed w .spelling) 0))
   element-at g e =
-      at-place (λ c. c < sheetOf ed w .prime) g 0 (all-map g e (λ c r. element-below (sheetOf ed w .prime) L (omega (arith, sheetReady ok .large)) c r))
+      at-place (ElementOf (sheetOf ed w)) g _ (all-map g e (λ c r. below-in (sheetOf ed w .spelling) (sheetOf ed w .prime) L (omega (arith, sheetReady ok .large)) c r))
 
-  pub round-elements : (i j : ℕ) → j < length (roundPoly (sheetOf ed w) f coins i) → getD (roundPoly (sheetOf ed w) f coins i) j 0 < sheetOf ed w .prime
+  first-elements : All (ElementOf (sheetOf ed w)) (elementsIn (sheetOf ed w .spelling) f)
+  first-elements = read-below (sheetOf ed w .spelling) (sheetOf ed w .prime) f (allowed-elements ok)
+
+  pub round-elements : (i j : ℕ) → j < length (roundPoly (sheetOf ed w) f coins i) → ElementOf (sheetOf ed w) (getD (roundPoly (sheetOf ed w) f coins i) j (numberIn (sheetOf ed w .spelling) 0))
   unfolding roundPoly
-  round-elements zero = at-place (λ c. c < sheetOf ed w .prime) f 0 (allowed-elements ok)
+  round-elements zero = at-place (ElementOf (sheetOf ed w)) (elementsIn (sheetOf ed w .spelling) f) _ first-elements
   round-elements (suc i) =
       element-at (roundPoly (sheetOf ed w) f coins (suc i)) (Coefficients.elements-fold F L (levelOf (sheetOf ed w) i .fold) (foldCoin (sheetOf ed w) coins i) (correctedOf (sheetOf ed w) f coins i))
 
-  pub corrected-elements : (i j : ℕ) → j < length (correctedOf (sheetOf ed w) f coins i) → getD (correctedOf (sheetOf ed w) f coins i) j 0 < sheetOf ed w .prime
+  pub corrected-elements : (i j : ℕ) → j < length (correctedOf (sheetOf ed w) f coins i) → ElementOf (sheetOf ed w) (getD (correctedOf (sheetOf ed w) f coins i) j (numberIn (sheetOf ed w .spelling) 0))
   unfolding correctedOf nextPoly correctedPoly
-  corrected-elements zero = at-place (λ c. c < sheetOf ed w .prime) f 0 (allowed-elements ok)
+  corrected-elements zero = at-place (ElementOf (sheetOf ed w)) (elementsIn (sheetOf ed w .spelling) f) _ first-elements
   corrected-elements (suc i) = element-at (correctedOf (sheetOf ed w) f coins (suc i)) (Coefficients.elements-mul F L _ _)
 
   -- Round i + 1, of the round's facts in any field.
   module _ (i : ℕ) (l : i < roundsOf (sheetOf ed w)) where
-    abbrev g : List ℕ
+    abbrev g : List (Element (sheetOf ed w .spelling))
     g = roundPoly (sheetOf ed w) f coins (suc i)
 
     pub fewer : length (samplesAt (sheetOf ed w) f coins (suc i)) < levelOf (sheetOf ed w) (suc i) .degree
@@ -142,7 +144,7 @@ module _ {ed : Edition} {w f coins : List ℕ} (ok : Allowed ed w f coins) where
     unfolding samplesAt pairsOf
     samples-apart = RoundPolynomials.samples-apart F L ω (levelOf (sheetOf ed w) i) g (coinsOf (sheetOf ed w) coins (suc i)) (admissible-round i l)
 
-    pub values-divide : (x : ℕ) → evaluate F g x
+    pub values-divide : (x : Element (sheetOf ed w .spelling)) → evaluate F g x
         ≡ F ._⊕_ (evaluate F (answerPoly (sheetOf ed w) f coins (suc i)) x) (F ._⊗_ (evaluate F (vanishingPoly (sheetOf ed w) f coins (suc i)) x) (evaluate F (quotientPoly (sheetOf ed w) f coins (suc i)) x))
     unfolding quotientPoly vanishingPoly answerPoly samplesAt pairsOf
     values-divide = RoundPolynomials.values-divide F L ω (levelOf (sheetOf ed w) i) g (coinsOf (sheetOf ed w) coins (suc i)) (admissible-round i l)
@@ -165,7 +167,7 @@ module _ {ed : Edition} {w f coins : List ℕ} (ok : Allowed ed w f coins) where
     unfolding quotientPoly vanishingPoly answerPoly samplesAt pairsOf
     coefficients-divide =
         RoundPolynomials.coefficients-divide F L ω (levelOf (sheetOf ed w) i) g (coinsOf (sheetOf ed w) coins (suc i)) (admissible-round i l) (round-length (suc i) (omega arith)) (domain F ω (levelOf (sheetOf ed w) 0))
-        (domain-apart F L ω (signs-differ (sheetOf ed w .prime) (sheetReady ok .large)) (sheetReady ok .e) (sheetReady ok .root) (levelOf (sheetOf ed w) 0) (ready-sized ed w long (ok .sheet) 0 (omega arith)))
+        (domain-apart F L ω (sheetReady ok .signs) (sheetReady ok .e) (sheetReady ok .root) (levelOf (sheetOf ed w) 0) (ready-sized ed w long (ok .sheet) 0 (omega arith)))
         enough g-elements
 
     -- A passes through pair j of G's list, and is the only polynomial with e coefficients, all elements, that passes through all pairs
@@ -175,24 +177,24 @@ module _ {ed : Edition} {w f coins : List ℕ} (ok : Allowed ed w f coins) where
         at-place (λ p. evaluate F (answerPoly (sheetOf ed w) f coins (suc i)) (p .point) ≡ p .value) (pairsOf (sheetOf ed w) f coins (suc i)) _
         (RoundPolynomials.passes-through F L ω (levelOf (sheetOf ed w) i) g (coinsOf (sheetOf ed w) coins (suc i)) (admissible-round i l))
 
-    pub only-answer : (q : List ℕ) → length q ≡ length (samplesAt (sheetOf ed w) f coins (suc i)) → ((j : ℕ) → j < length q → getD q j 0 < sheetOf ed w .prime) →
+    pub only-answer : (q : List (Element (sheetOf ed w .spelling))) → length q ≡ length (samplesAt (sheetOf ed w) f coins (suc i)) → ((j : ℕ) → j < length q → ElementOf (sheetOf ed w) (getD q j (numberIn (sheetOf ed w .spelling) 0))) →
         ((j : ℕ) → j < length (pairsOf (sheetOf ed w) f coins (suc i)) → evaluate F q (pairAt (sheetOf ed w) f coins (suc i) j .point) ≡ pairAt (sheetOf ed w) f coins (suc i) j .value) → q ≡ answerPoly (sheetOf ed w) f coins (suc i)
     unfolding answerPoly samplesAt pairsOf
     only-answer q n e h =
         RoundPolynomials.only-answer F L ω (levelOf (sheetOf ed w) i) g (coinsOf (sheetOf ed w) coins (suc i)) (admissible-round i l) q n
-        (all-map q (all-places (λ x. x < sheetOf ed w .prime) q 0 e) (λ x u. reduced (sheetOf ed w .prime) L x u))
+        (all-map q (all-places (ElementOf (sheetOf ed w)) q _ e) (λ x u. reduced-in (sheetOf ed w .spelling) (sheetOf ed w .prime) L x u))
         (all-distinct F (λ p. evaluate F q (p .point) ≡ p .value) (pairsOf (sheetOf ed w) f coins (suc i)) (all-places (λ p. evaluate F q (p .point) ≡ p .value) (pairsOf (sheetOf ed w) f coins (suc i)) _ h))
 
     -- e is the number of different points: the points of G are different, and each point of G's list is one of them
     pub samples-different : (a b : ℕ) → a < length (samplesAt (sheetOf ed w) f coins (suc i)) → b < length (samplesAt (sheetOf ed w) f coins (suc i)) →
-        getD (points (samplesAt (sheetOf ed w) f coins (suc i))) a 0 ≡ getD (points (samplesAt (sheetOf ed w) f coins (suc i))) b 0 → a ≡ b
+        getD (points (samplesAt (sheetOf ed w) f coins (suc i))) a (numberIn (sheetOf ed w .spelling) 0) ≡ getD (points (samplesAt (sheetOf ed w) f coins (suc i))) b (numberIn (sheetOf ed w .spelling) 0) → a ≡ b
     samples-different a b la lb =
         let n = Lengths.length-points F (samplesAt (sheetOf ed w) f coins (suc i)) in
-        same-place F L (points (samplesAt (sheetOf ed w) f coins (suc i))) 0 samples-apart a b (omega (arith, n)) (omega (arith, n))
+        same-place F L (points (samplesAt (sheetOf ed w) f coins (suc i))) _ samples-apart a b (omega (arith, n)) (omega (arith, n))
 
     pub pairs-sampled : (j : ℕ) → j < length (pairsOf (sheetOf ed w) f coins (suc i)) →
-        (a : ℕ) × (a < length (samplesAt (sheetOf ed w) f coins (suc i))) × (getD (points (samplesAt (sheetOf ed w) f coins (suc i))) a 0 ≡ pairAt (sheetOf ed w) f coins (suc i) j .point)
+        (a : ℕ) × (a < length (samplesAt (sheetOf ed w) f coins (suc i))) × (getD (points (samplesAt (sheetOf ed w) f coins (suc i))) a (numberIn (sheetOf ed w .spelling) 0) ≡ pairAt (sheetOf ed w) f coins (suc i) j .point)
     unfolding samplesAt
     pairs-sampled =
         let ps = pairsOf (sheetOf ed w) f coins (suc i) in
-        at-place (λ p. (a : ℕ) × (a < length (distinct F ps)) × (getD (points (distinct F ps)) a 0 ≡ p .point)) ps _ (kept-places F L 0 ps)
+        at-place (λ p. (a : ℕ) × (a < length (distinct F ps)) × (getD (points (distinct F ps)) a (numberIn (sheetOf ed w .spelling) 0) ≡ p .point)) ps _ (kept-places F L (numberIn (sheetOf ed w .spelling) 0) ps)

@@ -3,35 +3,37 @@ use Prim.Native.Nat.{ℕ, zero, suc, _+_, _-_, _/_, _≤_, _<_}
 use native.Mathlib.Decide.{decLt}
 use native.Mathlib.Omega.{arith}
 use mathlib.Core.Bool.{Bool, true, false, not, true≢false}
-use mathlib.Core.List.{List, map, zipWith}
+use mathlib.Core.List.{List, map}
 use mathlib.Core.Option.{none}
 use mathlib.Core.Path.{_≡_, refl, sym, ap, _∙_, subst}
 use lib.ListN.{length, getD, take, drop, length-drop, take-append-drop}
-use lib.Seq.{ext-getD, getD-drop, getD-take, length-take-le}
+use lib.Seq.{ext-getD, getD-take, length-take-le}
 use Rattle.definition.specs.Block.{streamOf}
-use Rattle.definition.specs.Deciding.{counted, decide, deciding, equalTest, outInDomain, outTest, outTests}
-use Rattle.definition.specs.Field.{primeField}
-use Rattle.definition.specs.Layout.{Kind, coin, index, laterCount, layout, message, out, readTranscript, wordsDue}
+use Rattle.definition.specs.Deciding.{counted, decide, deciding, equalTest, outTest, outTests}
+use Rattle.definition.specs.Field.{Element, Spelling, begunBy, elementsIn, numberIn}
+use Rattle.definition.specs.Layout.{Kind, laterCount, layout, message, outLayout, readTranscript, wordsDue}
 use Rattle.definition.specs.Lists.{firstTrue}
 use Rattle.definition.specs.Reading.{blocksTest, bodyTests, checkTest, lengthTest, reading, sheetTest, streamTests}
-use Rattle.definition.specs.Sheet.{Edition, Sheet, firstLevel, rootOfUnity, sheetLength, sheetOf, sheetRules, testOrder}
+use Rattle.definition.specs.Sheet.{Edition, Sheet, firstLevel, sheetLength, sheetOf, sheetRules, testOrder}
 use Rattle.definition.specs.Verdict.{Outcome, Verdict, _then_, accepted, refuseAt, refused, thenVerdict}
 use Rattle.definition.specs.Verify.{verifyIn}
 use Rattle.list_laws.specs.All.{at-place}
 use Rattle.layouts.specs.LayoutByRound.{starts-after, starts-grow}
-use Rattle.layouts.specs.Levels.{levelOf, outCoinCount, roundStart, roundsOf, wordCount}
+use Rattle.layouts.specs.Levels.{elementAt, levelOf, outCoinCount, roundCount, roundStart, roundsOf, sheetField, sheetRoot, wordsFor}
 use Rattle.layouts.specs.LevelsByNumber.{Paired}
 use Rattle.layouts.specs.RulesByWord.{rules-counted, rules-length}
 use Rattle.layouts.specs.SheetLevels.{rules-back, sheet-front}
+use Rattle.layouts.specs.Spellings.{at-drop, begun-at, begun-length, count-below, count-one}
 use Rattle.layouts.specs.Tests.{all-false, if-passes, none-of, then-passes}
 use Rattle.completeness.specs.DecidedByNumber.{decide-rounds}
 use Rattle.completeness.specs.Dependence.{Beside, decided-same}
 use Rattle.completeness.specs.EqualOuts.{SameOuts, repeated-same}
-use Rattle.completeness.specs.Faults.{BlocksFault, DomainFault, EqualFault, LengthFault, OutsPass, Part, PartDue, RuleFault, SameOutside, SameWhereUsed, combination, dueOf, finals, fold, outs, partLength, partStart, partWord, partWords, sheetIn, shifts, words}
-use Rattle.completeness.specs.Numbered.{final, lengthOf, replies, startOf, table}
-use Rattle.completeness.specs.PairsByNumber.{part-length, part-word}
-use Rattle.completeness.specs.PartsByNumber.{every-word, part-kind, partKind}
-use Rattle.completeness.specs.TestsByNumber.{zip-at, zip-length}
+use Rattle.completeness.specs.Faults.{BlocksFault, DomainFault, EqualFault, LengthFault, OutsPass, Part, PartDue, RuleFault, SameOutside, SameWhereUsed, combination, dueOf, finals, fold, outs, partElement, partElements, partLength, partStart, partWord, partWords, sheetIn, shifts, words}
+use Rattle.completeness.specs.FrontOfStream.{inside-front}
+use Rattle.completeness.specs.Numbered.{countOf, final, lengthOf, replies, startOf, table}
+use Rattle.completeness.specs.PairsByNumber.{part-element, part-length, part-word}
+use Rattle.completeness.specs.PartsByNumber.{ends, every-word, outs-cases, outs-first, part-below, part-kind, partKind}
+use Rattle.completeness.specs.Ready.{sheet-laws}
 use Rattle.completeness.specs.VerifyExactly
 
 -- what reading's acceptance leaves: a sheet without a fault, and all words due
@@ -99,12 +101,12 @@ NoTable (shifts i) = Unit {0}
 NoTable finals = Unit {0}
 
 module _ (ed : Edition) (h : Sheet) where
-  table-ends : (i : ℕ) → roundStart ed h i + levelOf h i .size ≤ roundStart ed h (suc i)
-  unfolding roundStart wordCount
+  table-ends : (i : ℕ) → roundStart ed h i + wordsFor h (levelOf h i .size) ≤ roundStart ed h (suc i)
+  unfolding roundStart roundCount
   table-ends zero = omega arith
   table-ends (suc i) = omega arith
 
-  round-ends : (i : ℕ) → roundStart ed h (suc i) ≡ roundStart ed h i + wordCount h i
+  round-ends : (i : ℕ) → roundStart ed h (suc i) ≡ roundStart ed h i + roundCount h i
   unfolding roundStart
   round-ends i = refl
 
@@ -112,25 +114,37 @@ module _ (ed : Edition) (h : Sheet) where
   ordered-starts i j l = let e : i + (j - i) ≡ j = omega arith in rw e at (starts-grow ed h i (j - i))
 
   -- the words of a round after its table are in no table
-  past-table : (i y : ℕ) → levelOf h i .size ≤ y → y < wordCount h i → (k m : ℕ) → m < levelOf h k .size → roundStart ed h i + y ≡ roundStart ed h k + m → ⊥
+  past-table : (i y : ℕ) → wordsFor h (levelOf h i .size) ≤ y → y < roundCount h i → (k m : ℕ) → m < wordsFor h (levelOf h k .size) → roundStart ed h i + y ≡ roundStart ed h k + m → ⊥
   past-table i y l u k m g e = go (decLt k i) (decLt i k)
     where
       go : Dec (k < i) → Dec (i < k) → ⊥
       go (yes a) b = omega (arith, table-ends k, ordered-starts (suc k) i a)
       go (no a) (yes b) = omega (arith, round-ends i, ordered-starts (suc i) k b)
-      go (no a) (no b) = let q : k ≡ i = omega arith in omega (arith, ap (λ (n : ℕ). roundStart ed h n) q, ap (λ (n : ℕ). levelOf h n .size) q)
+      go (no a) (no b) = let q : k ≡ i = omega arith in omega (arith, ap (λ (n : ℕ). roundStart ed h n) q, ap (λ (n : ℕ). wordsFor h (levelOf h n .size)) q)
 
-  off-tables : (x : Part) → PartDue h x → NoTable x → (j : ℕ) → j < partLength h x → (k m : ℕ) → k ≤ roundsOf h → m < levelOf h k .size → partStart ed h x + j ≡ startOf ed h (table k) + m → ⊥
-  unfolding partStart partLength startOf lengthOf wordCount laterCount
+  off-tables : (x : Part) → PartDue h x → NoTable x → (j : ℕ) → j < partLength h x → (k m : ℕ) → k ≤ roundsOf h → m < lengthOf h (table k) → partStart ed h x + j ≡ startOf ed h (table k) + m → ⊥
+  unfolding partStart partLength startOf countOf roundCount laterCount
   off-tables (words (table i)) d t j l k m u g e = t
   off-tables (words (replies zero)) d t j l k m u g e = omega (arith, d .0)
-  off-tables (words (replies (suc i))) d t j l k m u g e = past-table (suc i) (levelOf h (suc i) .size + outCoinCount h + j) (omega arith) (omega arith) k m g (omega arith)
+  off-tables (words (replies (suc i))) d t j l k m u g e =
+      let n = levelOf h (suc i) .size in
+      let c = ends ed h n in
+      past-table (suc i) (wordsFor h (n + outCoinCount h) + j) (omega (arith, c)) (omega (arith, c)) k m g (omega arith)
   off-tables (words final) d t j l k m u g e = omega (arith, table-ends k, ordered-starts (suc k) (suc (roundsOf h)) (omega arith))
-  off-tables (outs i) d t j l k m u g e = past-table (suc i) (levelOf h (suc i) .size + j) (omega arith) (omega arith) k m g (omega arith)
-  off-tables (combination i) d t j l k m u g e = past-table (suc i) (levelOf h (suc i) .size + (outCoinCount h + outCoinCount h) + j) (omega arith) (omega arith) k m g (omega arith)
-  off-tables (fold zero) d t j l k m u g e = past-table 0 (levelOf h 0 .size + j) (omega arith) (omega arith) k m g (omega arith)
-  off-tables (fold (suc i)) d t j l k m u g e = past-table (suc i) (levelOf h (suc i) .size + (outCoinCount h + (outCoinCount h + 1)) + j) (omega arith) (omega arith) k m g (omega arith)
-  off-tables (shifts i) d t j l k m u g e = past-table (suc i) (levelOf h (suc i) .size + (outCoinCount h + (outCoinCount h + 2)) + j) (omega arith) (omega arith) k m g (omega arith)
+  off-tables (outs i) d t j l k m u g e = past-table (suc i) (wordsFor h (levelOf h (suc i) .size) + j) (omega arith) (omega arith) k m g (omega arith)
+  off-tables (combination i) d t j l k m u g e =
+      let n = levelOf h (suc i) .size in
+      let c = ends ed h n in
+      past-table (suc i) (wordsFor h (n + (outCoinCount h + outCoinCount h)) + j) (omega (arith, c)) (omega (arith, c)) k m g (omega arith)
+  off-tables (fold zero) d t j l k m u g e = past-table 0 (wordsFor h (levelOf h 0 .size) + j) (omega arith) (omega arith) k m g (omega arith)
+  off-tables (fold (suc i)) d t j l k m u g e =
+      let n = levelOf h (suc i) .size in
+      let c = ends ed h n in
+      past-table (suc i) (wordsFor h (n + (outCoinCount h + (outCoinCount h + 1))) + j) (omega (arith, c)) (omega (arith, c)) k m g (omega arith)
+  off-tables (shifts i) d t j l k m u g e =
+      let n = levelOf h (suc i) .size in
+      let c = ends ed h n in
+      past-table (suc i) (wordsFor h (n + (outCoinCount h + (outCoinCount h + 2))) + j) (omega (arith, c)) (omega (arith, c)) k m g (omega arith)
   off-tables finals d t j l k m u g e = omega (arith, table-ends k, ordered-starts (suc k) (suc (roundsOf h)) (omega arith))
 
 module _ (ed : Edition) (v w : List ℕ) (ov : Ordered ed v) (ow : Ordered ed w) (same : SameOutside ed (sheetOf ed v) v w) where
@@ -175,18 +189,24 @@ module _ (ed : Edition) (v w : List ℕ) (ov : Ordered ed v) (ow : Ordered ed w)
       ext-getD 0 (partWords ed h v x) (partWords ed h w x) (p ∙ sym (part-length ed h w full-w x d))
       (λ j l. let u : j < partLength h x = omega (arith, p) in part-word ed h v (ov .full) x j u ∙ word-same x d t j u ∙ sym (part-word ed h w full-w x j u))
 
-  one-word : (x : Part) → PartDue h x → NoTable x → partLength h x ≡ 1 → partWord ed h v x 0 ≡ partWord ed h w x 0
-  one-word x d t e = word-same x d t 0 (omega arith)
+  elements-same : (x : Part) → PartDue h x → NoTable x → partElements ed h v x ≡ partElements ed h w x
+  elements-same x d t = ap (elementsIn (sheetOf ed v .spelling)) (part-same x d t)
+
+  -- the first element of a part of one
+  one-element : (x : Part) → PartDue h x → NoTable x → partLength h x ≡ wordsFor h 1 → partElement ed h v x 0 ≡ partElement ed h w x 0
+  one-element x d t e =
+      sym (part-element ed h v (ov .full) x 0 1 e (omega arith))
+      ∙ ap (λ (xs : List (Element (sheetOf ed v .spelling))). getD xs 0 (numberIn (sheetOf ed v .spelling) 0)) (elements-same x d t) ∙ part-element ed h w full-w x 0 1 e (omega arith)
 
   pub beside : Beside ed (sheetOf ed v) v w
   unfolding partLength
   beside = record {
-    outs·same = λ i l. part-same (outs i) l tt;
-    replies·same = λ i l. part-same (words (replies (suc i))) (omega arith, l) tt;
-    combination·same = λ i l. one-word (combination i) l tt refl;
-    fold·same = λ i l. one-word (fold i) l tt refl;
+    outs·same = λ i l. elements-same (outs i) l tt;
+    replies·same = λ i l. elements-same (words (replies (suc i))) (omega arith, l) tt;
+    combination·same = λ i l. one-element (combination i) l tt refl;
+    fold·same = λ i l. one-element (fold i) l tt refl;
     shifts·same = λ i l. part-same (shifts i) l tt;
-    final·same = part-same (words final) tt tt;
+    final·same = elements-same (words final) tt tt;
     finals·same = part-same finals tt tt;
   }
 
@@ -197,38 +217,55 @@ module _ (ed : Edition) (v w : List ℕ) (ov : Ordered ed v) (ow : Ordered ed w)
   enough : (length ks ≤ length (drop n₀ v)) × (length ks ≤ length (drop n₀ w))
   enough = (omega (arith, length-drop n₀ v, ov .full, ov .kinds), omega (arith, length-drop n₀ w, full-w, ov .kinds))
 
-  by-part : (j : ℕ) (x : Part) → PartDue h x → (i : ℕ) → i < partLength h x → n₀ + j ≡ partStart ed h x + i → SameOuts (partKind h x) (getD v (n₀ + j) 0) (getD w (n₀ + j) 0)
-  unfolding partKind
+  abbrev σ : Spelling
+  σ = sheetOf ed v .spelling
+
+  abbrev begun-v : List (Element (sheetOf ed v .spelling))
+  begun-v = begunBy (sheetOf ed v .spelling) (drop (sheetLength ed) v)
+
+  abbrev begun-w : List (Element (sheetOf ed v .spelling))
+  begun-w = begunBy (sheetOf ed v .spelling) (drop (sheetLength ed) w)
+
+  many : (length ks ≤ length begun-v) × (length ks ≤ length begun-w)
+  many = (omega (arith, enough .0, begun-length σ (drop n₀ v)), omega (arith, enough .1, begun-length σ (drop n₀ w)))
+
+  -- an out coin of a round, at its first word
+  coin-same : (k m j : ℕ) → k < roundsOf h → m < outCoinCount h → n₀ + j ≡ partStart ed h (outs k) + wordsFor h m → getD begun-v j (numberIn σ 0) ≡ getD begun-w j (numberIn σ 0)
+  unfolding partLength
+  coin-same k m j d u s =
+      let n = count-below σ m (outCoinCount h) u in
+      let o = count-one σ .0 in
+      let last : wordsFor h m + (wordsFor h 1 - 1) < wordsFor h (outCoinCount h) = omega (arith, n, o) in
+      let p = part-below ed h (outs k) d (wordsFor h m + (wordsFor h 1 - 1)) last in
+      let here = sym (part-element ed h v (ov .full) (outs k) m (outCoinCount h) refl u)
+      ∙ ap (λ (xs : List (Element (sheetOf ed v .spelling))). getD xs m (numberIn σ 0)) (elements-same (outs k) d tt) ∙ part-element ed h w full-w (outs k) m (outCoinCount h) refl u in
+      begun-at σ (drop n₀ v) j (omega (arith, s, p .1, ov .full, length-drop n₀ v, o)) ∙ at-drop σ v n₀ j ∙ ap (elementAt σ v) s ∙ here
+      ∙ sym (begun-at σ (drop n₀ w) j (omega (arith, s, p .1, full-w, length-drop n₀ w, o)) ∙ at-drop σ w n₀ j ∙ ap (elementAt σ w) s)
+
+  by-part : (j : ℕ) (x : Part) → PartDue h x → (i : ℕ) → i < partLength h x → n₀ + j ≡ partStart ed h x + i → SameOuts (partKind h x i) (getD begun-v j (numberIn σ 0)) (getD begun-w j (numberIn σ 0))
+  unfolding partKind partLength
   by-part j (words m) d i l e = tt
-  by-part j (outs k) d i l e = same (n₀ + j) (λ a b u g f. off-tables ed h (outs k) d tt i l a b u g (sym e ∙ f))
+  by-part j (outs k) d i l e =
+      let o = outLayout σ (outCoinCount h) (levelOf h (suc k)) in
+      outs-cases σ (outCoinCount h) (levelOf h (suc k)) i l
+      (λ m u q. let s : n₀ + j ≡ partStart ed h (outs k) + wordsFor h m = omega (arith, e, q) in
+      subst (λ (t : Kind). SameOuts t (getD begun-v j (numberIn σ 0)) (getD begun-w j (numberIn σ 0))) (sym (ap (λ (n : ℕ). getD o n message) q ∙ outs-first σ (outCoinCount h) (levelOf h (suc k)) m u)) (coin-same k m j d u s))
+      (λ c. subst (λ (t : Kind). SameOuts t (getD begun-v j (numberIn σ 0)) (getD begun-w j (numberIn σ 0))) (sym c) tt)
   by-part j (combination k) d i l e = tt
   by-part j (fold k) d i l e = tt
   by-part j (shifts k) d i l e = tt
   by-part j finals d i l e = tt
 
-  outs-same : (j : ℕ) → j < length ks → SameOuts (getD ks j message) (getD (drop n₀ v) j 0) (getD (drop n₀ w) j 0)
+  outs-same : (j : ℕ) → j < length ks → SameOuts (getD ks j message) (getD begun-v j (numberIn σ 0)) (getD begun-w j (numberIn σ 0))
   outs-same j l =
       let p = every-word ed h (n₀ + j) (omega arith) (omega (arith, ov .kinds)) in
       let k = part-kind ed h (ov .long) (p .0) (p .1) (p .2 .0) (p .2 .1) j (p .2 .2) in
-      rw (getD-drop n₀ v j 0, getD-drop n₀ w j 0, k) (by-part j (p .0) (p .1) (p .2 .0) (p .2 .1) (p .2 .2))
-
-  domain-same : (k : Kind) (x y : ℕ) → SameOuts k x y → outInDomain h k x ≡ outInDomain h k y
-  unfolding outInDomain
-  domain-same message x y e = refl
-  domain-same coin x y e = refl
-  domain-same (out l) x y e = ap (outInDomain h (out l)) e
-  domain-same (index n) x y e = refl
-
-  row-same : zipWith (outInDomain h) ks (drop n₀ v) ≡ zipWith (outInDomain h) ks (drop n₀ w)
-  row-same =
-      let nv = zip-length (outInDomain h) message ks (drop n₀ v) (enough .0) in
-      ext-getD false _ _ (nv ∙ sym (zip-length (outInDomain h) message ks (drop n₀ w) (enough .1)))
-      (λ j l. let u : j < length ks = omega (arith, nv) in
-      zip-at (outInDomain h) message ks (drop n₀ v) j u (enough .0) ∙ domain-same (getD ks j message) _ _ (outs-same j u) ∙ sym (zip-at (outInDomain h) message ks (drop n₀ w) j u (enough .1)))
+      rw k (by-part j (p .0) (p .1) (p .2 .0) (p .2 .1) (p .2 .2))
 
   pub out-same : outTests (sheetOf ed v) (sheetLength ed) (layout (sheetOf ed v)) v ≡ outTests (sheetOf ed v) (sheetLength ed) (layout (sheetOf ed v)) w
   unfolding outTests outTest equalTest
-  out-same = λ i. refuseAt 7 (firstTrue n₀ (row-same i)) then refuseAt 14 (firstTrue n₀ (repeated-same none ks (drop n₀ v) (drop n₀ w) (enough .0) (enough .1) outs-same i))
+  out-same = λ i. refuseAt 7 (firstTrue n₀ (inside-front σ h (numberIn σ 0) ks begun-v begun-w (many .0) (many .1) outs-same i))
+      then refuseAt 14 (firstTrue n₀ (repeated-same (sheetField h) (numberIn σ 0) none ks begun-v begun-w (many .0) (many .1) outs-same i))
 
 then-same : (o : Outcome) (a b : Verdict) → (o ≡ accepted → a ≡ b) → thenVerdict o a ≡ thenVerdict o b
 unfolding thenVerdict
@@ -237,7 +274,7 @@ then-same (refused n q) a b h = refl
 
 -- deciding's verdict on a stream, by its sheet
 decidedBy : Edition → List ℕ → Sheet → Verdict
-decidedBy ed w h = thenVerdict (outTests h (sheetLength ed) (layout h) w) (counted (decide (primeField (h .prime)) (rootOfUnity h) (firstLevel h) (readTranscript h (drop (sheetLength ed) w))))
+decidedBy ed w h = thenVerdict (outTests h (sheetLength ed) (layout h) w) (counted (decide (sheetField h) (sheetRoot h) (firstLevel h) (readTranscript (h .spelling) h (drop (sheetLength ed) w))))
 
 -- Dependence: the verdicts are equal, outcome and reads.
 pub dependence : (ed : Edition) (x y : List ℕ) → reading ed x ≡ accepted → reading ed y ≡ accepted → SameOutside ed (sheetIn ed x) (streamOf x) (streamOf y) →
@@ -251,6 +288,6 @@ dependence ed x y rx ry same used =
     let ow = ordered ed y ry in
     (λ t. thenVerdict ((rx ∙ sym ry) t) (deciding ed v))
     ∙ ap (thenVerdict (reading ed y)) (then-same (outTests h (sheetLength ed) (layout h) v) _ _ (λ e.
-    ap counted (decide-rounds ed h v (ov .long) ∙ decided-same ed h v w (beside ed v w ov ow same) (ov .full) used (outside ed x rx e) ∙ sym (decide-rounds ed h w (ov .long))))
-    ∙ ap (λ (o : Outcome). thenVerdict o (counted (decide (primeField (h .prime)) (rootOfUnity h) (firstLevel h) (readTranscript h (drop (sheetLength ed) w))))) (out-same ed v w ov ow same)
+    ap counted (decide-rounds ed h v (ov .long) ∙ decided-same ed h (sheet-laws ed v) v w (beside ed v w ov ow same) (ov .full) used (outside ed x rx e) ∙ sym (decide-rounds ed h w (ov .long))))
+    ∙ ap (λ (o : Outcome). thenVerdict o (counted (decide (sheetField h) (sheetRoot h) (firstLevel h) (readTranscript (h .spelling) h (drop (sheetLength ed) w))))) (out-same ed v w ov ow same)
     ∙ ap (decidedBy ed w) (sheet-same ed v w ov ow same))

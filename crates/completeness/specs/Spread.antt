@@ -11,10 +11,10 @@ use lib.ListN.{length, getD, take, replicate, getD-replicate, length-append, len
 use lib.Seq.{ext-getD, getD-append-add, getD-take, length-take-le, take-length, take-take}
 use borrow.Author.Tests.{eqb-true, not-false}
 use Rattle.definition.specs.Convert.{foldsTest, spread}
-use Rattle.definition.specs.Field.{primeOf}
+use Rattle.definition.specs.Field.{primeOf, spellingOf}
 use Rattle.definition.specs.Lists.{productOf}
 use Rattle.definition.specs.Reading.{sheetTest}
-use Rattle.definition.specs.Sheet.{Edition, edition1, edition2, foldWords, sheetOf}
+use Rattle.definition.specs.Sheet.{Edition, edition1, edition2, foldWords, largestSize, sheetOf}
 use Rattle.definition.specs.Verdict.{accepted}
 use Rattle.list_laws.specs.All.{at-place}
 use Rattle.list_laws.specs.Lists.{getD-map}
@@ -31,7 +31,7 @@ plain-moved ed ed′ v u same folds later s = record {
   plain = record {
     field = omega (arith, same 0 (omega arith), p .field);
     size·power = (p .size·power .0, sym (same 1 (omega arith)) ∙ p .size·power .1);
-    size·range = (omega (arith, same 1 (omega arith), p .size·range .0), omega (arith, same 1 (omega arith), p .size·range .1));
+    size·range = (omega (arith, same 1 (omega arith), p .size·range .0), omega (arith, same 1 (omega arith), p .size·range .1, ap (λ (x : ℕ). largestSize (spellingOf x)) (same 0 (omega arith))));
     size·divides = sym (λ t. (primeOf (same 0 (omega arith) t) - 1) % same 1 (omega arith) t) ∙ p .size·divides;
     degree·power = (p .degree·power .0, sym (same 2 (omega arith)) ∙ p .degree·power .1);
     degree·range = (omega (arith, same 2 (omega arith), p .degree·range .0), omega (arith, same 1 (omega arith), same 2 (omega arith), p .degree·range .1));

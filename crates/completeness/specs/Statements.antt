@@ -1,7 +1,7 @@
 -- THE PAGE OF STATEMENTS (demand 3 over the definition). It holds theorems and nothing else; each proof is one citation, and no proof need be read.
 -- To read it: the definition (crate `definition`) and the vocabulary, which says what level i, round i and message m are and what Allowed asks: Numbered.antt, and beneath
 -- it Levels.antt of the crate `layouts`.
--- All theorems are of both editions, of the three fields and of every sheet, polynomial and coin list that pass the definition's tests; what they are in edition 1, with
+-- All theorems are of both editions, of the four fields and of every sheet, polynomial and coin list that pass the definition's tests; what they are in edition 1, with
 -- its one folding number, is on the page Editions.antt. Behind them stand general theorems, for any field with the laws and any fitting root:
 -- DecidingAccepts.deciding-accepts (any list of levels), RoundPolynomials, Domains, and Causal (any party that sends and asks).
 use Prim.Native.Nat.{ℕ, suc, _+_, _-_, _*_, _%_, _^_, _≤_, _<_}
@@ -9,14 +9,14 @@ use native.Mathlib.Omega.{arith}
 use mathlib.Core.Bool.{true, cond}
 use mathlib.Core.List.{List, [], _∷_, _++_, map, zipWith}
 use mathlib.Core.Logic.{_↔_}
-use mathlib.Core.Option.{some}
+use mathlib.Core.Option.{none, some}
 use mathlib.Core.Path.{_≡_}
 use lib.Dec.{eqb}
 use lib.ListN.{length, getD, take, drop, replicate}
 use Rattle.definition.specs.Block.{blockCount, fileOf, streamOf}
 use Rattle.definition.specs.Deciding.{answers, outTest}
-use Rattle.definition.specs.Domain.{foldAt, point, rootNumbers, shiftPoint}
-use Rattle.definition.specs.Field.{Field, element, found, inverseOf, noInverse, power, primeField, primeOf, product, reciprocal, unknownField}
+use Rattle.definition.specs.Domain.{foldAt, inDomain, point, rootNumbers, shiftPoint}
+use Rattle.definition.specs.Field.{Element, Field, Quad, element, elementsIn, field3, fieldIn, found, four, inverse3, inverseOf, noInverse, numberIn, one, power, primeField, primeOf, product, product3, reciprocal, spellingOf, unknownField}
 use Rattle.definition.specs.Layout.{coinKinds, layout, message, out, readTranscript, wordsDue}
 use Rattle.definition.specs.Lists.{member, range}
 use Rattle.definition.specs.Load.{candidates, drawInput, loadLines, permits, smallestAllowed, verdictOn}
@@ -24,32 +24,36 @@ use Rattle.definition.specs.Polynomial.{addPoly, evaluate, foldPoly, geometric,
 use Rattle.definition.specs.Prove.{coefficientsTest, done, inputRangeTest, proveIn, refusal, sheetLengthTest}
 use Rattle.definition.specs.Prover.{honest, honestStream}
 use Rattle.definition.specs.Reading.{reading, sheetTest}
-use Rattle.definition.specs.Sheet.{Edition, Sheet, edition1, finalCount, sheetLength, sheetOf, shiftCount}
+use Rattle.definition.specs.Sheet.{Edition, Level, Sheet, edition1, finalCount, rootOfUnity, sheetLength, sheetOf, shiftCount}
 use Rattle.definition.specs.Verdict.{accepted}
 use Rattle.definition.specs.Verify.{verifyIn}
 use Rattle.definition.specs.WorkedTranscript.{coefficients, coins, sheetWords}
 use Rattle.list_laws.specs.All.{at-place}
 use Rattle.algebra.specs.Divisors as algebra
+use Rattle.algebra.specs.FieldIn
+use Rattle.algebra.specs.Laws.{FieldLaws}
+use Rattle.algebra.specs.PublicField3
 use Rattle.algebra.specs.PublicInverse
 use Rattle.layouts.specs.FileSize
 use Rattle.layouts.specs.FileTrip
-use Rattle.layouts.specs.Levels.{degreeOf, levelOf, outCoinCount, roundsOf, sheetField, sheetRoot, total}
+use Rattle.layouts.specs.Levels.{degreeOf, elementAt, levelOf, outCoinCount, roundsOf, sheetField, sheetRoot, total, wordsFor, zeroOf}
 use Rattle.layouts.specs.RootNumbers
 use Rattle.completeness.specs.Completeness
 use Rattle.completeness.specs.Divisors
 use Rattle.completeness.specs.DomainsByNumber
+use Rattle.completeness.specs.FourWords
 use Rattle.completeness.specs.FunctionsByNumber
 use Rattle.completeness.specs.LayoutByNumber
 use Rattle.completeness.specs.LoadAllowed
 use Rattle.completeness.specs.NonAnticipation
-use Rattle.completeness.specs.Numbered.{Allowed, Copy, Due, Message, Nonzero, Room, answerPoly, coinsOf, combinationCoin, correctedOf, decidingDivisors, divisors, final, finalIndices, foldCoin, functionOf, lengthOf, outCoinsOf, pairAt, pairsOf, quotientPoly, read, readsDue, replies, roundOf, roundPoly, samplesAt, sentBefore, startOf, streamOn, table, vanishingPoly, wordsIn}
+use Rattle.completeness.specs.Numbered.{Allowed, Copy, Due, ElementOf, Message, Nonzero, Room, answerPoly, coinsOf, combinationCoin, correctedOf, countOf, decidingDivisors, divisors, final, finalIndices, foldCoin, functionOf, lengthOf, outCoinsOf, pairAt, pairsOf, quotientPoly, read, readsDue, replies, roundOf, roundPoly, samplesAt, sentBefore, startOf, streamOn, table, vanishingPoly, wordsIn}
 use Rattle.completeness.specs.Premises
 use Rattle.completeness.specs.ProveAccepted
 use Rattle.completeness.specs.Reads
 use Rattle.completeness.specs.RunByNumber
 use Rattle.completeness.specs.StreamByNumber
 
--- 1. COMPLETENESS. For every sheet without a broken rule, every list of d0 elements and every allowed coin list, verify accepts the prover's blocks, with
+-- 1. COMPLETENESS. For every sheet without a broken rule, the words of every d0 elements and every allowed coin list, verify accepts the prover's blocks, with
 -- k_i reads for each different index of level i. One claim over a list of folding numbers and a whole coin list, through all its rounds.
 pub completeness : (ed : Edition) (w f coins : List ℕ) → Allowed ed w f coins → verifyIn ed (fileOf (honestStream ed w f coins)) ≡ record { outcome = accepted; reads = readsDue (sheetOf ed w) coins }
 completeness = Completeness.completeness
@@ -101,17 +105,17 @@ module _ (ed : Edition) (w : List ℕ) where
 
     -- 3. TABLES ARE VALUES. Entry j of table i is the value of round i's polynomial at point j of domain i,
     pub tables-are-values : (copy : Copy) (i j : ℕ) → i ≤ roundsOf h → j < levelOf h i .size →
-        getD (streamOn copy ed w f coins) (startOf ed h (table i) + j) 0 ≡ evaluate (sheetField h) (roundPoly h f coins i) (point (sheetField h) (sheetRoot h) (levelOf h i) j)
+        elementAt (h .spelling) (streamOn copy ed w f coins) (startOf ed h (table i) + wordsFor h j) ≡ evaluate (sheetField h) (roundPoly h f coins i) (point (sheetField h) (sheetRoot h) (levelOf h i) j)
     tables-are-values copy i j l b = rw (StreamByNumber.copy-is ok copy) (StreamByNumber.table-entry ok _ i j l b)
 
     -- reply j of round i is its value at out coin j,
     pub replies-are-values : (copy : Copy) (i j : ℕ) → 1 ≤ i → i ≤ roundsOf h → j < outCoinCount h →
-        getD (streamOn copy ed w f coins) (startOf ed h (replies i) + j) 0 ≡ evaluate (sheetField h) (roundPoly h f coins i) (getD (outCoinsOf h coins i) j 0)
+        elementAt (h .spelling) (streamOn copy ed w f coins) (startOf ed h (replies i) + wordsFor h j) ≡ evaluate (sheetField h) (roundPoly h f coins i) (getD (outCoinsOf h coins i) j (zeroOf h))
     replies-are-values copy i j l u b = rw (StreamByNumber.copy-is ok copy) (StreamByNumber.reply-entry ok _ i j l u b)
 
     -- and the final message is the coefficients of the fold of f_M, d_M/k_M of them, lowest first.
-    pub final-is-fold : (copy : Copy) (j : ℕ) → j < lengthOf h final →
-        getD (streamOn copy ed w f coins) (startOf ed h final + j) 0 ≡ getD (roundPoly h f coins (suc (roundsOf h))) j 0
+    pub final-is-fold : (copy : Copy) (j : ℕ) → j < countOf h final →
+        elementAt (h .spelling) (streamOn copy ed w f coins) (startOf ed h final + wordsFor h j) ≡ getD (roundPoly h f coins (suc (roundsOf h))) j (zeroOf h)
     final-is-fold copy j b = rw (StreamByNumber.copy-is ok copy) (StreamByNumber.final-entry ok _ j b)
 
     -- 4. DEGREES. The first polynomial has d0 coefficients, and round i's has d_i, which is d0 over the product of k_0 to k_(i-1); the final message has d_M/k_M;
@@ -129,10 +133,10 @@ module _ (ed : Edition) (w : List ℕ) where
     corrected-degree = RunByNumber.corrected-length ok
 
     -- all coefficients of both are elements,
-    pub round-elements : (i j : ℕ) → j < length (roundPoly h f coins i) → getD (roundPoly h f coins i) j 0 < h .prime
+    pub round-elements : (i j : ℕ) → j < length (roundPoly h f coins i) → ElementOf h (getD (roundPoly h f coins i) j (zeroOf h))
     round-elements = RunByNumber.round-elements ok
 
-    pub corrected-elements : (i j : ℕ) → j < length (correctedOf h f coins i) → getD (correctedOf h f coins i) j 0 < h .prime
+    pub corrected-elements : (i j : ℕ) → j < length (correctedOf h f coins i) → ElementOf h (getD (correctedOf h f coins i) j (zeroOf h))
     corrected-elements = RunByNumber.corrected-elements ok
 
     -- and with e = |G_i|, which is below d_i, the quotient has d_i - e.
@@ -145,15 +149,15 @@ module _ (ed : Edition) (w : List ℕ) where
 
     -- e is the number of different points, also where points repeat: no two of G_i's points are equal, and each point of its list is one of them.
     pub samples-different : (i : ℕ) → i < roundsOf h → (a b : ℕ) → a < length (samplesAt h f coins (suc i)) → b < length (samplesAt h f coins (suc i)) →
-        getD (points (samplesAt h f coins (suc i))) a 0 ≡ getD (points (samplesAt h f coins (suc i))) b 0 → a ≡ b
+        getD (points (samplesAt h f coins (suc i))) a (zeroOf h) ≡ getD (points (samplesAt h f coins (suc i))) b (zeroOf h) → a ≡ b
     samples-different = RunByNumber.samples-different ok
 
     pub points-sampled : (i : ℕ) → i < roundsOf h → (j : ℕ) → j < length (pairsOf h f coins (suc i)) →
-        (a : ℕ) × (a < length (samplesAt h f coins (suc i))) × (getD (points (samplesAt h f coins (suc i))) a 0 ≡ pairAt h f coins (suc i) j .point)
+        (a : ℕ) × (a < length (samplesAt h f coins (suc i))) × (getD (points (samplesAt h f coins (suc i))) a (zeroOf h) ≡ pairAt h f coins (suc i) j .point)
     points-sampled = RunByNumber.pairs-sampled ok
 
     -- 5. NO REMAINDER. g_i is A_i plus V_i times the quotient, at every point and as coefficient lists;
-    pub no-remainder : (i : ℕ) → i < roundsOf h → (x : ℕ) → evaluate (sheetField h) (roundPoly h f coins (suc i)) x
+    pub no-remainder : (i : ℕ) → i < roundsOf h → (x : Element (h .spelling)) → evaluate (sheetField h) (roundPoly h f coins (suc i)) x
         ≡ evaluate (sheetField h) (answerPoly h f coins (suc i)) x ⊕ evaluate (sheetField h) (vanishingPoly h f coins (suc i)) x ⊗ evaluate (sheetField h) (quotientPoly h f coins (suc i)) x
     no-remainder = RunByNumber.values-divide ok
 
@@ -175,15 +179,15 @@ module _ (ed : Edition) (w : List ℕ) where
     answer-passes = RunByNumber.passes-through ok
 
     -- it is the only polynomial with e coefficients, all elements, that does.
-    pub answer-only : (i : ℕ) → i < roundsOf h → (q : List ℕ) → length q ≡ length (samplesAt h f coins (suc i)) →
-        ((j : ℕ) → j < length q → getD q j 0 < h .prime) →
+    pub answer-only : (i : ℕ) → i < roundsOf h → (q : List (Element (h .spelling))) → length q ≡ length (samplesAt h f coins (suc i)) →
+        ((j : ℕ) → j < length q → ElementOf h (getD q j (zeroOf h))) →
         ((j : ℕ) → j < length (pairsOf h f coins (suc i)) → evaluate (sheetField h) q (pairAt h f coins (suc i) j .point) ≡ pairAt h f coins (suc i) j .value) →
         q ≡ answerPoly h f coins (suc i)
     answer-only = RunByNumber.only-answer ok
 
     -- 6. THE VERIFIER'S FUNCTIONS ARE THE PROVER'S POLYNOMIALS. The transcript that verify reads is the honest one, with the coins as they are numbered here.
-    pub transcript-read : (copy : Copy) → readTranscript h (drop (sheetLength ed) (streamOn copy ed w f coins))
-        ≡ honest (sheetField h) (sheetRoot h) (levelOf h 0) f (record { fold = foldCoin h coins 0; rounds = map (coinsOf h coins) (range 1 (roundsOf h)); finals = finalIndices h coins })
+    pub transcript-read : (copy : Copy) → readTranscript (h .spelling) h (drop (sheetLength ed) (streamOn copy ed w f coins))
+        ≡ honest (sheetField h) (sheetRoot h) (levelOf h 0) (elementsIn (h .spelling) f) (record { fold = foldCoin h coins 0; rounds = map (coinsOf h coins) (range 1 (roundsOf h)); finals = finalIndices h coins })
     transcript-read copy = rw (StreamByNumber.copy-is ok copy) (StreamByNumber.transcript-read ok _)
 
     -- On domain i, f_i as the verifier works it out from the words of the stream is the corrected polynomial;
@@ -192,7 +196,7 @@ module _ (ed : Edition) (w : List ℕ) where
     function-is-polynomial copy i j l b = rw (StreamByNumber.copy-is ok copy) (FunctionsByNumber.function-agrees ok _ i l j b)
 
     -- the fold at a shift point, through the k_i roots there, is the folded polynomial's value, for every fold coin r;
-    pub fold-is-polynomial : (copy : Copy) (i r j : ℕ) → i ≤ roundsOf h → j < shiftCount (levelOf h i) →
+    pub fold-is-polynomial : (copy : Copy) (i : ℕ) (r : Element (h .spelling)) (j : ℕ) → i ≤ roundsOf h → j < shiftCount (levelOf h i) →
         foldAt (sheetField h) (sheetRoot h) (levelOf h i) (functionOf ed h coins (streamOn copy ed w f coins) i) r j
         ≡ evaluate (sheetField h) (foldPoly (sheetField h) (levelOf h i .fold) r (correctedOf h f coins i)) (shiftPoint (sheetField h) (sheetRoot h) (levelOf h i) j)
     fold-is-polynomial copy i r j l b = rw (StreamByNumber.copy-is ok copy) (FunctionsByNumber.fold-agrees ok _ i r j l b)
@@ -261,7 +265,7 @@ module _ (ed : Edition) (w : List ℕ) where
 pub by-hand-allowed : Allowed edition1 sheetWords coefficients coins
 by-hand-allowed = Premises.by-hand
 
--- and for every sheet without a fault and every list of d0 elements there is an allowed coin list.
+-- and for every sheet without a fault and the words of every d0 elements there is an allowed coin list.
 pub some-coins-allowed : (ed : Edition) (w f : List ℕ) → sheetLengthTest ed w ≡ accepted → sheetTest ed w ≡ accepted → coefficientsTest (sheetOf ed w) f ≡ accepted →
     inputRangeTest (sheetOf ed w) [] f ≡ accepted → (coins : List ℕ) × Allowed ed w f coins
 some-coins-allowed ed w f words sheet coefficients elements = (_, Premises.plain-allowed ed w f words sheet coefficients elements)
@@ -319,21 +323,43 @@ module _ (ed : Edition) (bytes : List ℕ) where
   g = sheetOf ed (streamOf bytes)
 
   pub file-divisors : reading ed bytes ≡ accepted → outTest g (sheetLength ed) (layout g) w ≡ accepted →
-      (i : ℕ) → i < length (decidingDivisors ed w) → Nonzero g (getD (decidingDivisors ed w) i 0)
-  file-divisors passes outside = at-place (Nonzero g) (decidingDivisors ed w) 0 (Divisors.file-divisors ed bytes passes outside)
+      (i : ℕ) → i < length (decidingDivisors ed w) → Nonzero g (getD (decidingDivisors ed w) i (zeroOf g))
+  file-divisors passes outside = at-place (Nonzero g) (decidingDivisors ed w) (zeroOf g) (Divisors.file-divisors ed bytes passes outside)
 
 -- So it is in every honest run, in the file,
 module _ (ed : Edition) (w f coins : List ℕ) (ok : Allowed ed w f coins) where
   pub honest-divisors : (i : ℕ) → i < length (decidingDivisors ed (streamOn read ed w f coins)) →
-      Nonzero (sheetOf ed (streamOn read ed w f coins)) (getD (decidingDivisors ed (streamOn read ed w f coins)) i 0)
+      Nonzero (sheetOf ed (streamOn read ed w f coins)) (getD (decidingDivisors ed (streamOn read ed w f coins)) i (zeroOf (sheetOf ed (streamOn read ed w f coins))))
   unfolding streamOn
-  honest-divisors = at-place (Nonzero (sheetOf ed (streamOn read ed w f coins))) (decidingDivisors ed (streamOn read ed w f coins)) 0 (Divisors.honest-divisors ok)
+  honest-divisors = at-place (Nonzero (sheetOf ed (streamOn read ed w f coins))) (decidingDivisors ed (streamOn read ed w f coins)) (zeroOf (sheetOf ed (streamOn read ed w f coins))) (Divisors.honest-divisors ok)
 
   -- and in the prover's interpolation in each round. (Its fold and its quotient divide by no element.)
   pub prover-divisors : (i : ℕ) → i < roundsOf (sheetOf ed w) → (j : ℕ) → j < length (divisors (sheetField (sheetOf ed w)) (samplesAt (sheetOf ed w) f coins (suc i))) →
-      Nonzero (sheetOf ed w) (getD (divisors (sheetField (sheetOf ed w)) (samplesAt (sheetOf ed w) f coins (suc i))) j 0)
-  prover-divisors i l = at-place (Nonzero (sheetOf ed w)) (divisors (sheetField (sheetOf ed w)) (samplesAt (sheetOf ed w) f coins (suc i))) 0 (Divisors.prover-divisors ok i l)
+      Nonzero (sheetOf ed w) (getD (divisors (sheetField (sheetOf ed w)) (samplesAt (sheetOf ed w) f coins (suc i))) j (zeroOf (sheetOf ed w)))
+  prover-divisors i l = at-place (Nonzero (sheetOf ed w)) (divisors (sheetField (sheetOf ed w)) (samplesAt (sheetOf ed w) f coins (suc i))) (zeroOf (sheetOf ed w)) (Divisors.prover-divisors ok i l)
 
 -- No verdict and no block changed: interpolation and quotient multiply by x^(p-2), as they did when the inverse of 0 was 0.
 pub reciprocal-as-before : (p x : ℕ) → 2 < p → reciprocal (primeField p) x ≡ x ^ (p - 2) % p
 reciprocal-as-before = algebra.as-before
+
+-- 13. ELEMENTS OF FOUR WORDS (02, CR 11). Field 3, a + bX + cX² + dX³ over p = 2013265921 with X⁴ = 11, obeys the laws of a field, on every four words, as the field of
+-- every number does in its spelling. So all theorems of this page are of it too.
+pub field-laws : (field : ℕ) → FieldLaws (fieldIn (spellingOf field) (primeOf field))
+field-laws = FieldIn.laws-in
+
+pub field-3-laws : FieldLaws field3
+field-3-laws = PublicField3.laws
+
+-- An element is in a domain exactly if b = c = d = 0 and a is in it.
+pub in-domain-exactly : (ed : Edition) (w : List ℕ) (l : Level) (x : Quad ℕ) →
+    (inDomain (fieldIn four (sheetOf ed w .prime)) (numberIn four (rootOfUnity (sheetOf ed w))) l x ≡ true)
+    ↔ ((x .b ≡ 0) × (x .c ≡ 0) × (x .d ≡ 0) × (inDomain (fieldIn one (sheetOf ed w .prime)) (numberIn one (rootOfUnity (sheetOf ed w))) l (x .a) ≡ true))
+in-domain-exactly = FourWords.inside-exactly
+
+-- The public inverse of field 3 is none exactly where all four words are multiples of p; else an element is found whose product with x is 1.
+pub inverse-3-none-exactly : (x : Quad ℕ) → (inverse3 x ≡ none) ↔ ((x .a % primeOf 3 ≡ 0) × (x .b % primeOf 3 ≡ 0) × (x .c % primeOf 3 ≡ 0) × (x .d % primeOf 3 ≡ 0))
+inverse-3-none-exactly = PublicField3.none-exactly
+
+pub inverse-3-found : (x : Quad ℕ) → (((x .a % primeOf 3 ≡ 0) × (x .b % primeOf 3 ≡ 0) × (x .c % primeOf 3 ≡ 0) × (x .d % primeOf 3 ≡ 0)) → ⊥) →
+    (u : Quad ℕ) × (inverse3 x ≡ some u) × (product3 x u ≡ numberIn four 1)
+inverse-3-found = PublicField3.inverse-there

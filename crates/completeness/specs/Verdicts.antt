@@ -13,20 +13,21 @@ use Rattle.definition.specs.Domain.{foldAt, point, shiftPoint}
 use Rattle.definition.specs.Lists.{range}
 use Rattle.definition.specs.Polynomial.{correctedValue, distinct, evaluate}
 use Rattle.definition.specs.Prove.{done, encode, proveIn, refusal}
+use Rattle.definition.specs.Field.{elementsIn, wordsOf}
 use Rattle.definition.specs.Prover.{tableOf}
 use Rattle.definition.specs.Reading.{reading}
 use Rattle.definition.specs.Sheet.{Edition, Sheet, edition1, sheetLength, sheetOf, shiftCount, testOrder}
 use Rattle.definition.specs.Verdict.{accepted, refused, thenVerdict}
 use Rattle.definition.specs.Verify.{decideFile, verifyIn}
 use Rattle.layouts.specs.FileWords
-use Rattle.layouts.specs.Levels.{levelOf, outCoinCount, roundsOf, sheetField, sheetRoot}
+use Rattle.layouts.specs.Levels.{elementAt, levelOf, outCoinCount, roundsOf, sheetField, sheetRoot, wordsFor}
 use Rattle.layouts.specs.PlainRules.{KeepsRule, PlainSheet, wordTurn}
 use Rattle.layouts.specs.PlainSheet
 use Rattle.layouts.specs.RulesByWord
 use Rattle.completeness.specs.AcceptedExactly
 use Rattle.completeness.specs.Answers
 use Rattle.completeness.specs.EncodeExactly
-use Rattle.completeness.specs.Faults.{Encodable, EncodeRefusal, Fault, ProveRefusal, VerifyRefusal, FirstFault, Kept, Part, PartDue, SameOutside, SameWhereUsed, blockWord, blocksIn, combination, dueOf, fold, functionIn, numberTurn, outs, pairIn, pairsIn, partLength, partStart, partWord, readsWith, sheetIn, shifts, words}
+use Rattle.completeness.specs.Faults.{Encodable, EncodeRefusal, Fault, ProveRefusal, VerifyRefusal, FirstFault, Kept, Part, PartDue, SameOutside, SameWhereUsed, blockWord, blocksIn, combination, dueOf, fold, functionIn, numberTurn, outs, pairIn, pairsIn, partElement, partLength, partStart, partWord, readsWith, sheetIn, shifts, words}
 use Rattle.completeness.specs.FileByNumber
 use Rattle.completeness.specs.Numbered.{replies, table}
 use Rattle.completeness.specs.PairsByNumber
@@ -75,26 +76,26 @@ part-among-words = PartsByNumber.part-below
 
 -- In a stream w with all words that a sheet h makes due, f_0 is table 0;
 module _ (ed : Edition) (h : Sheet) (w : List ℕ) (full : dueOf ed h ≤ length w) where
-  pub first-function : (j : ℕ) → j < levelOf h 0 .size → functionIn ed h w 0 .value j ≡ partWord ed h w (words (table 0)) j
+  pub first-function : (j : ℕ) → j < levelOf h 0 .size → functionIn ed h w 0 .value j ≡ partElement ed h w (words (table 0)) j
   first-function = PairsByNumber.first-function ed h w full
 
   -- f_(i+1) at point j is the corrected value of entry j of table i + 1, by the different points of round i + 1's pairs and its combination coin;
   pub next-function : (i j : ℕ) → j < levelOf h (suc i) .size → functionIn ed h w (suc i) .value j
-      ≡ correctedValue (sheetField h) (distinct (sheetField h) (pairsIn ed h w i)) (partWord ed h w (combination i) 0) (point (sheetField h) (sheetRoot h) (levelOf h (suc i)) j)
-      (partWord ed h w (words (table (suc i))) j)
+      ≡ correctedValue (sheetField h) (distinct (sheetField h) (pairsIn ed h w i)) (partElement ed h w (combination i) 0) (point (sheetField h) (sheetRoot h) (levelOf h (suc i)) j)
+      (partElement ed h w (words (table (suc i))) j)
   next-function = PairsByNumber.next-function ed h w full
 
   -- and round i + 1 has s + t_i pairs: out coin j with reply j,
   pub pair-count : (i : ℕ) → i < roundsOf h → length (pairsIn ed h w i) ≡ outCoinCount h + levelOf h i .repetitions
   pair-count = PairsByNumber.pair-count ed h w full
 
-  pub pair-of-out : (i : ℕ) → i < roundsOf h → (j : ℕ) → j < outCoinCount h → pairIn ed h w i j ≡ record { point = partWord ed h w (outs i) j; value = partWord ed h w (words (replies (suc i))) j }
+  pub pair-of-out : (i : ℕ) → i < roundsOf h → (j : ℕ) → j < outCoinCount h → pairIn ed h w i j ≡ record { point = partElement ed h w (outs i) j; value = partElement ed h w (words (replies (suc i))) j }
   pair-of-out = PairsByNumber.pair-of-out ed h w full
 
   -- then the shift point of shift index j with the fold of f_i there by fold coin i.
   pub pair-of-shift : (i : ℕ) → i < roundsOf h → (j : ℕ) → j < levelOf h i .repetitions → pairIn ed h w i (outCoinCount h + j) ≡ record {
     point = shiftPoint (sheetField h) (sheetRoot h) (levelOf h i) (partWord ed h w (shifts i) j);
-    value = foldAt (sheetField h) (sheetRoot h) (levelOf h i) (functionIn ed h w i .value) (partWord ed h w (fold i) 0) (partWord ed h w (shifts i) j);
+    value = foldAt (sheetField h) (sheetRoot h) (levelOf h i) (functionIn ed h w i .value) (partElement ed h w (fold i) 0) (partWord ed h w (shifts i) j);
   }
   pair-of-shift = PairsByNumber.pair-of-shift ed h w full
 
@@ -110,25 +111,29 @@ prove-refusals = Answers.prove-refusals
 pub encode-refusals : (w f output : List ℕ) (n q : ℕ) → encode w f output .answer ≡ refusal n q → EncodeRefusal w f n q
 encode-refusals = Answers.encode-refusals
 
--- 4. ENCODE answers done exactly when the sheet's 12 words keep their rules, there are d0 elements and the output has n0 words,
-pub encode-done-exactly : (w f output : List ℕ) → (encode w f output .answer ≡ done (getD w 1 0)) ↔ (Encodable w f × (getD w 1 0 ≤ length output))
+-- 4. ENCODE answers done exactly when the sheet's 12 words keep their rules, there are the words of d0 elements and the output has those of n0,
+pub encode-done-exactly : (w f output : List ℕ) → (encode w f output .answer ≡ done (wordsFor (sheetOf edition1 w) (getD w 1 0))) ↔ (Encodable w f × (wordsFor (sheetOf edition1 w) (getD w 1 0) ≤ length output))
 encode-done-exactly = EncodeExactly.done-exactly
 
--- never with another count than n0,
-pub encode-count : (w f output : List ℕ) (n : ℕ) → encode w f output .answer ≡ done n → n ≡ getD w 1 0
+-- never with another count than the words of n0 elements,
+pub encode-count : (w f output : List ℕ) (n : ℕ) → encode w f output .answer ≡ done n → n ≡ wordsFor (sheetOf edition1 w) (getD w 1 0)
 encode-count w f output n e = EncodeExactly.done-encodable w f output n e .2
 
--- and then the whole output is table 0, which has n0 words, and after it the words as before;
-pub encode-output : (w f output : List ℕ) → Encodable w f → getD w 1 0 ≤ length output →
-    encode w f output .output ≡ tableOf (sheetField (sheetOf edition1 w)) (sheetRoot (sheetOf edition1 w)) (levelOf (sheetOf edition1 w) 0) f ++ drop (getD w 1 0) output
+-- and then the whole output is table 0, which has so many words, and after it the words as before;
+pub encode-output : (w f output : List ℕ) → Encodable w f → wordsFor (sheetOf edition1 w) (getD w 1 0) ≤ length output →
+    encode w f output .output ≡ wordsOf (sheetOf edition1 w .spelling) (tableOf (sheetField (sheetOf edition1 w)) (sheetRoot (sheetOf edition1 w)) (levelOf (sheetOf edition1 w) 0) (elementsIn (sheetOf edition1 w .spelling) f))
+    ++ drop (wordsFor (sheetOf edition1 w) (getD w 1 0)) output
 encode-output = EncodeExactly.output-done
 
-pub table-count : (w f output : List ℕ) → length (tableOf (sheetField (sheetOf edition1 w)) (sheetRoot (sheetOf edition1 w)) (levelOf (sheetOf edition1 w) 0) f) ≡ getD w 1 0
+pub table-count : (w f output : List ℕ) →
+    length (wordsOf (sheetOf edition1 w .spelling) (tableOf (sheetField (sheetOf edition1 w)) (sheetRoot (sheetOf edition1 w)) (levelOf (sheetOf edition1 w) 0) (elementsIn (sheetOf edition1 w .spelling) f)))
+    ≡ wordsFor (sheetOf edition1 w) (getD w 1 0)
 table-count = EncodeExactly.written-length
 
--- word j of it is the value of the polynomial at point j of domain 0.
-pub encode-entry : (w f output : List ℕ) → Encodable w f → getD w 1 0 ≤ length output → (j : ℕ) → j < getD w 1 0 →
-    getD (encode w f output .output) j 0 ≡ evaluate (sheetField (sheetOf edition1 w)) f (point (sheetField (sheetOf edition1 w)) (sheetRoot (sheetOf edition1 w)) (levelOf (sheetOf edition1 w) 0) j)
+-- element j of it is the value of the polynomial at point j of domain 0.
+pub encode-entry : (w f output : List ℕ) → Encodable w f → wordsFor (sheetOf edition1 w) (getD w 1 0) ≤ length output → (j : ℕ) → j < getD w 1 0 →
+    elementAt (sheetOf edition1 w .spelling) (encode w f output .output) (wordsFor (sheetOf edition1 w) j)
+    ≡ evaluate (sheetField (sheetOf edition1 w)) (elementsIn (sheetOf edition1 w .spelling) f) (point (sheetField (sheetOf edition1 w)) (sheetRoot (sheetOf edition1 w)) (levelOf (sheetOf edition1 w) 0) j)
 encode-entry = EncodeExactly.entry
 
 -- Refused: the output as before.
@@ -148,7 +153,7 @@ coin-places = Places.coin-places
 pub verify-reads : (ed : Edition) (file : List ℕ) → verifyIn ed file .reads ≡ readsWith ed (sheetIn ed file) (streamOf file) (verifyIn ed file .outcome)
 verify-reads = ReadsByNumber.verify-reads
 
--- DEPENDENCE. Two files that pass reading, with the same words outside the tables and the same table words at every place that deciding uses in the first, get the
+-- DEPENDENCE. Two files that pass reading, with the same words outside the tables and the same table entries at every place that deciding uses in the first, get the
 -- same verdict, outcome and reads.
 pub dependence : (ed : Edition) (x y : List ℕ) → reading ed x ≡ accepted → reading ed y ≡ accepted → SameOutside ed (sheetIn ed x) (streamOf x) (streamOf y) →
     SameWhereUsed ed (sheetIn ed x) (streamOf x) (streamOf y) → verifyIn ed x ≡ verifyIn ed y

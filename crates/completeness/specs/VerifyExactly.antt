@@ -13,33 +13,36 @@ use borrow.Author.Tests.{eq-eqb, eqb-false, eqb-true, le-leb, leb-true, ltb-fals
 use Rattle.definition.specs.Block.{blockCount, fileBlocks, streamOf, wrongChecks}
 use Rattle.definition.specs.Deciding.{counted, decide, deciding, differences, equalTest, outInDomain, outTest, outTests, repeatedOuts}
 use Rattle.definition.specs.Domain.{foldAt, shiftPoint}
-use Rattle.definition.specs.Field.{Field, primeField}
-use Rattle.definition.specs.Layout.{Kind, layout, limit, message, readTranscript, wordsDue}
+use Rattle.definition.specs.Field.{Element, Field, Spelling, begunBy, numberIn}
+use Rattle.definition.specs.Layout.{Kind, layout, limit, message, out, outLayout, readTranscript, wordsDue}
 use Rattle.definition.specs.Lists.{firstOf, firstTrue, range}
 use Rattle.definition.specs.Polynomial.{clash, evaluate}
 use Rattle.definition.specs.Reading.{blocksTest, bodyTests, checkTest, fillTest, lengthTest, outOfRange, rangeTest, reading, sheetTest, streamTests}
-use Rattle.definition.specs.Sheet.{Edition, Sheet, firstLevel, rootOfUnity, sheetLength, sheetOf, sheetRules, testOrder}
+use Rattle.definition.specs.Sheet.{Edition, Sheet, firstLevel, sheetLength, sheetOf, sheetRules, testOrder}
 use Rattle.definition.specs.Verdict.{Outcome, Verdict, _then_, accepted, refuseAt, refused, thenVerdict}
 use Rattle.definition.specs.Verify.{verifyIn}
 use Rattle.list_laws.specs.Booleans.{is-false}
 use Rattle.list_laws.specs.First.{first-of}
 use Rattle.list_laws.specs.Lists.{getD-map, getD-map-range, range-length}
+use Rattle.algebra.specs.Laws.{FieldLaws}
 use Rattle.layouts.specs.FileWords.{stream-length}
 use Rattle.layouts.specs.Lawful.{Lawful, lawful}
-use Rattle.layouts.specs.Levels.{levelOf, roundsOf, sheetField, sheetRoot}
+use Rattle.layouts.specs.Levels.{elementAt, levelOf, outCoinCount, roundsOf, sheetField, sheetRoot, wordsFor}
 use Rattle.layouts.specs.LevelsByNumber.{Paired}
 use Rattle.layouts.specs.PlainRules.{wordTurn}
 use Rattle.layouts.specs.RulesByWord.{rules-counted, rule-at, rule-of-word, rules-length, sheet-exactly, turn-of-word, turns-differ, word-of-turn}
 use Rattle.layouts.specs.SheetRules.{short-sheet}
+use Rattle.layouts.specs.Spellings.{at-drop, begun-at, begun-length, count-below, count-one}
 use Rattle.completeness.specs.DecidedByNumber.{clashes, decided, finalTests}
 use Rattle.completeness.specs.EqualByNumber
-use Rattle.completeness.specs.Faults.{BlocksFault, CheckFault, ClashFault, DomainFault, EqualFault, Fault, FillFault, FinalFault, LengthFault, NoFault, Part, PartDue, RangeFault, RuleFault, blocksIn, combination, dueOf, faultsOf, finals, fold, functionIn, numberTurn, outs, pairsIn, partLength, partLimit, partStart, partWord, partWords, sheetIn, shifts, turnOf, words}
+use Rattle.completeness.specs.Faults.{BlocksFault, CheckFault, ClashFault, DomainFault, EqualFault, Fault, FillFault, FinalFault, LengthFault, NoFault, Part, PartDue, RangeFault, RuleFault, blocksIn, combination, dueOf, faultsOf, finals, fold, functionIn, numberTurn, outs, pairsIn, partElement, partElements, partLength, partLimit, partStart, partWord, partWords, sheetIn, shifts, turnOf, words}
 use Rattle.completeness.specs.FileByNumber.{check-at, checks-length}
 use Rattle.completeness.specs.FirstFaults.{Exact, exact-at, exact-if, exact-places}
 use Rattle.completeness.specs.Numbered.{final}
 use Rattle.completeness.specs.PairsByNumber.{part-length, part-word}
-use Rattle.completeness.specs.PartsByNumber.{due-is, every-word, part-below, part-kind, partKind}
-use Rattle.completeness.specs.TestsByNumber.{clash-found, clash-there, differ, differs, domain-point, point-inside, zip-at, zip-length}
+use Rattle.completeness.specs.PartsByNumber.{due-is, every-word, outs-cases, outs-first, part-below, part-kind, partKind}
+use Rattle.completeness.specs.Ready.{sheet-laws}
+use Rattle.completeness.specs.TestsByNumber.{clash-found, clash-there, differ, differs, domain-point, element-differ, element-differs, point-inside, zip-at, zip-length}
 
 then-outcome : (o : Outcome) (v : Verdict) → thenVerdict o v .outcome ≡ (o then v .outcome)
 unfolding thenVerdict _then_
@@ -57,14 +60,17 @@ then-accepted accepted = refl
 then-accepted (refused n q) = refl
 
 -- the limit of a part is that of its kind, and an out coin's kind alone is tested against a domain
-kind-limit : (h : Sheet) (x : Part) → limit (h .prime) (partKind h x) ≡ partLimit h x
-unfolding limit partKind partLimit
-kind-limit h (words m) = refl
-kind-limit h (outs i) = refl
-kind-limit h (combination i) = refl
-kind-limit h (fold i) = refl
-kind-limit h (shifts i) = refl
-kind-limit h finals = refl
+kind-limit : (h : Sheet) (x : Part) (j : ℕ) → j < partLength h x → limit (h .prime) (partKind h x j) ≡ partLimit h x
+unfolding limit partKind partLimit partLength
+kind-limit h (words m) j l = refl
+kind-limit h (outs i) j l =
+    let o = outLayout (h .spelling) (outCoinCount h) (levelOf h (suc i)) in
+    outs-cases (h .spelling) (outCoinCount h) (levelOf h (suc i)) j l
+    (λ m u e. ap (λ (n : ℕ). limit (h .prime) (getD o n message)) e ∙ ap (limit (h .prime)) (outs-first (h .spelling) (outCoinCount h) (levelOf h (suc i)) m u)) (λ c. ap (limit (h .prime)) c)
+kind-limit h (combination i) j l = refl
+kind-limit h (fold i) j l = refl
+kind-limit h (shifts i) j l = refl
+kind-limit h finals j l = refl
 
 -- no two numbers have one turn
 pub own-turn : (m n : ℕ) → numberTurn m ≡ numberTurn n → m ≡ n
@@ -103,18 +109,24 @@ module _ (ed : Edition) (file : List ℕ) where
   abbrev T : ℕ → ℕ → ℕ
   T = turnOf ed
 
-  abbrev F : Field ℕ
+  abbrev σ : Spelling
+  σ = sheetIn ed file .spelling
+
+  abbrev F : Field (Element (sheetIn ed file .spelling))
   F = sheetField (sheetIn ed file)
 
-  abbrev ω : ℕ
+  abbrev ω : Element (sheetIn ed file .spelling)
   ω = sheetRoot (sheetIn ed file)
 
   abbrev M : ℕ
   M = roundsOf (sheetIn ed file)
 
   abbrev decision : Outcome
-  decision = decide (primeField (sheetIn ed file .prime)) (rootOfUnity (sheetIn ed file)) (firstLevel (sheetIn ed file))
-      (readTranscript (sheetIn ed file) (drop (sheetLength ed) (streamOf file))) .outcome
+  decision = decide (sheetField (sheetIn ed file)) (sheetRoot (sheetIn ed file)) (firstLevel (sheetIn ed file))
+      (readTranscript (sheetIn ed file .spelling) (sheetIn ed file) (drop (sheetLength ed) (streamOf file))) .outcome
+
+  L : FieldLaws (sheetField (sheetIn ed file))
+  L = sheet-laws ed (streamOf file)
 
   -- the outcome as one row of tests
   in-order : verifyIn ed file .outcome
@@ -220,16 +232,16 @@ module _ (ed : Edition) (file : List ℕ) where
       pub enough : length kinds ≤ length (drop (sheetLength ed) w)
       enough = omega (arith, length-drop (sheetLength ed) w, all-due, kinds-length)
 
-      -- a test of each word after the sheet
-      module _ (t : Kind → ℕ → Bool) where
-        word-tested : (j : ℕ) → j < length kinds → getD (zipWith t kinds (drop (sheetLength ed) w)) j false ≡ t (getD kinds j message) (getD w (sheetLength ed + j) 0)
-        word-tested j l = zip-at t message kinds (drop (sheetLength ed) w) j l enough ∙ ap (t (getD kinds j message)) (getD-drop (sheetLength ed) w j 0)
+      -- a test of each word after the sheet, or of what it begins
+      module _ {A : Type 0} (t : Kind → A → Bool) (z : A) (xs : List A) (same : length xs ≡ length (drop (sheetLength ed) w)) where
+        word-tested : (j : ℕ) → j < length kinds → getD (zipWith t kinds xs) j false ≡ t (getD kinds j message) (getD xs j z)
+        word-tested j l = zip-at t message z kinds xs j l (omega (arith, enough))
 
-        tested-length : length (zipWith t kinds (drop (sheetLength ed) w)) ≡ length kinds
-        tested-length = zip-length t message kinds (drop (sheetLength ed) w) enough
+        tested-length : length (zipWith t kinds xs) ≡ length kinds
+        tested-length = zip-length t message z kinds xs (omega (arith, enough))
 
-        word-fails : (j : ℕ) → j < length (zipWith t kinds (drop (sheetLength ed) w)) → getD (zipWith t kinds (drop (sheetLength ed) w)) j false ≡ true →
-            (x : Part) × PartDue h x × ((i : ℕ) × (i < partLength h x) × (sheetLength ed + j ≡ partStart ed h x + i) × (t (partKind h x) (getD w (sheetLength ed + j) 0) ≡ true))
+        word-fails : (j : ℕ) → j < length (zipWith t kinds xs) → getD (zipWith t kinds xs) j false ≡ true →
+            (x : Part) × PartDue h x × ((i : ℕ) × (i < partLength h x) × (sheetLength ed + j ≡ partStart ed h x + i) × (t (partKind h x i) (getD xs j z) ≡ true))
         word-fails j l e =
             let u : j < length kinds = omega (arith, tested-length) in
             let p = every-word ed h (sheetLength ed + j) (omega arith) (omega (arith, kinds-length)) in (
@@ -239,31 +251,35 @@ module _ (ed : Edition) (file : List ℕ) where
                 p .2 .0,
                 p .2 .1,
                 p .2 .2,
-                ap (λ (k : Kind). t k (getD w (sheetLength ed + j) 0)) (sym (part-kind ed h long (p .0) (p .1) (p .2 .0) (p .2 .1) j (p .2 .2))) ∙ sym (word-tested j u) ∙ e,
+                ap (λ (k : Kind). t k (getD xs j z)) (sym (part-kind ed h long (p .0) (p .1) (p .2 .0) (p .2 .1) j (p .2 .2))) ∙ sym (word-tested j u) ∙ e,
               ),
             )
 
-        failing-word : (x : Part) → PartDue h x → (i q : ℕ) → i < partLength h x → q ≡ partStart ed h x + i → t (partKind h x) (getD w q 0) ≡ true →
-            (j : ℕ) × (q ≡ sheetLength ed + j) × (j < length (zipWith t kinds (drop (sheetLength ed) w))) × (getD (zipWith t kinds (drop (sheetLength ed) w)) j false ≡ true)
+        failing-word : (x : Part) → PartDue h x → (i q : ℕ) → i < partLength h x → q ≡ partStart ed h x + i → t (partKind h x i) (getD xs (q - sheetLength ed) z) ≡ true →
+            (j : ℕ) × (q ≡ sheetLength ed + j) × (j < length (zipWith t kinds xs)) × (getD (zipWith t kinds xs) j false ≡ true)
         failing-word x d i q l e f =
             let b = part-below ed h x d i l in
             let j = q - sheetLength ed in
             let s : q ≡ sheetLength ed + j = omega (arith, b) in
             let u : j < length kinds = omega (arith, b, kinds-length) in
-            (j, s, omega (arith, tested-length), word-tested j u ∙ (λ y. t (part-kind ed h long x d i l j (sym s ∙ e) y) (getD w (sym s y) 0)) ∙ f)
+            (j, s, omega (arith, tested-length), word-tested j u ∙ (λ y. t (part-kind ed h long x d i l j (sym s ∙ e) y) (getD xs j z)) ∙ f)
 
       -- 5
       range-sound : (j : ℕ) → j < length (zipWith (outOfRange h) kinds (drop (sheetLength ed) w)) → getD (zipWith (outOfRange h) kinds (drop (sheetLength ed) w)) j false ≡ true → RangeFault ed h w (sheetLength ed + j)
       unfolding outOfRange
       range-sound j l e =
-          let r = word-fails (outOfRange h) j l e in
-          (r .0, r .1, (r .2 .0, r .2 .1, r .2 .2, leb-true _ _ (ap (λ (n : ℕ). leb n (getD w (sheetLength ed + j) 0)) (sym (kind-limit h (r .0))) ∙ r .2 .3)))
+          let r = word-fails (outOfRange h) 0 (drop (sheetLength ed) w) refl j l e in
+          let x = getD-drop (sheetLength ed) w j 0 in
+          (r .0, r .1, (r .2 .0, r .2 .1, r .2 .2, leb-true _ _ ((λ y. leb (sym (kind-limit h (r .0) (r .2 .0) (r .2 .1)) y) (sym x y)) ∙ r .2 .3)))
 
       range-complete : (q : ℕ) → RangeFault ed h w q →
           (j : ℕ) × (q ≡ sheetLength ed + j) × (j < length (zipWith (outOfRange h) kinds (drop (sheetLength ed) w))) × (getD (zipWith (outOfRange h) kinds (drop (sheetLength ed) w)) j false ≡ true)
       unfolding outOfRange
       range-complete q p =
-          failing-word (outOfRange h) (p .0) (p .1) (p .2 .0) q (p .2 .1) (p .2 .2) (ap (λ (n : ℕ). leb n (getD w q 0)) (kind-limit h (p .0)) ∙ le-leb _ _ (p .2 .3))
+          let b = part-below ed h (p .0) (p .1) (p .2 .0) (p .2 .1) in
+          let s : sheetLength ed + (q - sheetLength ed) ≡ q = omega (arith, b, p .2 .2) in
+          let x : getD (drop (sheetLength ed) w) (q - sheetLength ed) 0 ≡ getD w q 0 = getD-drop (sheetLength ed) w (q - sheetLength ed) 0 ∙ ap (λ (n : ℕ). getD w n 0) s in
+          failing-word (outOfRange h) 0 (drop (sheetLength ed) w) refl (p .0) (p .1) (p .2 .0) q (p .2 .1) (p .2 .2) ((λ y. leb (kind-limit h (p .0) (p .2 .0) (p .2 .1) y) (x y)) ∙ le-leb _ _ (p .2 .3))
 
       -- 6
       abbrev fillTests : List Bool
@@ -287,34 +303,60 @@ module _ (ed : Edition) (file : List ℕ) where
           let l : j < length fillTests = omega (arith, p .0, p .1, due, fill-length, stream-length file) in
           (j, s, l, fill-at j l ∙ differs _ 0 (λ k. p .2 (ap (λ (n : ℕ). getD w n 0) s ∙ k)))
 
-      -- 7
-      domain-sound : (j : ℕ) → j < length (zipWith (outInDomain h) kinds (drop (sheetLength ed) w)) → getD (zipWith (outInDomain h) kinds (drop (sheetLength ed) w)) j false ≡ true → DomainFault ed h w (sheetLength ed + j)
+      -- 7: the element that an out coin's first word begins
+      abbrev begun : List (Element (sheetIn ed file .spelling))
+      begun = begunBy (sheetIn ed file .spelling) (drop (sheetLength ed) (streamOf file))
+
+      begun-many : length begun ≡ length (drop (sheetLength ed) w)
+      begun-many = begun-length σ (drop (sheetLength ed) w)
+
+      coin-here : (k m j : ℕ) → k < roundsOf h → m < outCoinCount h → sheetLength ed + j ≡ partStart ed h (outs k) + wordsFor h m → getD begun j (numberIn σ 0) ≡ elementAt σ w (sheetLength ed + j)
+      unfolding partLength
+      coin-here k m j d u s =
+          let n = count-below σ m (outCoinCount h) u in
+          let o = count-one σ .0 in
+          let last : wordsFor h m + (wordsFor h 1 - 1) < wordsFor h (outCoinCount h) = omega (arith, n, o) in
+          begun-at σ (drop (sheetLength ed) w) j (omega (arith, s, part-below ed h (outs k) d (wordsFor h m + (wordsFor h 1 - 1)) last .1, all-due, length-drop (sheetLength ed) w, o)) ∙ at-drop σ w (sheetLength ed) j
+
+      domain-sound : (j : ℕ) → j < length (zipWith (outInDomain σ h) kinds begun) → getD (zipWith (outInDomain σ h) kinds begun) j false ≡ true → DomainFault ed h w (sheetLength ed + j)
       unfolding outInDomain partKind partLength
-      domain-sound j l e = let r = word-fails (outInDomain h) j l e in go (r .0) (r .1) (r .2 .0) (r .2 .1) (r .2 .2) (r .2 .3)
+      domain-sound j l e = let r = word-fails (outInDomain σ h) (numberIn σ 0) begun begun-many j l e in go (r .0) (r .1) (r .2 .0) (r .2 .1) (r .2 .2) (r .2 .3)
         where
-          go : (x : Part) → PartDue h x → (i : ℕ) → i < partLength h x → sheetLength ed + j ≡ partStart ed h x + i → outInDomain h (partKind h x) (getD w (sheetLength ed + j) 0) ≡ true → DomainFault ed h w (sheetLength ed + j)
+          go : (x : Part) → PartDue h x → (i : ℕ) → i < partLength h x → sheetLength ed + j ≡ partStart ed h x + i → outInDomain σ h (partKind h x i) (getD begun j (numberIn σ 0)) ≡ true → DomainFault ed h w (sheetLength ed + j)
           go (words m) d i l s f = absurd (true≢false (sym f))
-          go (outs k) d i l s f = (k, d, (i, l, s, domain-point (h .prime) ω (levelOf h (suc k)) (getD w (sheetLength ed + j) 0) f))
+          go (outs k) d i l s f =
+              outs-cases σ (outCoinCount h) (levelOf h (suc k)) i l
+              (λ m u q. let t : sheetLength ed + j ≡ partStart ed h (outs k) + wordsFor h m = omega (arith, s, q) in
+              let kind : partKind h (outs k) i ≡ out (levelOf h (suc k)) = ap (λ (n : ℕ). getD (outLayout σ (outCoinCount h) (levelOf h (suc k))) n message) q ∙ outs-first σ (outCoinCount h) (levelOf h (suc k)) m u in
+              (k, d, (m, u, t, domain-point F L ω (levelOf h (suc k)) (elementAt σ w (sheetLength ed + j)) ((λ y. outInDomain σ h (sym kind y) (sym (coin-here k m j d u t) y)) ∙ f))))
+              (λ c. absurd (true≢false (sym f ∙ ap (λ (k : Kind). outInDomain σ h k (getD begun j (numberIn σ 0))) c)))
           go (combination k) d i l s f = absurd (true≢false (sym f))
           go (fold k) d i l s f = absurd (true≢false (sym f))
           go (shifts k) d i l s f = absurd (true≢false (sym f))
           go finals d i l s f = absurd (true≢false (sym f))
 
       pub domain-complete : (q : ℕ) → DomainFault ed h w q →
-          (j : ℕ) × (q ≡ sheetLength ed + j) × (j < length (zipWith (outInDomain h) kinds (drop (sheetLength ed) w))) × (getD (zipWith (outInDomain h) kinds (drop (sheetLength ed) w)) j false ≡ true)
+          (j : ℕ) × (q ≡ sheetLength ed + j) × (j < length (zipWith (outInDomain σ h) kinds begun)) × (getD (zipWith (outInDomain σ h) kinds begun) j false ≡ true)
       unfolding outInDomain partKind partLength
       domain-complete q p =
+          let k = p .0 in
+          let c = p .2 .0 in
+          let u = p .2 .1 in
           let m = p .2 .3 in
-          failing-word (outInDomain h) (outs (p .0)) (p .1) (p .2 .0) q (p .2 .1) (p .2 .2) (point-inside (h .prime) ω (levelOf h (suc (p .0))) (m .0) (getD w q 0) (m .1) (m .2))
+          let within : wordsFor h c < wordsFor h (outCoinCount h) = omega (arith, count-below σ c (outCoinCount h) u, count-one σ .0) in
+          let b = part-below ed h (outs k) (p .1) (wordsFor h c) within in
+          let s : sheetLength ed + (q - sheetLength ed) ≡ q = omega (arith, b, p .2 .2) in
+          let x : getD begun (q - sheetLength ed) (numberIn σ 0) ≡ elementAt σ w q = coin-here k c (q - sheetLength ed) (p .1) u (s ∙ p .2 .2) ∙ ap (elementAt σ w) s in
+          failing-word (outInDomain σ h) (numberIn σ 0) begun begun-many (outs k) (p .1) (wordsFor h c) q within (p .2 .2)
+          ((λ y. outInDomain σ h (outs-first σ (outCoinCount h) (levelOf h (suc k)) c u y) (x y)) ∙ point-inside F L ω (levelOf h (suc k)) (m .0) (elementAt σ w q) (m .1) (m .2))
 
       -- 14
-      equal-sound : (j : ℕ) → j < length (repeatedOuts none kinds (drop (sheetLength ed) w)) → getD (repeatedOuts none kinds (drop (sheetLength ed) w)) j false ≡ true →
-          EqualFault ed h w (sheetLength ed + j)
-      equal-sound = EqualByNumber.equal-sound ed h w law all-due
+      equal-sound : (j : ℕ) → j < length (repeatedOuts F none kinds begun) → getD (repeatedOuts F none kinds begun) j false ≡ true → EqualFault ed h w (sheetLength ed + j)
+      equal-sound = EqualByNumber.equal-sound ed h w L law all-due
 
       pub equal-complete : (q : ℕ) → EqualFault ed h w q →
-          (j : ℕ) × (q ≡ sheetLength ed + j) × (j < length (repeatedOuts none kinds (drop (sheetLength ed) w))) × (getD (repeatedOuts none kinds (drop (sheetLength ed) w)) j false ≡ true)
-      equal-complete = EqualByNumber.equal-complete ed h w law all-due
+          (j : ℕ) × (q ≡ sheetLength ed + j) × (j < length (repeatedOuts F none kinds begun)) × (getD (repeatedOuts F none kinds begun) j false ≡ true)
+      equal-complete = EqualByNumber.equal-complete ed h w L law all-due
 
       -- 8
       clashes-length : length (clashes ed h w 0 M) ≡ M
@@ -326,7 +368,7 @@ module _ (ed : Edition) (file : List ℕ) where
       clash-sound : (j : ℕ) → j < length (clashes ed h w 0 M) → getD (clashes ed h w 0 M) j false ≡ true → ClashFault ed h w (1 + j)
       clash-sound j l e =
           let u : j < M = omega (arith, clashes-length) in
-          let r = clash-found (h .prime) ω (record { point = 0; value = 0 }) (pairsIn ed h w j) (sym (clash-at j u) ∙ e) in
+          let r = clash-found F L ω (record { point = numberIn σ 0; value = numberIn σ 0 }) (pairsIn ed h w j) (sym (clash-at j u) ∙ e) in
           (j, u, omega arith, (r .0, r .1, r .2, r .3, λ g. r .4 .1 (g (r .4 .0))))
 
       clash-complete : (q : ℕ) → ClashFault ed h w q → (j : ℕ) × (q ≡ 1 + j) × (j < length (clashes ed h w 0 M)) × (getD (clashes ed h w 0 M) j false ≡ true)
@@ -335,7 +377,7 @@ module _ (ed : Edition) (file : List ℕ) where
             p .0,
             omega (arith, p .2),
             omega (arith, p .1, clashes-length),
-            clash-at (p .0) (p .1) ∙ clash-there (h .prime) ω (record { point = 0; value = 0 }) (pairsIn ed h w (p .0)) (r .0) (r .1) (r .2) (r .3) (r .4),
+            clash-at (p .0) (p .1) ∙ clash-there F L ω (record { point = numberIn σ 0; value = numberIn σ 0 }) (pairsIn ed h w (p .0)) (r .0) (r .1) (r .2) (r .3) (r .4),
           )
 
       -- 9
@@ -344,21 +386,21 @@ module _ (ed : Edition) (file : List ℕ) where
       final-length = length-map (partWords ed h w finals) _ ∙ part-length ed h w all-due finals tt
 
       final-at : (j : ℕ) → j < partLength h finals → getD (finalTests ed h w) j false
-          ≡ not (eqb (evaluate F (partWords ed h w (words final)) (shiftPoint F ω (levelOf h M) (partWord ed h w finals j)))
-          (foldAt F ω (levelOf h M) (functionIn ed h w M .value) (partWord ed h w (fold M) 0) (partWord ed h w finals j)))
-      unfolding differences primeField
+          ≡ not (F .equal (evaluate F (partElements ed h w (words final)) (shiftPoint F ω (levelOf h M) (partWord ed h w finals j)))
+          (foldAt F ω (levelOf h M) (functionIn ed h w M .value) (partElement ed h w (fold M) 0) (partWord ed h w finals j)))
+      unfolding differences
       final-at j l =
-          getD-map (λ (y : ℕ). not (eqb (evaluate F (partWords ed h w (words final)) (shiftPoint F ω (levelOf h M) y)) (foldAt F ω (levelOf h M) (functionIn ed h w M .value) (partWord ed h w (fold M) 0) y)))
+          getD-map (λ (y : ℕ). not (F .equal (evaluate F (partElements ed h w (words final)) (shiftPoint F ω (levelOf h M) y)) (foldAt F ω (levelOf h M) (functionIn ed h w M .value) (partElement ed h w (fold M) 0) y)))
           (partWords ed h w finals) 0 false j (omega (arith, part-length ed h w all-due finals tt))
-          ∙ ap (λ (y : ℕ). not (eqb (evaluate F (partWords ed h w (words final)) (shiftPoint F ω (levelOf h M) y)) (foldAt F ω (levelOf h M) (functionIn ed h w M .value) (partWord ed h w (fold M) 0) y))) (part-word ed h w all-due finals j l)
+          ∙ ap (λ (y : ℕ). not (F .equal (evaluate F (partElements ed h w (words final)) (shiftPoint F ω (levelOf h M) y)) (foldAt F ω (levelOf h M) (functionIn ed h w M .value) (partElement ed h w (fold M) 0) y))) (part-word ed h w all-due finals j l)
 
       final-sound : (j : ℕ) → j < length (finalTests ed h w) → getD (finalTests ed h w) j false ≡ true → FinalFault ed h w (0 + j)
       final-sound j l e =
           let u : j < partLength h finals = omega (arith, final-length) in
-          subst (FinalFault ed h w) (sym (zero-add j)) (u, differ _ _ (sym (final-at j u) ∙ e))
+          subst (FinalFault ed h w) (sym (zero-add j)) (u, element-differ F L _ _ (sym (final-at j u) ∙ e))
 
       final-complete : (q : ℕ) → FinalFault ed h w q → (j : ℕ) × (q ≡ 0 + j) × (j < length (finalTests ed h w)) × (getD (finalTests ed h w) j false ≡ true)
-      final-complete q p = (q, sym (zero-add q), omega (arith, p .0, final-length), final-at q (p .0) ∙ differs _ _ (p .1))
+      final-complete q p = (q, sym (zero-add q), omega (arith, p .0, final-length), final-at q (p .0) ∙ element-differs F L _ _ (p .1))
 
   -- there is no fault at a turn past that of 9, and none at turn 0
   none-past : (n q : ℕ) → 11 ≤ numberTurn n → P n q → ⊥
@@ -393,8 +435,8 @@ module _ (ed : Edition) (file : List ℕ) where
       exact-if P T numberTurn own-turn 4 (blockCount (wordsDue ed h)) (not (eqb (blocksIn file) (blockCount (wordsDue ed h)))) _ (blocks-sound n₁ n₃) (blocks-complete n₁ n₃) (λ n₄.
       exact-at P T numberTurn own-turn 5 (sheetLength ed) (zipWith (outOfRange h) (layout h) (drop (sheetLength ed) w)) _ (λ q. refl) (range-sound n₁ n₃ n₄) (range-complete n₁ n₃ n₄) (λ n₅.
       exact-at P T numberTurn own-turn 6 (wordsDue ed h) (map (λ (x : ℕ). not (eqb x 0)) (drop (wordsDue ed h) w)) _ (λ q. refl) (fill-sound n₁ n₃ n₄) (fill-complete n₁ n₃ n₄) (λ n₆.
-      exact-at P T numberTurn own-turn 7 (sheetLength ed) (zipWith (outInDomain h) (layout h) (drop (sheetLength ed) w)) _ (λ q. refl) (domain-sound n₁ n₃ n₄) (domain-complete n₁ n₃ n₄) (λ n₇.
-      exact-at P T numberTurn own-turn 14 (sheetLength ed) (repeatedOuts none (layout h) (drop (sheetLength ed) w)) _ (λ q. refl) (equal-sound n₁ n₃ n₄) (equal-complete n₁ n₃ n₄) (λ n₁₄.
+      exact-at P T numberTurn own-turn 7 (sheetLength ed) (zipWith (outInDomain σ h) (layout h) (begunBy σ (drop (sheetLength ed) w))) _ (λ q. refl) (domain-sound n₁ n₃ n₄) (domain-complete n₁ n₃ n₄) (λ n₇.
+      exact-at P T numberTurn own-turn 14 (sheetLength ed) (repeatedOuts F none (layout h) (begunBy σ (drop (sheetLength ed) w))) _ (λ q. refl) (equal-sound n₁ n₃ n₄) (equal-complete n₁ n₃ n₄) (λ n₁₄.
       subst (Exact P T numberTurn own-turn 9) (sym (decided ed h w (long n₁ n₃)))
       (exact-at P T numberTurn own-turn 8 1 (clashes ed h w 0 M) _ (λ q. refl) (clash-sound n₁ n₃ n₄) (clash-complete n₁ n₃ n₄) (λ n₈.
       subst (Exact P T numberTurn own-turn 10) (sym (then-accepted (refuseAt 9 (firstTrue 0 (finalTests ed h w)))))

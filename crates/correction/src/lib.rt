@@ -1,15 +1,20 @@
 // The prover's round polynomial: fold, quotient, degree correction. Polynomials are slices of coefficients, lowest first; each function takes the
-// field by its number and any words.
+// field by its number and any words. Elements of four words have functions of their own, and `fold` and `corrected` choose by the field.
+use quartic::Four;
 ghost use mathlib.Core.Path.{_≡_};
 ghost use mathlib.Core.List.{[], _∷_, _++_};
 ghost use Prim.Native.Nat.{_+_, _-_, _*_, _≤_, _<_};
 ghost use lib.ListN.{length, take, drop, getD, replicate};
-ghost use Rattle.definition.specs.Field.{fieldOf, power};
+ghost use Rattle.definition.specs.Field.{Field, fieldOf, power, quads};
 ghost use Rattle.definition.specs.Polynomial.{mulPoly, divide, quotient, geometric, foldPoly};
+ghost use Rattle.spelling.specs.Field3.{field3};
+ghost use Rattle.spelling.specs.ByField.{fieldAt, elementsAt};
+ghost use Rattle.quartic.specs.Meaning.{quadOf};
+ghost use Rattle.elements.specs.Meaning.{valueAt};
 ghost use Rattle.correction.specs.Corrected.{Corrected};
 
 // The fold of f at r: coefficient j is the value at r of f's coefficients from number j·k on, k of them.
-pub fn fold(field: u32, k: usize, r: u32, f: &[u32], out: &mut [u32])
+fn fold_one(field: u32, k: usize, r: u32, f: &[u32], out: &mut [u32])
     requires { ⌜ (0 < k) × (length (now f) ≡ k * length (now out)) ⌝ }
     ensures { λ _. ⌜ now (out .exit) ≡ foldPoly (fieldOf field) k r (now (f .entry)) ⌝ }
 {
@@ -145,7 +150,7 @@ fn correct(field: u32, c: u32, e: usize, q: &[u32], out: &mut [u32])
 
 // The corrected polynomial of the first `count` coefficients of f, where the samples are at the points from number `from` on. What f holds
 // afterwards is of no use.
-pub fn corrected(
+fn corrected_one(
     field: u32,
     xs: &[u32],
     from: usize,
@@ -162,4 +167,160 @@ pub fn corrected(
     let n = count - e;
     quotient(field, xs, from, f, count);
     correct(field, c, e, &f[..n], out);
+}
+
+// ---- four words
+
+// The fold of f at r.
+fn fold_four(k: usize, r: Four, f: &[u32], out: &mut [u32])
+    requires { ⌜ (0 < k) × (length (quads (now f)) ≡ k * length (quads (now out))) ⌝ }
+    ensures { λ _. ⌜ quads (now (out .exit)) ≡ foldPoly field3 k (quadOf r) (quads (now (f .entry))) ⌝ }
+{
+    let mut j = quartic::count(out);
+    while 0 < j {
+        j -= 1;
+        let begin = 4 * (j * k);
+        let value = quartic::value_at(&f[begin..begin + 4 * k], r);
+        quartic::put(out, j, value);
+    }
+}
+
+// The quotient by X - a of the polynomial in the first `count` coefficients, in place.
+fn divide_quads(a: Four, f: &mut [u32], count: usize)
+    requires { ⌜ count ≤ length (quads (now f)) ⌝ }
+    ensures { λ _. ⌜ take (count - 1) (quads (now (f .exit))) ≡ divide field3 (take count (quads (now (f .entry)))) (quadOf a) ⌝ }
+{
+    let mut above = Four {
+        a: 0,
+        b: 0,
+        c: 0,
+        d: 0,
+    };
+    let mut i = count;
+    while 0 < i {
+        i -= 1;
+        let coefficient = quartic::get(f, i);
+        quartic::put(f, i, above);
+        above = quartic::add(coefficient, quartic::mul(a, above));
+    }
+}
+
+// The quotient by the product of X - a over the points from number `from` on, by one point after the other.
+fn quotient_four(xs: &[u32], from: usize, f: &mut [u32], count: usize)
+    requires { ⌜ (from ≤ length (quads (now xs))) × ((length (quads (now xs)) - from ≤ count) × (count ≤ length (quads (now f)))) ⌝ }
+    ensures { λ _. ⌜ take (count - (length (quads (now (xs .entry))) - from)) (quads (now (f .exit))) ≡ quotient field3 (take count (quads (now (f .entry)))) (drop from (quads (now (xs .entry)))) ⌝ }
+{
+    let n = quartic::count(xs);
+    let mut left = count;
+    let mut i = from;
+    while i < n {
+        let x = quartic::get(xs, i);
+        divide_quads(x, f, left);
+        left -= 1;
+        i += 1;
+    }
+}
+
+// Coefficient i of X^n·q.
+fn shifted_four(q: &[u32], n: usize, i: usize) -> Four
+    ensures { λ r. ⌜ quadOf r ≡ getD (replicate n (field3 .𝟘) ++ quads (now (q .entry))) i (field3 .𝟘) ⌝ }
+{
+    if i < n {
+        return elements::number(0);
+    }
+    let j = i - n;
+    if quartic::count(q) <= j {
+        return elements::number(0);
+    }
+    quartic::get(q, j)
+}
+
+// -c^n.
+fn minus_power_four(c: Four, n: usize) -> Four
+    requires { ⌜ n ≤ 65536 ⌝ }
+    ensures { λ r. ⌜ quadOf r ≡ field3 ._⊖_ (field3 .𝟘) (power field3 (quadOf c) n) ⌝ }
+{
+    let powered = quartic_power::pow_turns(c, n as u32);
+    let value = powered.value;
+    quartic::sub(elements::number(0), value)
+}
+
+// The coefficient in place i of the product: c times the one before it, and that of q·(1 - (cX)^n) in its place, where t is -c^n.
+fn next_four(c: Four, t: Four, n: usize, q: &[u32], i: usize, last: Four) -> Four
+    ensures { λ r. ⌜ quadOf r ≡ field3 ._⊕_ (field3 ._⊕_ (getD (quads (now (q .entry))) i (field3 .𝟘)) (field3 ._⊗_ (quadOf t) (getD (replicate n (field3 .𝟘) ++ quads (now (q .entry))) i (field3 .𝟘)))) (field3 ._⊗_ (quadOf c) (quadOf last)) ⌝ }
+{
+    let fresh = quartic::add(
+        shifted_four(q, 0, i),
+        quartic::mul(t, shifted_four(q, n, i)),
+    );
+    quartic::add(fresh, quartic::mul(c, last))
+}
+
+// The product of q and 1 + cX + .. + (cX)^e, from the lowest coefficient up.
+fn correct_four(c: Four, e: usize, q: &[u32], out: &mut [u32])
+    requires { ⌜ (0 < length (quads (now q))) × ((length (quads (now out)) ≡ length (quads (now q)) + e) × (e < 65536)) ⌝ }
+    ensures { λ _. ⌜ quads (now (out .exit)) ≡ mulPoly field3 (quads (now (q .entry))) (geometric field3 (quadOf c) e) ⌝ }
+{
+    let t = minus_power_four(c, e + 1);
+    let n = quartic::count(out);
+    let mut last = Four {
+        a: 0,
+        b: 0,
+        c: 0,
+        d: 0,
+    };
+    let mut i = 0;
+    while i < n {
+        last = next_four(c, t, e + 1, q, i, last);
+        quartic::put(out, i, last);
+        i += 1;
+    }
+}
+
+// The corrected polynomial of the first `count` coefficients of f.
+fn corrected_four(xs: &[u32], from: usize, c: Four, f: &mut [u32], count: usize, out: &mut [u32])
+    requires { ⌜ (from ≤ length (quads (now xs))) × (length (quads (now xs)) - from < count) ⌝ }
+    requires { ⌜ (count ≤ length (quads (now f))) × ((length (quads (now out)) ≡ count) × (length (now xs) ≤ 4096)) ⌝ }
+    ensures { λ _. ⌜ Corrected field3 (drop from (quads (now (xs .entry)))) (quadOf c) (take count (quads (now (f .entry)))) (quads (now (out .exit))) ⌝ }
+{
+    let e = quartic::count(xs) - from;
+    let n = 4 * (count - e);
+    quotient_four(xs, from, f, count);
+    correct_four(c, e, &f[..n], out);
+}
+
+// ---- either spelling
+
+// The fold of f at r.
+pub fn fold(field: u32, k: usize, r: Four, f: &[u32], out: &mut [u32])
+    requires { ⌜ (0 < k) × (length (elementsAt field (now f)) ≡ k * length (elementsAt field (now out))) ⌝ }
+    ensures { λ _. ⌜ elementsAt field (now (out .exit)) ≡ foldPoly (fieldAt field) k (valueAt field r) (elementsAt field (now (f .entry))) ⌝ }
+{
+    if field == 3 {
+        fold_four(k, r, f, out);
+    } else {
+        fold_one(field, k, r.a, f, out);
+    }
+}
+
+// The corrected polynomial of the first `count` coefficients of f, where the samples are at the points from number `from` on. What f holds
+// afterwards is of no use.
+pub fn corrected(
+    field: u32,
+    xs: &[u32],
+    from: usize,
+    c: Four,
+    f: &mut [u32],
+    count: usize,
+    out: &mut [u32],
+)
+    requires { ⌜ (from ≤ length (elementsAt field (now xs))) × (length (elementsAt field (now xs)) - from < count) ⌝ }
+    requires { ⌜ (count ≤ length (elementsAt field (now f))) × ((length (elementsAt field (now out)) ≡ count) × (length (now xs) ≤ 4096)) ⌝ }
+    ensures { λ _. ⌜ Corrected (fieldAt field) (drop from (elementsAt field (now (xs .entry)))) (valueAt field c) (take count (elementsAt field (now (f .entry)))) (elementsAt field (now (out .exit))) ⌝ }
+{
+    if field == 3 {
+        corrected_four(xs, from, c, f, count, out);
+    } else {
+        corrected_one(field, xs, from, c.a, f, count, out);
+    }
 }

@@ -1,4 +1,3 @@
-pub mod PrefixLaws
 pub mod Inside
 pub mod ReadsGrow
 pub mod Outs

@@ -3,13 +3,15 @@ use Prim.Native.Nat.{ℕ, _+_, _<_}
 use native.Mathlib.Omega.{arith}
 use mathlib.Core.Path.{_≡_, ap, _∙_}
 use mathlib.Core.Bool.{false}
-use mathlib.Core.List.{List, _∷_, _++_, zipWith, append-assoc}
-use lib.ListN.{getD, drop, replicate, length-append, length-replicate}
-use Rattle.list_laws.specs.All.{all-append}
-use Rattle.layouts.specs.Levels.{roundsOf}
+use mathlib.Core.List.{List, _++_, zipWith, append-assoc}
+use lib.ListN.{drop, replicate, length-append, length-replicate}
+use Rattle.list_laws.specs.All.{all-append, all-replicate}
+use Rattle.layouts.specs.LayoutFacts.{laterLayout, later-length}
+use Rattle.layouts.specs.Levels.{roundsOf, wordsFor}
+use Rattle.layouts.specs.Spellings.{begun-length}
 use Rattle.definition.specs.Deciding.{outInDomain}
-use Rattle.definition.specs.Field.{fieldOf, primeField, primeOf}
-use Rattle.definition.specs.Layout.{Kind, coin, index, message, out, restLayout, roundLayout}
+use Rattle.definition.specs.Field.{Element, begunBy, numberIn}
+use Rattle.definition.specs.Layout.{Kind, coin, index, laterCount, message, outLayout, restLayout, roundLayout}
 use Rattle.definition.specs.Lists.{firstTrue}
 use Rattle.definition.specs.Sheet.{Level, Sheet, rootOfUnity, shiftCount}
 use Rattle.domain.specs.OutCoins.{coin-not-out, firstInside, indices-not-outs, messages-not-outs, orElse, outs-run, passed-over}
@@ -24,27 +26,35 @@ module _ (h : Sheet) (w : List ℕ) (st : State) (ok : Placed h w st) where
   regroup : (m o p r : List Kind) → (m ++ (o ++ p)) ++ r ≡ m ++ (o ++ (p ++ r))
   regroup m o p r = append-assoc m (o ++ p) r ∙ ap {B = List Kind} (λ x. m ++ x) (append-assoc o p r)
 
-  pub outs-next : h .prime ≡ primeOf (getD w 0 0) → st .level < roundsOf h →
-      outsFrom h w st ≡ orElse (firstInside (getD w 0 0) (rootOfUnity h) (currentLevel h (nextState h st)) w (outsAt st) (h .outCoins)) (outsFrom h w (nextState h st))
-  unfolding outsFrom restLayout roundLayout currentLevel nextState fieldOf
-  outs-next prime more =
-      let test = outInDomain h in
+  pub outs-next : st .level < roundsOf h →
+      outsFrom h w st
+      ≡ orElse (firstInside (h .spelling) (h .prime) (rootOfUnity h) (currentLevel h (nextState h st)) w (outsAt h st) (h .outCoins)) (outsFrom h w (nextState h st))
+  unfolding outsFrom restLayout roundLayout currentLevel nextState laterCount
+  outs-next more =
+      let σ = h .spelling in
+      let test = outInDomain σ h in
+      let xs = begunBy σ w in
+      let z = numberIn σ 0 in
       let b = currentLevel h st in
       let l = currentLevel h (nextState h st) in
-      let n = nextSize st in
-      let s = h .outCoins in
+      let n = wordsFor h (nextSize st) in
+      let s = wordsFor h (h .outCoins) in
+      let c = wordsFor h 2 in
       let t = currentRepetitions h st in
       let there = words-there h w st ok more in
-      let q = replicate t (index (shiftCount b)) in
-      let tail = replicate s message ++ (coin ∷ coin ∷ q) in
+      let long = begun-length σ w in
+      let outs = outLayout σ (h .outCoins) l in
+      let tail = replicate s message ++ laterLayout σ b in
       let rest = kindsOf h (nextState h st) in
-      let e : repliesAt h st + (s + (2 + t)) ≡ nextState h st .at = omega arith in
-      ap (λ (ls : List Level). firstTrue (st .at) (zipWith test (restLayout s b ls) (drop (st .at) w))) (levels-next h st (ok .sheet .law .paired) more)
-      ∙ ap (λ (ks : List Kind). firstTrue (st .at) (zipWith test ks (drop (st .at) w))) (regroup (replicate n message) (replicate s (out l)) tail rest)
-      ∙ passed-over test (replicate n message) (replicate s (out l) ++ (tail ++ rest)) w (st .at) n (length-replicate n message) (messages-not-outs h n) (omega arith)
-      ∙ outs-run h (getD w 0 0) (ap primeField prime) l (tail ++ rest) w s (outsAt st) (omega arith)
-      ∙ ap (orElse (firstInside (getD w 0 0) (rootOfUnity h) l w (outsAt st) s))
-      (passed-over test tail rest w (repliesAt h st) (s + (2 + t))
-      (length-append (replicate s message) (coin ∷ coin ∷ q) ∙ omega (arith, length-replicate s message, length-replicate t (index (shiftCount b))))
-      (all-append (λ k. (x : ℕ) → test k x ≡ false) (replicate s message) (coin ∷ coin ∷ q) (messages-not-outs h s) (coin-not-out h, (coin-not-out h, indices-not-outs h t (shiftCount b)))) (omega arith)
-      ∙ ap (λ (m : ℕ). firstTrue m (zipWith test rest (drop m w))) e)
+      let e : repliesAt h st + (s + (c + t)) ≡ nextState h st .at = omega arith in
+      ap (λ (ls : List Level). firstTrue (st .at) (zipWith test (restLayout σ (h .outCoins) b ls) (drop (st .at) xs))) (levels-next h st (ok .sheet .law .paired) more)
+      ∙ ap (λ (ks : List Kind). firstTrue (st .at) (zipWith test ks (drop (st .at) xs))) (regroup (replicate n message) outs tail rest)
+      ∙ passed-over z test (replicate n message) (outs ++ (tail ++ rest)) xs (st .at) n (length-replicate n message) (messages-not-outs σ h n) (omega (arith, there, long))
+      ∙ outs-run σ h l (tail ++ rest) w (h .outCoins) (outsAt h st) (omega (arith, there))
+      ∙ ap (orElse (firstInside σ (h .prime) (rootOfUnity h) l w (outsAt h st) (h .outCoins)))
+      (passed-over z test tail rest xs (repliesAt h st) (s + (c + t))
+      (length-append (replicate s message) (laterLayout σ b) ∙ omega (arith, length-replicate s message, later-length σ b))
+      (all-append (λ k. (x : Element σ) → test k x ≡ false) (replicate s message) (laterLayout σ b) (messages-not-outs σ h s)
+      (all-append (λ k. (x : Element σ) → test k x ≡ false) (replicate c coin) (replicate t (index (shiftCount b)))
+      (all-replicate (λ k. (x : Element σ) → test k x ≡ false) c coin (coin-not-out σ h)) (indices-not-outs σ h t (shiftCount b)))) (omega (arith, there, long))
+      ∙ ap (λ (m : ℕ). firstTrue m (zipWith test rest (drop m xs))) e)

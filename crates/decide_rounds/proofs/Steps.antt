@@ -9,35 +9,34 @@ use mathlib.Core.Option.{Option, none, some}
 use lib.ListN.{length, getD, take, drop, length-map}
 use Rattle.list_laws.specs.All.{All, all-places, all-take}
 use Rattle.list_laws.specs.Lists.{part-length}
-use Rattle.layouts.specs.Levels.{roundsOf}
+use Rattle.layouts.specs.Levels.{roundsOf, sheetField, sheetRoot, wordsFor}
+use Rattle.spelling.specs.Words.{elements-many}
 use Rattle.definition.specs.Deciding as definition
 use Rattle.definition.specs.Deciding.{Function, Place, answers, counted, decideFinal, decideRest, differences, ownPlace, placesOf, readsOf, treated}
 use Rattle.definition.specs.Domain.{foldAt, shiftPoint}
-use Rattle.definition.specs.Field.{Field, fieldOf}
+use Rattle.definition.specs.Field.{Element, Field, elementsIn, numberIn}
 use Rattle.definition.specs.Lists.{firstTrue}
 use Rattle.definition.specs.Polynomial.{Sample, clash, distinct, evaluate, pair}
 use Rattle.definition.specs.Sheet.{Level, Sheet, shiftCount}
 use Rattle.definition.specs.Transcript.{Rest, Round, round}
 use Rattle.definition.specs.Verdict.{Verdict, accepted, refuseAt, refused}
 use Rattle.list_laws.specs.First.{first-below}
-use Rattle.lists.specs.Correcting.{Correcting}
 use Rattle.samples.specs.SampleLaws.{none-clash, some-distinct}
 use Rattle.fractions.specs.declared.Oracle as oracle
 use Rattle.rounds.specs.NextRound.{represents-next}
-use Rattle.fractions.specs.Values.{Fits}
-use Rattle.rounds.specs.RoundLaws.{Represents}
+use Rattle.fractions.specs.Values.{Clear, Fits}
 use Rattle.level_words.specs.declared.State.{State}
 use Rattle.decide_rounds.proofs.ReadsGrow.{reads-grow, tables-grow}
-use Rattle.decide_rounds.proofs.Divisors.{clear-next, outside-next}
 use Rattle.decide_rounds.proofs.Inside.{final-there, finals-below, indices-below, words-there}
 use Rattle.level_words.specs.Words.{rest-end, rest-next}
-use Rattle.level_words.specs.State.{coefficientsOf, currentFold, currentLevel, currentRepetitions, currentTable, finalsOf, nextCombination, nextFold, nextFoldCoin, nextOracle, nextRound, nextShifts, nextSize, nextState, readsAfter, restOf}
-use Rattle.round_words.specs.Handed.{Differing, NextSamples}
-use Rattle.decide_rounds.specs.Invariant.{Decided, Invariant, Represented}
+use Rattle.level_words.specs.State.{coefficientsOf, currentFold, currentLevel, currentRepetitions, currentTable, finalsOf, nextFold, nextFoldCoin, nextOracle, nextRound, nextShifts, nextSize, nextState, readsAfter, restOf}
+use Rattle.round_words.specs.Handed.{Differing, NextCorrecting, NextSamples, sheetPoints}
+use Rattle.decide_rounds.specs.Kinds.{outsFrom}
+use Rattle.decide_rounds.specs.Invariant.{Decided, Invariant, Represented, RepresentsIn}
 
 -- ---- the definition's steps
 
-module _ (F : Field ℕ) (ω : ℕ) (b : Level) (f : Function ℕ) (r : ℕ) (used : List Place) (ρ : Round ℕ) (rest : Rest ℕ) where
+module _ {A : Type 0} (F : Field A) (ω : A) (b : Level) (f : Function A) (r : A) (used : List Place) (ρ : Round A) (rest : Rest A) where
   round-clash : clash F (answers F ω b (f .value) r ρ) ≡ true →
       decideRest F ω b f r used (round ρ rest)
       ≡ record { outcome = refused 8 (ρ .coins .level .number); used = used ++ placesOf b (f .places) (ρ .coins .shifts) }
@@ -50,14 +49,14 @@ module _ (F : Field ℕ) (ω : ℕ) (b : Level) (f : Function ℕ) (r : ℕ) (us
   unfolding decideRest
   round-on e = rw e
 
-next-places : (F : Field ℕ) (ω : ℕ) (g : List (Sample ℕ)) (ρ : Round ℕ) →
+next-places : {A : Type 0} (F : Field A) (ω : A) (g : List (Sample A)) (ρ : Round A) →
     record { value = definition.nextFunction F ω g ρ .value; places = ownPlace (ρ .coins .level) } ≡ definition.nextFunction F ω g ρ
 unfolding definition.nextFunction
 next-places F ω g ρ = refl
 
 -- ---- a round from a place
 
-module _ (h : Sheet) (w pw ac vg : List ℕ) (st : State) (reads r : ℕ) (oracle : oracle.Oracle) (ok : Invariant h w (length pw) (length ac) (length vg) st oracle) (more : st .level < roundsOf h) where
+module _ (h : Sheet) (w pw ac vg : List ℕ) (st : State) (reads : ℕ) (r : Element (h .spelling)) (oracle : oracle.Oracle) (ok : Invariant h w (length pw) (length ac) (length vg) st oracle) (more : st .level < roundsOf h) where
   reads-after : (used : List Place) → All (λ p. p .table < st .level) used → reads ≡ readsOf used →
       readsAfter h st reads (nextShifts h w st) ≡ readsOf (used ++ placesOf (currentLevel h st) (ownPlace (currentLevel h st)) (nextShifts h w st))
   reads-after used before e =
@@ -66,70 +65,66 @@ module _ (h : Sheet) (w pw ac vg : List ℕ) (st : State) (reads r : ℕ) (oracl
   pub clash-step : NextSamples h w pw ac vg st r oracle none → Decided h w pw ac vg st reads r oracle (record { outcome = refused 8 (nextState h st .level); reads = readsAfter h st reads (nextShifts h w st) })
   unfolding nextRound currentLevel counted
   clash-step a = λ ω f used sv e before.
-      let field = getD w 0 0 in
-      let F = fieldOf field in
+      let F = sheetField h in
       let b = currentLevel h st in
       let ρ = nextRound h w st in
-      let fn : Function ℕ = record { value = f; places = ownPlace b } in
+      let fn : Function (Element (h .spelling)) = record { value = f; places = ownPlace b } in
       let c = none-clash F (answers F ω b f r ρ) (a ω b f ρ refl refl refl sv) in
       sym (ap counted (ap (decideRest F ω b fn r used) (rest-next h w st (ok .place .sheet .law .paired) more) ∙ round-clash F ω b fn r used ρ (restOf h w (nextState h st)) c)
       ∙ (λ i. record { outcome = refused 8 (nextState h st .level); reads = sym (reads-after used before e) i }))
 
-  represents-after : (px py pa pv : List ℕ) (j words ω : ℕ) (f : ℕ → ℕ) → Invariant h w (length pw) (length pa) (length pv) (nextState h st) (nextOracle h st (oracle .scale) words) →
+  represents-after : (px py : List (Element (h .spelling))) (pa pv : List ℕ) (j words : ℕ) (ω : Element (h .spelling)) (f : ℕ → Element (h .spelling)) → Invariant h w (length pw) (length pa) (length pv) (nextState h st) (nextOracle h st (oracle .scale) words) →
       NextSamples h w pw ac vg st r oracle (some (pair (drop j px) (drop j py))) → 0 < words →
-      Correcting (getD w 0 0) (pair (drop j px) (drop j py)) (nextCombination h w st) words pa pv →
-      Represents (getD w 0 0) ω (currentLevel h st) f pw (currentTable w st) ac vg oracle (currentFold h st) →
-      Represents (getD w 0 0) ω (currentLevel h (nextState h st))
-      (definition.nextFunction (fieldOf (getD w 0 0)) ω (distinct (fieldOf (getD w 0 0)) (answers (fieldOf (getD w 0 0)) ω (currentLevel h st) f r (nextRound h w st))) (nextRound h w st) .value)
-      pw (currentTable w (nextState h st)) pa pv (nextOracle h st (oracle .scale) words) (currentFold h (nextState h st))
+      NextCorrecting h w st (pair (drop j px) (drop j py)) words pa pv → RepresentsIn h ω f w pw ac vg st oracle →
+      RepresentsIn h ω (definition.nextFunction (sheetField h) ω (distinct (sheetField h) (answers (sheetField h) ω (currentLevel h st) f r (nextRound h w st))) (nextRound h w st) .value)
+      w pw pa pv (nextState h st) (nextOracle h st (oracle .scale) words)
   unfolding nextRound currentLevel nextState nextOracle currentTable shiftCount
   represents-after px py pa pv j words ω f next a more-words given sv =
-      let field = getD w 0 0 in
-      let F = fieldOf field in
+      let F = sheetField h in
       let b = currentLevel h st in
       let ρ = nextRound h w st in
       let e = a ω b f ρ refl refl refl sv in
       let g = some-distinct F (answers F ω b f r ρ) (pair (drop j px) (drop j py)) e .1 in
       let there = words-there h w st (ok .place) more in
-      let n = part-length (st .at) (nextSize st) w (omega arith) in
-      represents-next F ω ρ pw pa pv (nextOracle h st (oracle .scale) words) more-words (subst (λ (t : List (Sample ℕ)). Correcting field t (nextCombination h w st) words pa pv) g given)
-      (sv .powers) (next .scale) (nextFold h st) refl refl (subst (λ (m : ℕ). Fits (length pw) m (nextOracle h st (oracle .scale) words) (nextFold h st)) (sym n) (next .inside .fits))
+      let n = elements-many (h .spelling) (nextSize st) (take (wordsFor h (nextSize st)) (drop (st .at) w)) (part-length (st .at) (wordsFor h (nextSize st)) w (omega (arith, there))) in
+      represents-next F ω ρ (sheetPoints h pw) (elementsIn (h .spelling) pa) (elementsIn (h .spelling) pv) (nextOracle h st (oracle .scale) words) more-words
+      (subst (λ t. NextCorrecting h w st t words pa pv) g given)
+      (sv .powers) (next .scale) (nextFold h st) refl refl
+      (subst (λ (m : ℕ). Fits m (length (ρ .table)) (nextOracle h st (oracle .scale) words) (nextFold h st)) (sym (length-map pw (numberIn (h .spelling))))
+      (subst (λ (m : ℕ). Fits (length pw) m (nextOracle h st (oracle .scale) words) (nextFold h st)) (sym n) (next .inside .fits)))
 
-  module _ (px py pa pv : List ℕ) (j words : ℕ) (next : Invariant h w (length pw) (length pa) (length pv) (nextState h st) (nextOracle h st (oracle .scale) words))
+  module _ (px py : List (Element (h .spelling))) (pa pv : List ℕ) (j words : ℕ) (next : Invariant h w (length pw) (length pa) (length pv) (nextState h st) (nextOracle h st (oracle .scale) words))
       (a : NextSamples h w pw ac vg st r oracle (some (pair (drop j px) (drop j py)))) (more-words : 0 < words)
-      (given : Correcting (getD w 0 0) (pair (drop j px) (drop j py)) (nextCombination h w st) words pa pv) where
-    pub represented-next : length py ≡ length px → Represented h w pw ac vg st oracle → Represented h w pw pa pv (nextState h st) (nextOracle h st (oracle .scale) words)
-    represented-next long s = record {
-      ω = s .ω;
+      (given : NextCorrecting h w st (pair (drop j px) (drop j py)) words pa pv) where
+    pub represented-next : Represented h w pw ac vg st oracle → Clear (getD w 0 0) pw (nextState h st .size) pv (nextOracle h st (oracle .scale) words) →
+        outsFrom h w (nextState h st) ≡ none → Represented h w pw pa pv (nextState h st) (nextOracle h st (oracle .scale) words)
+    represented-next s clear outside = record {
       f = _;
-      prime = s .prime;
-      represents = represents-after px py pa pv j words (s .ω) (s .f) next a more-words given (s .represents);
-      root = s .root;
-      clear = clear-next h w pw ac vg st oracle ok more s r px py j long a _ words pa pv next given;
-      outside = outside-next h w pw ac vg st oracle ok more s;
+      represents = represents-after px py pa pv j words (sheetRoot h) (s .f) next a more-words given (s .represents);
+      clear = clear;
+      outside = outside;
     }
 
     pub next-step : {v : Verdict} → Decided h w pw pa pv (nextState h st) (readsAfter h st reads (nextShifts h w st)) (nextFoldCoin h w st) (nextOracle h st (oracle .scale) words) v →
         Decided h w pw ac vg st reads r oracle v
     unfolding nextRound currentLevel nextState
     next-step d = λ ω f used sv e before.
-        let field = getD w 0 0 in
-        let F = fieldOf field in
+        let F = sheetField h in
         let b = currentLevel h st in
         let ρ = nextRound h w st in
-        let fn : Function ℕ = record { value = f; places = ownPlace b } in
+        let fn : Function (Element (h .spelling)) = record { value = f; places = ownPlace b } in
         let g = distinct F (answers F ω b f r ρ) in
         let now = used ++ placesOf b (ownPlace b) (nextShifts h w st) in
         let c = some-distinct F (answers F ω b f r ρ) (pair (drop j px) (drop j py)) (a ω b f ρ refl refl refl sv) in
         d ω (definition.nextFunction F ω g ρ .value) now (represents-after px py pa pv j words ω f next a more-words given sv) (reads-after used before e)
         (tables-grow h st used before (nextShifts h w st))
-        ∙ ap (λ (fn′ : Function ℕ). counted (decideRest F ω (currentLevel h (nextState h st)) fn′ (nextFoldCoin h w st) now (restOf h w (nextState h st)))) (next-places F ω g ρ)
+        ∙ ap (λ (fn′ : Function (Element (h .spelling))). counted (decideRest F ω (currentLevel h (nextState h st)) fn′ (nextFoldCoin h w st) now (restOf h w (nextState h st)))) (next-places F ω g ρ)
         ∙ sym (ap counted (ap (decideRest F ω b fn r used) (rest-next h w st (ok .place .sheet .law .paired) more)
         ∙ round-on F ω b fn r used ρ (restOf h w (nextState h st)) (c .0)))
 
 -- ---- the final comparison from a place
 
-module _ (h : Sheet) (w pw ac vg : List ℕ) (st : State) (reads r : ℕ) (oracle : oracle.Oracle) (ok : Invariant h w (length pw) (length ac) (length vg) st oracle) (end : st .level ≡ roundsOf h) where
+module _ (h : Sheet) (w pw ac vg : List ℕ) (st : State) (reads : ℕ) (r : Element (h .spelling)) (oracle : oracle.Oracle) (ok : Invariant h w (length pw) (length ac) (length vg) st oracle) (end : st .level ≡ roundsOf h) where
   finals-length : length (finalsOf h w st) ≡ currentRepetitions h st
   unfolding finalsOf
   finals-length = part-length _ (currentRepetitions h st) w (final-there h w st (ok .place) end)
@@ -139,27 +134,28 @@ module _ (h : Sheet) (w pw ac vg : List ℕ) (st : State) (reads r : ℕ) (oracl
       Represented h w pw ac vg st oracle → place < currentRepetitions h st
   unfolding differences
   place-few place a s =
-      let F = fieldOf (getD w 0 0) in
+      let F = sheetField h in
       let b = currentLevel h st in
       omega (
         arith,
         finals-length,
-        first-below 0 (differences F (s .ω) b (s .f) r (coefficientsOf h w st) (finalsOf h w st)) place (sym (a (s .ω) b (s .f) (s .represents))),
-        length-map (finalsOf h w st) (λ j. not (F .equal (evaluate F (coefficientsOf h w st) (shiftPoint F (s .ω) b j)) (foldAt F (s .ω) b (s .f) r j))),
+        first-below 0 (differences F (sheetRoot h) b (s .f) r (elementsIn (h .spelling) (coefficientsOf h w st)) (finalsOf h w st)) place (sym (a (sheetRoot h) b (s .f) (s .represents))),
+        length-map (finalsOf h w st) (λ j. not (F .equal (evaluate F (elementsIn (h .spelling) (coefficientsOf h w st)) (shiftPoint F (sheetRoot h) b j)) (foldAt F (sheetRoot h) b (s .f) r j))),
       )
 
   finals-all : All (λ j. j < st .size / currentFold h st) (finalsOf h w st)
   finals-all = all-places _ (finalsOf h w st) 0 (finals-below h w st (ok .place) end)
 
   -- the final comparison, where the place of the first difference is known
-  compared : (ω : ℕ) (f : ℕ → ℕ) (used : List Place) (fault : Option ℕ) → fault ≡ firstTrue 0 (differences (fieldOf (getD w 0 0)) ω (currentLevel h st) f r (coefficientsOf h w st) (finalsOf h w st)) →
-      decideRest (fieldOf (getD w 0 0)) ω (currentLevel h st) (record { value = f; places = ownPlace (currentLevel h st) }) r used (restOf h w st)
+  compared : (ω : Element (h .spelling)) (f : ℕ → Element (h .spelling)) (used : List Place) (fault : Option ℕ) →
+      fault ≡ firstTrue 0 (differences (sheetField h) ω (currentLevel h st) f r (elementsIn (h .spelling) (coefficientsOf h w st)) (finalsOf h w st)) →
+      decideRest (sheetField h) ω (currentLevel h st) (record { value = f; places = ownPlace (currentLevel h st) }) r used (restOf h w st)
       ≡ record { outcome = refuseAt 9 fault; used = used ++ placesOf (currentLevel h st) (ownPlace (currentLevel h st)) (treated (finalsOf h w st) fault) }
   unfolding decideRest decideFinal
   compared ω f used fault z =
       let b = currentLevel h st in
-      let fn : Function ℕ = record { value = f; places = ownPlace b } in
-      ap (decideRest (fieldOf (getD w 0 0)) ω b fn r used) (rest-end h w st (ok .place .sheet .law .paired) end)
+      let fn : Function (Element (h .spelling)) = record { value = f; places = ownPlace b } in
+      ap (decideRest (sheetField h) ω b fn r used) (rest-end h w st (ok .place .sheet .law .paired) end)
       ∙ (λ i. record { outcome = refuseAt 9 (sym z i); used = used ++ placesOf b (ownPlace b) (treated (finalsOf h w st) (sym z i)) })
 
   -- all final coins are treated, or those up to and with the failing one

@@ -5,19 +5,20 @@ use mathlib.Core.List.{List}
 use mathlib.Core.Option.{none}
 use lib.ListN.{length, getD, drop}
 use Rattle.list_laws.specs.All.{All}
+use Rattle.layouts.specs.EachWord.{Front, InRange}
 use Rattle.layouts.specs.Lawful.{Lawful}
-use Rattle.layouts.specs.Levels.{roundsOf}
+use Rattle.layouts.specs.Levels.{roundsOf, sheetField, sheetRoot}
 use Rattle.definition.specs.Deciding.{Place, counted, decideRest, ownPlace, readsOf}
-use Rattle.definition.specs.Field.{fieldOf, primeOf}
-use Rattle.definition.specs.Sheet.{Sheet, rootOfUnity}
+use Rattle.definition.specs.Field.{Element, elementsIn}
+use Rattle.definition.specs.Sheet.{Sheet}
 use Rattle.definition.specs.Verdict.{Verdict}
 use Rattle.fractions.specs.declared.Oracle.{Oracle}
 use Rattle.fractions.specs.Values.{Clear}
-use Rattle.rounds.specs.RoundLaws.{Represents}
+use Rattle.rounds.specs.RoundLaws.{RepresentsOver}
 use Rattle.level_words.specs.declared.State.{State}
 use Rattle.level_words.specs.State.{currentFold, currentLevel, currentTable, restOf}
-use Rattle.round_words.specs.Handed.{TableInside}
-use Rattle.decide_rounds.specs.Kinds.{PrefixInRange, kindsOf, outsFrom}
+use Rattle.round_words.specs.Handed.{TableInside, sheetPoints}
+use Rattle.decide_rounds.specs.Kinds.{kindsOf, outsFrom}
 
 -- a folding number: a power of two from 2 to 16
 pub record Folding (k : ℕ) : Type 0 where
@@ -37,32 +38,35 @@ pub record Placed (h : Sheet) (w : List ℕ) (st : State) : Type 0 where
   pub sheet : Shaped h
   pub level : st .level ≤ roundsOf h
   pub here : st .at ≤ length w
-  pub words : PrefixInRange (h .prime) (kindsOf h st) (drop (st .at) w)
+  pub words : Front (InRange h) (kindsOf h st) (drop (st .at) w)
   pub points : st .size ≤ 4096
 
 -- At a place with a way to work out the level's function: what the code needs for that, and the sizes, which go down by powers of two. The numbers are those of
--- points, of coefficients of A, and of V and the geometric sum.
+-- points, and of the words for A, and for V and the geometric sum.
 pub record Invariant (h : Sheet) (w : List ℕ) (points answers factors : ℕ) (st : State) (oracle : Oracle) : Type 0 where
   pub place : Placed h w st
   pub size : st .size ≡ h .size / 2 ^ st .level
   pub scale : oracle .scale ≡ 2 ^ st .level
   pub inside : TableInside h w points answers factors st oracle
 
+-- The words in hand are those of the function f at the level, in the sheet's field.
+abbrev pub RepresentsIn : (h : Sheet) → Element (h .spelling) → (ℕ → Element (h .spelling)) → List ℕ → List ℕ → List ℕ → List ℕ → State → Oracle → Type 0
+RepresentsIn h ω f w pw ac vg st oracle =
+    RepresentsOver (sheetField h) ω (currentLevel h st) f (sheetPoints h pw) (elementsIn (h .spelling) (currentTable h w st)) (elementsIn (h .spelling) ac) (elementsIn (h .spelling) vg)
+    oracle (currentFold h st)
+
 -- The words in hand are those of some function at the level, for the sheet's field and its ω. At no point of the level's domain is V 0, and no out coin still to
 -- come lies in its domain, so that nothing is divided by 0.
 pub record Represented (h : Sheet) (w pw ac vg : List ℕ) (st : State) (oracle : Oracle) : Type 0 where
-  pub ω : ℕ
-  pub f : ℕ → ℕ
-  pub prime : h .prime ≡ primeOf (getD w 0 0)
-  pub represents : Represents (getD w 0 0) ω (currentLevel h st) f pw (currentTable w st) ac vg oracle (currentFold h st)
-  pub root : ω ≡ rootOfUnity h
+  pub f : ℕ → Element (h .spelling)
+  pub represents : RepresentsIn h (sheetRoot h) f w pw ac vg st oracle
   pub clear : Clear (getD w 0 0) pw (st .size) vg oracle
   pub outside : outsFrom h w st ≡ none
 
 -- v is the definition's verdict from the place on with fold coin r, for every ω and function that the words in hand are those of, and all places in tables of
 -- levels before with as many reads
-abbrev pub Decided : Sheet → List ℕ → List ℕ → List ℕ → List ℕ → State → ℕ → ℕ → Oracle → Verdict → Type 0
+abbrev pub Decided : (h : Sheet) → List ℕ → List ℕ → List ℕ → List ℕ → State → ℕ → Element (h .spelling) → Oracle → Verdict → Type 0
 Decided h w pw ac vg st reads r oracle v =
-    (ω : ℕ) (f : ℕ → ℕ) (used : List Place) → Represents (getD w 0 0) ω (currentLevel h st) f pw (currentTable w st) ac vg oracle (currentFold h st) →
+    (ω : Element (h .spelling)) (f : ℕ → Element (h .spelling)) (used : List Place) → RepresentsIn h ω f w pw ac vg st oracle →
     reads ≡ readsOf used → All (λ p. p .table < st .level) used →
-    v ≡ counted (decideRest (fieldOf (getD w 0 0)) ω (currentLevel h st) (record { value = f; places = ownPlace (currentLevel h st) }) r used (restOf h w st))
+    v ≡ counted (decideRest (sheetField h) ω (currentLevel h st) (record { value = f; places = ownPlace (currentLevel h st) }) r used (restOf h w st))

@@ -2,35 +2,35 @@
 use Prim.Native.Nat.{ℕ, suc, _+_, _≤_}
 use native.Mathlib.Omega.{arith}
 use mathlib.Core.Path.{_≡_, refl, sym, ap, _∙_, subst}
-use mathlib.Core.List.{List, [], _∷_, zipWith}
+use mathlib.Core.List.{List, [], _++_, zipWith}
 use mathlib.Core.Option.{none}
 use lib.ListN.{length, getD, take, drop, replicate, length-append, length-drop, length-replicate}
-use lib.Seq.{drop-drop, getD-drop, getD-take}
+use lib.Seq.{drop-drop, getD-take}
 use Rattle.list_laws.specs.Lists.{tail-drop}
 use Rattle.layouts.specs.Lawful.{lawful, rounds-word, times-word}
 use Rattle.layouts.specs.LevelsByNumber.{undivided}
-use Rattle.layouts.specs.Levels.{roundsOf}
+use Rattle.layouts.specs.EachWord.{Front, InRange, front-at, front-false, front-none}
+use Rattle.layouts.specs.Levels.{elementAt, roundsOf, sheetField, sheetRoot, wordsFor}
+use Rattle.layouts.specs.Spellings.{count-zero, read-drop}
 use Rattle.layouts.specs.SheetRules.{fold-words, folding-large, folding-log, folding-small, long-enough, rounds-most}
 use Rattle.layouts.specs.Tests.{at-none, at-passes}
 use Rattle.definition.specs.Deciding.{counted, decide, decideRest, readsOf, tableFunction}
-use Rattle.definition.specs.Field.{fieldOf, primeField, primeOf}
+use Rattle.definition.specs.Field.{elementsIn, numberIn}
 use Rattle.definition.specs.Layout.{Kind, coin, layout, message, readRest, readTranscript, restLayout, wordsDue}
 use Rattle.definition.specs.Lists.{different, firstTrue}
 use Rattle.definition.specs.Reading.{outOfRange, rangeTest, sheetTest}
-use Rattle.definition.specs.Sheet.{Edition, Sheet, firstLevel, foldWords, laterLevels, rootOfUnity, sheetLength, sheetOf, shiftCount}
+use Rattle.definition.specs.Sheet.{Edition, Sheet, firstLevel, foldWords, laterLevels, sheetLength, sheetOf, shiftCount}
 use Rattle.definition.specs.Verdict.{Verdict, accepted}
-use Rattle.domain.specs.Powers.{Powers}
+use Rattle.domain.specs.Powers.{PowersOver}
 use Rattle.rounds.specs.NextRound.{represents-first}
-use Rattle.fractions.specs.Values.{Fits}
-use Rattle.rounds.specs.RoundLaws.{Represents}
-use Rattle.level_words.specs.declared.State.{State}
+use Rattle.fractions.specs.Values.{Clear, Fits}
 use Rattle.decide_rounds.specs.Sizes.{divided}
-use Rattle.level_words.specs.State.{afterFold, currentFold, currentLevel, currentTable, firstOracle, firstState, laterLevelsAt, restOf}
+use Rattle.level_words.specs.State.{afterFold, currentLevel, currentTable, firstOracle, firstState, laterLevelsAt, restOf}
 use Rattle.level_words.specs.Inside.{Written}
-use Rattle.decide_rounds.specs.Kinds.{PrefixInRange, kindsOf, outsFrom}
+use Rattle.round_words.specs.Handed.{sheetPoints}
+use Rattle.decide_rounds.specs.Kinds.{kindsOf, outsFrom}
 use Rattle.out_coins.specs.Kinds.{kindsAfterFold}
-use Rattle.decide_rounds.specs.Invariant.{Decided, Folding, Invariant, Placed, Represented, Shaped}
-use Rattle.deciding.proofs.Tested.{prefix-tested, tested-after}
+use Rattle.decide_rounds.specs.Invariant.{Decided, Folding, Invariant, Placed, Represented, RepresentsIn, Shaped}
 
 -- ---- the sheet of given words
 
@@ -58,6 +58,7 @@ module _ (ed : Edition) (w : List ℕ) (long : sheetLength ed ≤ length w) (pas
   written = record {
     long = long-enough ed w long;
     sheet = long;
+    spelling = refl;
     prime = refl;
     size = refl;
     degree = refl;
@@ -86,22 +87,33 @@ module _ (from : ℕ) (h : Sheet) where
   later-levels = rw (tail-drop 0 (h .folds), tail-drop 0 (h .repetitions))
 
   pub first-kinds : kindsAfterFold h ≡ kindsOf h (firstState from h)
-  first-kinds = λ i. restLayout (h .outCoins) (first-level i) (later-levels i)
+  first-kinds = λ i. restLayout (h .spelling) (h .outCoins) (first-level i) (later-levels i)
 
   module _ (w : List ℕ) where
-    first-words : drop 1 (drop (h .size) (drop from w)) ≡ drop (afterFold from h) w
-    first-words = ap (drop 1) (drop-drop (h .size) from w) ∙ drop-drop 1 (from + h .size) w
+    first-words : drop (wordsFor h 1) (drop (wordsFor h (h .size)) (drop from w)) ≡ drop (afterFold from h) w
+    first-words = ap (drop (wordsFor h 1)) (drop-drop (wordsFor h (h .size)) from w) ∙ drop-drop (wordsFor h 1) (from + wordsFor h (h .size)) w
 
-    first-fold : getD (drop (h .size) (drop from w)) 0 0 ≡ getD w (from + h .size) 0
+    first-fold : getD (elementsIn (h .spelling) (drop (wordsFor h (h .size)) (drop from w))) 0 (numberIn (h .spelling) 0) ≡ elementAt (h .spelling) w (from + wordsFor h (h .size))
     first-fold =
-        let e : from + h .size + 0 ≡ from + h .size = omega arith in
-        ap (λ (l : List ℕ). getD l 0 0) (drop-drop (h .size) from w) ∙ getD-drop (from + h .size) w 0 0 ∙ ap (λ (m : ℕ). getD w m 0) e
+        let σ = h .spelling in
+        let at = from + wordsFor h (h .size) in
+        let e : at + wordsFor h 0 ≡ at = omega (arith, count-zero σ) in
+        ap (λ (l : List ℕ). getD (elementsIn σ l) 0 (numberIn σ 0)) (drop-drop (wordsFor h (h .size)) from w) ∙ read-drop σ w at 0 ∙ ap (elementAt σ w) e
 
     -- all words due are there
     module _ (due : from + length (layout h) ≤ length w) where
       pub kinds-there : afterFold from h + length (kindsAfterFold h) ≤ length w
       unfolding layout
-      kinds-there = omega (arith, length-append (replicate (h .size) message) (coin ∷ kindsAfterFold h), length-replicate (h .size) message)
+      kinds-there =
+          let n = wordsFor h (h .size) in
+          let c = wordsFor h 1 in
+          omega (
+            arith,
+            length-append (replicate n message) (replicate c coin ++ kindsAfterFold h),
+            length-append (replicate c coin) (kindsAfterFold h),
+            length-replicate n message,
+            length-replicate c coin,
+          )
 
       pub first-room : afterFold from h ≤ length w
       first-room = omega (arith, kinds-there)
@@ -110,18 +122,20 @@ module _ (from : ℕ) (h : Sheet) where
       pub range-after : rangeTest h from (layout h) w ≡ accepted → rangeTest h (afterFold from h) (kindsAfterFold h) w ≡ accepted
       unfolding rangeTest layout
       range-after e =
-          let test = outOfRange h in
-          at-none 5 _
-          (tested-after test (coin ∷ []) (kindsAfterFold h) w (from + h .size) 1 refl (omega (arith, first-room))
-          (tested-after test (replicate (h .size) message) (coin ∷ kindsAfterFold h) w from (h .size) (length-replicate (h .size) message) (omega (arith, first-room))
-          (at-passes 5 (firstTrue from (zipWith test (layout h) (drop from w))) e)))
+          let n = wordsFor h (h .size) in
+          let c = wordsFor h 1 in
+          let all : Front (InRange h) (layout h) (drop from w) = front-false (outOfRange h) from (layout h) (drop from w) (omega (arith, length-drop from w))
+          (at-passes 5 (firstTrue from (zipWith (outOfRange h) (layout h) (drop from w))) e) in
+          let table = front-at (InRange h) n (replicate n message) (replicate c coin ++ kindsAfterFold h) (drop from w) (length-replicate n message) all in
+          let coins = front-at (InRange h) c (replicate c coin) (kindsAfterFold h) (drop n (drop from w)) (length-replicate c coin) (table .1) in
+          at-none 5 _ (front-none (outOfRange h) (afterFold from h) (kindsAfterFold h) (drop (afterFold from h) w) (subst (Front (InRange h) (kindsAfterFold h)) first-words (coins .1)))
 
       module _ (x : Shaped h) (ranged : rangeTest h (afterFold from h) (kindsAfterFold h) w ≡ accepted) where
-        first-prefix : PrefixInRange (h .prime) (kindsOf h (firstState from h)) (drop (afterFold from h) w)
+        first-front : Front (InRange h) (kindsOf h (firstState from h)) (drop (afterFold from h) w)
         unfolding rangeTest
-        first-prefix =
-            subst (λ (ks : List Kind). PrefixInRange (h .prime) ks (drop (afterFold from h) w)) first-kinds
-            (prefix-tested h (afterFold from h) (kindsAfterFold h) (drop (afterFold from h) w) (omega (arith, kinds-there, length-drop (afterFold from h) w))
+        first-front =
+            subst (λ (ks : List Kind). Front (InRange h) ks (drop (afterFold from h) w)) first-kinds
+            (front-false (outOfRange h) (afterFold from h) (kindsAfterFold h) (drop (afterFold from h) w) (omega (arith, kinds-there, length-drop (afterFold from h) w))
             (at-passes 5 (firstTrue (afterFold from h) (zipWith (outOfRange h) (kindsAfterFold h) (drop (afterFold from h) w))) ranged))
 
         pub placed-first : Placed h w (firstState from h)
@@ -130,7 +144,7 @@ module _ (from : ℕ) (h : Sheet) where
           sheet = x;
           level = omega arith;
           here = first-room;
-          words = first-prefix;
+          words = first-front;
           points = x .law .small;
         }
 
@@ -151,7 +165,7 @@ module _ (from : ℕ) (h : Sheet) where
               used = omega arith;
             }
 
-        pub invariant-first : (points answers factors : ℕ) → points ≡ h .size → answers ≡ 66 → factors ≡ 132 →
+        pub invariant-first : (points answers factors : ℕ) → points ≡ h .size → answers ≡ wordsFor h 66 → factors ≡ wordsFor h 132 →
             Invariant h w points answers factors (firstState from h) (firstOracle h)
         unfolding firstState firstOracle
         invariant-first points answers factors e a g = record {
@@ -168,36 +182,28 @@ module _ (from : ℕ) (h : Sheet) where
           };
         }
 
-    module _ (pw ac vg : List ℕ) (points : Powers (getD w 0 0) (rootOfUnity h) pw) where
-      first-represents : Represents (getD w 0 0) (rootOfUnity h) (currentLevel h (firstState from h))
-          (tableFunction (fieldOf (getD w 0 0)) (rootOfUnity h) (currentLevel h (firstState from h)) (currentTable w (firstState from h)) .value) pw (currentTable w (firstState from h)) ac vg (firstOracle h)
-          (currentFold h (firstState from h))
+    module _ (pw ac vg : List ℕ) (powers : PowersOver (sheetField h) (sheetRoot h) (sheetPoints h pw)) where
+      first-represents : RepresentsIn h (sheetRoot h)
+          (tableFunction (sheetField h) (sheetRoot h) (currentLevel h (firstState from h)) (elementsIn (h .spelling) (currentTable h w (firstState from h))) .value) w pw ac vg (firstState from h) (firstOracle h)
       unfolding firstOracle firstState currentLevel shiftCount
       first-represents =
-          represents-first (fieldOf (getD w 0 0)) (rootOfUnity h) (currentLevel h (firstState from h)) pw (currentTable w (firstState from h)) ac vg (firstOracle h) (getD (h .folds) 0 0) points refl refl refl refl
+          let σ = h .spelling in
+          represents-first (sheetField h) (sheetRoot h) (currentLevel h (firstState from h)) (sheetPoints h pw) (elementsIn σ (currentTable h w (firstState from h))) (elementsIn σ ac) (elementsIn σ vg)
+          (firstOracle h) (getD (h .folds) 0 0) powers refl refl refl refl
 
-      pub represented-first : h .prime ≡ primeOf (getD w 0 0) → outsFrom h w (firstState from h) ≡ none → Represented h w pw ac vg (firstState from h) (firstOracle h)
-      unfolding firstOracle
-      represented-first prime outside = record {
-        ω = _;
-        f = _;
-        prime = prime;
-        represents = first-represents;
-        root = refl;
-        clear = record { ω = _; powers = points; nonzero = λ m l some. absurd (omega arith) };
-        outside = outside;
-      }
+      pub represented-first : Clear (getD w 0 0) pw (firstState from h .size) vg (firstOracle h) → outsFrom h w (firstState from h) ≡ none →
+          Represented h w pw ac vg (firstState from h) (firstOracle h)
+      represented-first clear outside = record { f = _; represents = first-represents; clear = clear; outside = outside }
 
       -- the definition's deciding is that from the first place on, with fold coin 0
-      pub first-step : {v : Verdict} → h .prime ≡ primeOf (getD w 0 0) → Decided h w pw ac vg (firstState from h) 0 (getD w (from + h .size) 0) (firstOracle h) v →
-          v ≡ counted (decide (primeField (h .prime)) (rootOfUnity h) (firstLevel h) (readTranscript h (drop from w)))
-      unfolding decide readTranscript fieldOf tableFunction restOf firstState currentTable readsOf different
-      first-step prime d =
-          let ω = rootOfUnity h in
-          let F = fieldOf (getD w 0 0) in
-          let n = h .size in
-          let first : State = firstState from h in
+      pub first-step : {v : Verdict} → Decided h w pw ac vg (firstState from h) 0 (elementAt (h .spelling) w (from + wordsFor h (h .size))) (firstOracle h) v →
+          v ≡ counted (decide (sheetField h) (sheetRoot h) (firstLevel h) (readTranscript (h .spelling) h (drop from w)))
+      unfolding decide readTranscript tableFunction restOf firstState currentTable readsOf different
+      first-step d =
+          let ω = sheetRoot h in
+          let F = sheetField h in
+          let σ = h .spelling in
+          let n = wordsFor h (h .size) in
           d ω _ [] first-represents refl tt
-          ∙ (λ i. counted (decideRest F ω (sym first-level i) (tableFunction F ω (sym first-level i) (take n (drop from w))) (sym first-fold i) []
-          (readRest (h .outCoins) (sym first-level i) (sym later-levels i) (sym first-words i))))
-          ∙ (λ i. counted (decide (primeField (sym prime i)) ω (firstLevel h) (readTranscript h (drop from w))))
+          ∙ (λ i. counted (decideRest F ω (sym first-level i) (tableFunction F ω (sym first-level i) (elementsIn σ (take n (drop from w)))) (sym first-fold i) []
+          (readRest σ (h .outCoins) (sym first-level i) (sym later-levels i) (sym first-words i))))

@@ -1,4 +1,3 @@
-pub mod Tested
 pub mod First
 pub mod Outs
 pub mod Ready

@@ -1,4 +1,4 @@
--- Deciding: refusals 7, 14, 8 and 9, and the reads (01, Verify, prove, encode; 02, CR 6 and 8; 000, Construction 5.2, decision phase).
+-- Deciding: refusals 7, 14, 8 and 9, and the reads (01, Verify, prove, encode; 02, CR 6, 8 and 11; 000, Construction 5.2, decision phase).
 use Prim.Native.Nat.{ℕ, suc}
 use mathlib.Core.Bool.{Bool, false, not, cond, _&&_}
 use mathlib.Core.List.{List, [], _∷_, _++_, map, flatMap, zipWith}
@@ -6,7 +6,7 @@ use mathlib.Core.Option.{Option, none, some}
 use lib.Dec.{eqb}
 use lib.ListN.{length, getD, take, drop}
 use Rattle.definition.specs.Lists.{different, firstTrue}
-use Rattle.definition.specs.Field.{Field, primeField}
+use Rattle.definition.specs.Field.{Field, Spelling, Element, fieldIn, numberIn, begunBy}
 use Rattle.definition.specs.Sheet.{Edition, Sheet, Level, sheetOf, sheetLength, firstLevel, rootOfUnity}
 use Rattle.definition.specs.Polynomial.{Sample, pair, evaluate, clash, distinct, correctedValue}
 use Rattle.definition.specs.Domain.{point, inDomain, shiftPoint, foldAt, rootNumbers}
@@ -14,45 +14,52 @@ use Rattle.definition.specs.Transcript.{Round, Rest, final, round, Trans
 use Rattle.definition.specs.Layout.{Kind, message, coin, out, index, layout, readTranscript}
 use Rattle.definition.specs.Verdict.{Outcome, refused, Verdict, refuseAt, _then_, thenVerdict}
 
--- is a word of a kind an out coin of round i that lies in domain i?
-unfoldable pub outInDomain : Sheet → Kind → ℕ → Bool
-outInDomain h message x = false
-outInDomain h coin x = false
-outInDomain h (out l) x = inDomain (primeField (h .prime)) (rootOfUnity h) l x
-outInDomain h (index n) x = false
+-- The tests of out coins go by words: the element x is the one that a word of a kind begins, and counts where that word is the first of an out coin.
+
+-- is x an out coin of round i that lies in domain i?
+unfoldable pub outInDomain : (σ : Spelling) → Sheet → Kind → Element σ → Bool
+outInDomain σ h message x = false
+outInDomain σ h coin x = false
+outInDomain σ h (out l) x = inDomain (fieldIn σ (h .prime)) (numberIn σ (rootOfUnity h)) l x
+outInDomain σ h (index n) x = false
 
 -- 7: of the words from a number on, whose kinds are given, an out coin of round i that lies in domain i, at the word number of the first
 unfoldable pub outTest : Sheet → ℕ → List Kind → List ℕ → Outcome
-outTest h from kinds w = refuseAt 7 (firstTrue from (zipWith (outInDomain h) kinds (drop from w)))
+outTest h from kinds w =
+    let σ = h .spelling in
+    refuseAt 7 (firstTrue from (zipWith (outInDomain σ h) kinds (begunBy σ (drop from w))))
 
--- is x equal to the out coin before it, if there is one?
-unfoldable pub sameAs : Option ℕ → ℕ → Bool
-sameAs none x = false
-sameAs (some y) x = eqb x y
-
--- the out coin before the next word, after a word x of a kind: a round's out coins end at a message or an index
-unfoldable pub outBefore : Option ℕ → Kind → ℕ → Option ℕ
+-- the out coin before the next word, after a word of a kind that begins x: a round's out coins end at a message or an index
+unfoldable pub outBefore : {A : Type 0} → Option A → Kind → A → Option A
 outBefore before message x = none
 outBefore before coin x = before
 outBefore before (out l) x = some x
 outBefore before (index n) x = none
 
--- is a word of a kind an out coin equal to the one before it in its round, if there is one?
-unfoldable pub outRepeated : Option ℕ → Kind → ℕ → Bool
-outRepeated before message x = false
-outRepeated before coin x = false
-outRepeated before (out l) x = sameAs before x
-outRepeated before (index n) x = false
+module _ {A : Type 0} (F : Field A) where
+  -- is x equal to the out coin before it, if there is one?
+  unfoldable pub sameAs : Option A → A → Bool
+  sameAs none x = false
+  sameAs (some y) x = F .equal x y
 
--- this, of each word
-unfoldable pub repeatedOuts : Option ℕ → List Kind → List ℕ → List Bool
-repeatedOuts before [] w = []
-repeatedOuts before (k ∷ ks) [] = []
-repeatedOuts before (k ∷ ks) (x ∷ w) = outRepeated before k x ∷ repeatedOuts (outBefore before k x) ks w
+  -- is x an out coin equal to the one before it in its round, if there is one?
+  unfoldable pub outRepeated : Option A → Kind → A → Bool
+  outRepeated before message x = false
+  outRepeated before coin x = false
+  outRepeated before (out l) x = sameAs before x
+  outRepeated before (index n) x = false
+
+  -- this, of each word
+  unfoldable pub repeatedOuts : Option A → List Kind → List A → List Bool
+  repeatedOuts before [] xs = []
+  repeatedOuts before (k ∷ ks) [] = []
+  repeatedOuts before (k ∷ ks) (x ∷ xs) = outRepeated before k x ∷ repeatedOuts (outBefore before k x) ks xs
 
 -- 14: of the words from a number on, whose kinds are given, the second of two equal out coins of a round, at the word number of the first such
 unfoldable pub equalTest : Sheet → ℕ → List Kind → List ℕ → Outcome
-equalTest h from kinds w = refuseAt 14 (firstTrue from (repeatedOuts none kinds (drop from w)))
+equalTest h from kinds w =
+    let σ = h .spelling in
+    refuseAt 14 (firstTrue from (repeatedOuts (fieldIn σ (h .prime)) none kinds (begunBy σ (drop from w))))
 
 -- the tests of out coins: 7 in all rounds, then 14, before any test 8
 unfoldable pub outTests : Sheet → ℕ → List Kind → List ℕ → Outcome
@@ -153,5 +160,6 @@ module _ {A : Type 0} (F : Field A) (ω : A) where
 unfoldable pub deciding : Edition → List ℕ → Verdict
 deciding e w =
     let h = sheetOf e w in
+    let σ = h .spelling in
     thenVerdict (outTests h (sheetLength e) (layout h) w)
-    (counted (decide (primeField (h .prime)) (rootOfUnity h) (firstLevel h) (readTranscript h (drop (sheetLength e) w))))
+    (counted (decide (fieldIn σ (h .prime)) (numberIn σ (rootOfUnity h)) (firstLevel h) (readTranscript σ h (drop (sheetLength e) w))))

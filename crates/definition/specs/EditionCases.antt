@@ -3,6 +3,7 @@ use Prim.Native.Nat.{ℕ}
 use mathlib.Core.Path.{_≡_, refl}
 use mathlib.Core.List.{List, [], _∷_, _++_}
 use lib.ListN.{take, drop, set, replicate}
+use Rattle.definition.specs.Field.{one}
 use Rattle.definition.specs.Block.{fileOf}
 use Rattle.definition.specs.Sheet.{edition1, edition2, sheetOf}
 use Rattle.definition.specs.Transcript.{final}
@@ -89,12 +90,12 @@ pub record EditionCases : Type 0 where
   -- a file that both editions accept, each as another transcript: other tables, fold coins and final coefficients. So the edition is fixed outside the file
   pub both·as·1 : verifyIn edition1 (fileOf bothEditions) ≡ accept 2
   pub both·as·2 : verifyIn edition2 (fileOf bothEditions) ≡ accept 2
-  pub both·read·as·1 : readTranscript (sheetOf edition1 bothEditions) (drop 12 bothEditions) ≡ record {
+  pub both·read·as·1 : readTranscript one (sheetOf edition1 bothEditions) (drop 12 bothEditions) ≡ record {
     table = 0 ∷ 0 ∷ 0 ∷ 0 ∷ 0 ∷ 2 ∷ 1 ∷ 5 ∷ [];
     fold = 3;
     rest = final (13 ∷ 16 ∷ []) (0 ∷ []);
   }
-  pub both·read·as·2 : readTranscript (sheetOf edition2 bothEditions) (drop 18 bothEditions) ≡ record {
+  pub both·read·as·2 : readTranscript one (sheetOf edition2 bothEditions) (drop 18 bothEditions) ≡ record {
     table = 1 ∷ 5 ∷ 3 ∷ 13 ∷ 16 ∷ 0 ∷ 0 ∷ 0 ∷ [];
     fold = 0;
     rest = final (0 ∷ 0 ∷ []) (0 ∷ []);

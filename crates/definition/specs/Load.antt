@@ -1,4 +1,4 @@
--- The load: a thousand runs that a seed fixes (02, CR 2 and 6), with sheets of edition 1.
+-- The load: a thousand runs that a seed fixes (02, CR 2 and 6), with sheets of edition 1 and fields 0 to 2, whose elements are of one word (02, CR 11).
 use Prim.Native.Nat.{ℕ, zero, suc, _+_, _*_, _/_, _%_, _^_}
 use mathlib.Core.Bool.{Bool, false, not, cond, _||_}
 use mathlib.Core.List.{List, [], _∷_, _++_, map, flatMap}
@@ -7,7 +7,7 @@ use lib.Bits.{bitXor}
 use lib.Dec.{eqb}
 use lib.ListN.{length, getD, take, replicate}
 use Rattle.definition.specs.Lists.{range}
-use Rattle.definition.specs.Field.{knownField}
+use Rattle.definition.specs.Field.{one, primeField, knownField}
 use Rattle.definition.specs.Sheet.{edition1, Sheet, sheetOf, sheetRules, sheetLength}
 use Rattle.definition.specs.Layout.{Kind, message, coin, out, index, layout, coinKinds, limit}
 use Rattle.definition.specs.Block.{wordOf, fileOf}
@@ -70,7 +70,7 @@ drawSheet v = drawWords (sheetLength edition1) [] v
 
 -- is a word of a kind, after an out coin of its round or none, not allowed there: an out coin in its domain, or equal to the one before it?
 unfoldable pub notAllowed : Sheet → Option ℕ → Kind → ℕ → Bool
-notAllowed h before k x = outInDomain h k x || outRepeated before k x
+notAllowed h before k x = outInDomain one h k x || outRepeated (primeField (h .prime)) before k x
 
 -- the smallest element allowed there
 unfoldable pub smallestAllowed : Sheet → Option ℕ → Kind → ℕ

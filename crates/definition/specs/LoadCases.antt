@@ -2,6 +2,7 @@
 use mathlib.Core.Path.{_≡_, refl}
 use mathlib.Core.List.{[], _∷_, map}
 use mathlib.Core.Option.{none, some}
+use Rattle.definition.specs.Field.{one}
 use Rattle.definition.specs.Line.{decimalWithin, decimal, outcomeText, lineOf, refusalLine}
 use Rattle.definition.specs.Load.{step, drawBelow, keep, permits, candidates, permitted, workedSheet, drawWords, drawSheet, notAllowed, smallestAllowed, undrawn, drawOut, drawKind, drawKinds, drawInput, drawnInputs, verdictOn, loadLines, seedOf, loadOutput}
 use Rattle.definition.specs.Layout.{out}
@@ -53,10 +54,10 @@ pub record LoadCases : Type 0 where
   pub none·left·second : drawOut (sheetOf edition1 sheetWords) (some 8) (out round) 0 811107 ≡ record { value = 0; next = 201886211 }
   pub none·left·after·0 : drawOut (sheetOf edition1 sheetWords) (some 0) (out round) 0 3 ≡ record { value = 1; next = 811107 }
   -- where 1 is in the domain, as on no sheet, the smallest after 0 is 2
-  pub smallest·2 : smallestAllowed (record { prime = 17; generator = 1; size = 16; degree = 8; folds = []; outCoins = 2; repetitions = [] }) (some 0) (out round) ≡ 2
+  pub smallest·2 : smallestAllowed (record { spelling = one; prime = 17; generator = 1; size = 16; degree = 8; folds = []; outCoins = 2; repetitions = [] }) (some 0) (out round) ≡ 2
   -- modulo 2, with the domain of 1 alone, a draw after 0 lies in the domain or is 0 again, and both count: one draw and 64 more, which is 65
   -- steps
-  pub again·64·both : drawKind (record { prime = 2; generator = 1; size = 2; degree = 2; folds = []; outCoins = 2; repetitions = [] }) (some 0) (out round) 1
+  pub again·64·both : drawKind (record { spelling = one; prime = 2; generator = 1; size = 2; degree = 2; folds = []; outCoins = 2; repetitions = [] }) (some 0) (out round) 1
       ≡ record { value = 0; next = 244103520 }
   -- a run drawn from 849, and one from 6, which falls back to the worked sheet; one from 56080, whose second out coin was equal to the first
   -- when first drawn, then in the domain; two runs on one generator

@@ -22,8 +22,8 @@ pub record SheetCases : Type 0 where
   pub worked : sheetTest edition1 sheetWords ≡ accepted
   pub most·rounds : sheetTest edition1 (1 ∷ 4096 ∷ 2048 ∷ 2 ∷ 5 ∷ 2 ∷ 48 ∷ 48 ∷ 48 ∷ 48 ∷ 48 ∷ 48 ∷ []) ≡ accepted
   pub largest·fold : sheetTest edition1 (2 ∷ 4096 ∷ 2048 ∷ 16 ∷ 0 ∷ 1 ∷ 48 ∷ 0 ∷ 0 ∷ 0 ∷ 0 ∷ 0 ∷ []) ≡ accepted
-  -- word 0: there is no field 3
-  pub field·3 : sheetTest edition1 (3 ∷ 16 ∷ 8 ∷ 2 ∷ 1 ∷ 1 ∷ 1 ∷ 1 ∷ 0 ∷ 0 ∷ 0 ∷ 0 ∷ []) ≡ refused 3 0
+  -- word 0: there is no field 4
+  pub field·4 : sheetTest edition1 (4 ∷ 16 ∷ 8 ∷ 2 ∷ 1 ∷ 1 ∷ 1 ∷ 1 ∷ 0 ∷ 0 ∷ 0 ∷ 0 ∷ []) ≡ refused 3 0
   pub field·largest : sheetTest edition1 (4294967295 ∷ 16 ∷ 8 ∷ 2 ∷ 1 ∷ 1 ∷ 1 ∷ 1 ∷ 0 ∷ 0 ∷ 0 ∷ 0 ∷ []) ≡ refused 3 0
   -- word 1: 0 and 2 are too small, 12 divides p - 1 and is no power of two, 8192 is too large
   pub n0·0 : sheetTest edition1 (0 ∷ 0 ∷ 8 ∷ 2 ∷ 1 ∷ 1 ∷ 1 ∷ 1 ∷ 0 ∷ 0 ∷ 0 ∷ 0 ∷ []) ≡ refused 3 1
@@ -68,7 +68,7 @@ pub record SheetCases : Type 0 where
   pub t4·0·of·five : sheetTest edition1 (1 ∷ 4096 ∷ 2048 ∷ 2 ∷ 5 ∷ 1 ∷ 1 ∷ 1 ∷ 1 ∷ 1 ∷ 0 ∷ 1 ∷ []) ≡ refused 3 10
   pub t5·0·of·five : sheetTest edition1 (1 ∷ 4096 ∷ 2048 ∷ 2 ∷ 5 ∷ 1 ∷ 1 ∷ 1 ∷ 1 ∷ 1 ∷ 1 ∷ 0 ∷ []) ≡ refused 3 11
   -- of two faulty words the first counts
-  pub words·0·and·11 : sheetTest edition1 (3 ∷ 16 ∷ 8 ∷ 2 ∷ 1 ∷ 1 ∷ 1 ∷ 1 ∷ 0 ∷ 0 ∷ 0 ∷ 1 ∷ []) ≡ refused 3 0
+  pub words·0·and·11 : sheetTest edition1 (4 ∷ 16 ∷ 8 ∷ 2 ∷ 1 ∷ 1 ∷ 1 ∷ 1 ∷ 0 ∷ 0 ∷ 0 ∷ 1 ∷ []) ≡ refused 3 0
   pub words·1·and·2 : sheetTest edition1 (0 ∷ 32 ∷ 1 ∷ 2 ∷ 1 ∷ 1 ∷ 1 ∷ 1 ∷ 0 ∷ 0 ∷ 0 ∷ 0 ∷ []) ≡ refused 3 1
   pub words·2·and·5 : sheetTest edition1 (0 ∷ 16 ∷ 16 ∷ 2 ∷ 1 ∷ 3 ∷ 1 ∷ 1 ∷ 0 ∷ 0 ∷ 0 ∷ 0 ∷ []) ≡ refused 3 2
   pub words·3·and·4 : sheetTest edition1 (0 ∷ 16 ∷ 8 ∷ 1 ∷ 6 ∷ 1 ∷ 1 ∷ 1 ∷ 0 ∷ 0 ∷ 0 ∷ 0 ∷ []) ≡ refused 3 3
@@ -90,7 +90,7 @@ sheetCases = record {
   worked = refl;
   most·rounds = refl;
   largest·fold = refl;
-  field·3 = refl;
+  field·4 = refl;
   field·largest = refl;
   n0·0 = refl;
   n0·2 = refl;

@@ -3,18 +3,18 @@ use Prim.Native.Nat.{ℕ}
 use mathlib.Core.List.{List, [], _∷_, _++_, zipWith, flatMap}
 use lib.ListN.{take, set, replicate}
 use Rattle.definition.specs.Lists.{member, range, chunks, firstTrue, firstOf, productOf, different}
-use Rattle.definition.specs.Field.{Field, digitsWithin, binaryDigits, squaring, powerMod, primeField, foundOr, power, reciprocal, answerFound, knownField, primeOf, generatorOf, fieldOf, inField, sum, difference, product, powerOf, powerTurnsOf, inverseOf}
+use Rattle.definition.specs.Field.{Field, digitsWithin, binaryDigits, squaring, powerMod, primeField, foundOr, whereFound, power, reciprocal, embed, quarticProduct, normFirst, normSecond, norm, inverseBy, quartic, fieldIn, numberIn, wordCount, quads, elementsIn, wordsOf, begunBy, spellingOf, answerFound, knownField, primeOf, generatorOf, fieldOf, inField, sum, difference, product, powerOf, powerTurnsOf, inverseOf, reduced, sum3, difference3, product3, power3, powerTurns3, inverse3}
 use Rattle.definition.specs.Polynomial.{points, pair, evaluate, scale, addPoly, subPoly, mulPoly, vanishing, interpolate, horner, divide, quotient, geometric, foldPoly, sampledAt, distinct, contradicts, clash, correctedValue, correctedPoly}
-use Rattle.definition.specs.Sheet.{Level, foldPlaces, foldWords, sheetOf, between, powerOfTwo, fieldRule, sizeRule, degreeRule, foldingNumber, foldRule, roundsRule, outCoinsRule, repetitionsRule, laterFoldRule, editionRule, laterRules, sheetRules, testOrder, levelsFrom, firstLevel, laterLevels, shiftCount, finalCount, rootOfUnity}
+use Rattle.definition.specs.Sheet.{Level, foldPlaces, foldWords, sheetOf, between, powerOfTwo, fieldRule, largestSize, sizeRule, degreeRule, foldingNumber, foldRule, roundsRule, outCoinsRule, repetitionsRule, laterFoldRule, editionRule, laterRules, sheetRules, testOrder, levelsFrom, firstLevel, laterLevels, shiftCount, finalCount, rootOfUnity}
 use Rattle.definition.specs.Domain.{rootNumbers, point, domain, inDomain, shiftPoint, foldAt}
 use Rattle.definition.specs.Transcript.{roundWords, restWords, transcriptWords}
-use Rattle.definition.specs.Layout.{roundLayout, restLayout, layout, wordsDue, coinKinds, limit, roundCoins, laterCount, readRest, readTranscript, readRounds, readFinals, readCoins}
+use Rattle.definition.specs.Layout.{outLayout, roundLayout, restLayout, layout, wordsDue, coinKinds, limit, roundCoins, laterCount, readRest, readTranscript, readRounds, readFinals, readCoins}
 use Rattle.definition.specs.Block.{lowBytes, bytesOf, wordOf, weightedSum, checkWord, blockCount, blocksOf, blocksWithChecks, fileOf, fileBlocks, streamOf, wrongChecks}
 use Rattle.definition.specs.Verdict.{Verdict, accepted, refused, refuseAt, refuseIf, _then_, thenVerdict}
 use Rattle.definition.specs.Reading.{lengthTest, checkTest, sheetTest, blocksTest, outOfRange, rangeTest, fillTest, bodyTests, streamTests, reading}
 use Rattle.definition.specs.Deciding.{outInDomain, outTest, sameAs, outBefore, outRepeated, repeatedOuts, equalTest, outTests, ownPlace, coinPlaces, placesOf, samePlace, readsOf, counted, treated, answers, tableFunction, nextFunction, differences, decideFinal, decideRest, decide, deciding}
 use Rattle.definition.specs.Verify.{verifyIn, decideFile}
-use Rattle.definition.specs.Prover.{tableOf, samplesOf, honestRound, honestAnswers, nextPoly, honestRest, honest, honestStream}
+use Rattle.definition.specs.Prover.{tableOf, samplesOf, honestRound, honestAnswers, nextPoly, honestRest, honest, tableWords, honestStream}
 use Rattle.definition.specs.Prove.{Result, refusal, finish, sheetLengthTest, coefficientsTest, coinsTest, inputRangeTest, coinDomainTest, coinEqualTest, outputTest, proveTests, proveIn, encodeTests, encode}
 use Rattle.definition.specs.Convert.{spread, bodyOf, forward, backward, foldsTest, convert, toEdition1, toEdition2}
 
@@ -150,15 +150,15 @@ kept number place output = record { answer = refusal number place; output = outp
 -- all definitions, unfolded by this one name
 unfoldable pub definitions : Unit {0}
 unfolding
-    member range chunks firstTrue firstOf productOf different digitsWithin binaryDigits squaring powerMod primeField foundOr power reciprocal answerFound knownField primeOf generatorOf fieldOf inField sum difference product powerOf powerTurnsOf inverseOf
+    member range chunks firstTrue firstOf productOf different digitsWithin binaryDigits squaring powerMod primeField foundOr whereFound power reciprocal embed quarticProduct normFirst normSecond norm inverseBy quartic fieldIn numberIn wordCount quads elementsIn wordsOf begunBy spellingOf answerFound knownField primeOf generatorOf fieldOf inField sum difference product powerOf powerTurnsOf inverseOf reduced sum3 difference3 product3 power3 powerTurns3 inverse3
     points pair evaluate scale addPoly subPoly mulPoly vanishing interpolate horner divide quotient geometric foldPoly sampledAt distinct
-    contradicts clash correctedValue correctedPoly foldPlaces foldWords sheetOf between powerOfTwo fieldRule sizeRule degreeRule foldingNumber foldRule roundsRule
+    contradicts clash correctedValue correctedPoly foldPlaces foldWords sheetOf between powerOfTwo fieldRule largestSize sizeRule degreeRule foldingNumber foldRule roundsRule
     outCoinsRule repetitionsRule laterFoldRule editionRule laterRules sheetRules testOrder levelsFrom firstLevel laterLevels shiftCount finalCount rootOfUnity rootNumbers point domain
-    inDomain shiftPoint foldAt roundWords restWords transcriptWords roundLayout restLayout layout wordsDue coinKinds limit
+    inDomain shiftPoint foldAt roundWords restWords transcriptWords outLayout roundLayout restLayout layout wordsDue coinKinds limit
     roundCoins laterCount readRest readTranscript readRounds readFinals readCoins lowBytes bytesOf wordOf weightedSum checkWord blockCount
     blocksOf blocksWithChecks fileOf fileBlocks streamOf wrongChecks refuseAt refuseIf _then_ thenVerdict lengthTest checkTest sheetTest blocksTest
     outOfRange rangeTest fillTest bodyTests streamTests reading outInDomain outTest sameAs outBefore outRepeated repeatedOuts equalTest outTests ownPlace coinPlaces placesOf samePlace readsOf counted treated answers tableFunction
     nextFunction differences decideFinal decideRest decide deciding verifyIn decideFile tableOf samplesOf honestRound honestAnswers nextPoly honestRest
-    honest honestStream finish sheetLengthTest coefficientsTest coinsTest inputRangeTest coinDomainTest coinEqualTest outputTest proveTests proveIn
+    honest tableWords honestStream finish sheetLengthTest coefficientsTest coinsTest inputRangeTest coinDomainTest coinEqualTest outputTest proveTests proveIn
     encodeTests encode spread bodyOf forward backward foldsTest convert toEdition1 toEdition2 zipWith flatMap
 definitions = tt

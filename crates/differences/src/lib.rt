@@ -1,12 +1,15 @@
 // For each of a list of points the product of its differences to those behind it, and the inverses of these products, by one inversion: what interpolation
 // divides by.
 use inversions::Inverses;
+use quartic::Four;
 ghost use mathlib.Core.Path.{_≡_};
 ghost use Prim.Native.Nat.{ℕ, suc, _≤_, _<_};
 ghost use lib.ListN.{length, getD, drop};
-ghost use Rattle.definition.specs.Field.{primeOf, fieldOf, reciprocal};
+ghost use Rattle.definition.specs.Field.{Field, primeOf, fieldOf, reciprocal, quads};
 ghost use Rattle.algebra.specs.Different.{Apart};
-ghost use Rattle.list_laws.specs.Filled.{Filled};
+ghost use Rattle.list_laws.specs.Filled.{Filled, FilledOver};
+ghost use Rattle.spelling.specs.Field3.{field3};
+ghost use Rattle.quartic.specs.Meaning.{quadOf};
 ghost use Rattle.polynomial.specs.Vanishing.{vanishAt};
 
 // The sum of x and d, y times, with one remainder for both: y is below p, and so the product fits.
@@ -63,7 +66,68 @@ pub fn divisors(field: u32, xs: &[u32], out: &mut [u32], behind: &mut [u32])
     ensures { λ _. ⌜ ((i : ℕ) → i < length (now (xs .entry)) → getD (now (out .exit)) i 0 ≡ reciprocal (fieldOf field) (vanishAt (fieldOf field) (drop (suc i) (now (xs .entry))) (getD (now (xs .entry)) i 0))) ⌝ }
 {
     differences(field, xs, out);
-    let found = inversions::invert_all(field, out, behind);
+    let found = inversions::invert_one(field, out, behind);
+    let Inverses::Found = found else {
+        return;
+    };
+}
+
+// Each element before number j, of four words each, becomes its point less point j, that element times.
+fn times_difference_four(xs: &[u32], j: usize, out: &mut [u32])
+    requires { ⌜ (j < length (quads (now xs))) × (length (quads (now out)) ≡ length (quads (now xs))) ⌝ }
+    ensures { λ _. ⌜ FilledOver (field3 .𝟘) (λ i. field3 ._⊗_ (field3 ._⊖_ (getD (quads (now (xs .entry))) i (field3 .𝟘)) (getD (quads (now (xs .entry))) j (field3 .𝟘))) (getD (quads (now (out .entry))) i (field3 .𝟘))) (quads (now (out .entry))) (quads (now (out .exit))) j ⌝ }
+{
+    let x = quartic::get(xs, j);
+    let mut i = 0;
+    while i < j {
+        let d = quartic::sub(quartic::get(xs, i), x);
+        let o = quartic::get(out, i);
+        quartic::put(out, i, quartic::mul(d, o));
+        i += 1;
+    }
+}
+
+// Every element, of four words each, becomes c.
+pub fn fill_four(c: Four, out: &mut [u32])
+    ensures { λ _. ⌜ FilledOver (field3 .𝟘) (λ _. quadOf c) (quads (now (out .entry))) (quads (now (out .exit))) (length (quads (now (out .entry)))) ⌝ }
+{
+    let n = quartic::count(out);
+    let mut i = 0;
+    while i < n {
+        quartic::put(out, i, c);
+        i += 1;
+    }
+}
+
+// For each point, of four words each, the product of its differences to those behind it.
+fn differences_four(xs: &[u32], out: &mut [u32])
+    requires { ⌜ length (quads (now out)) ≡ length (quads (now xs)) ⌝ }
+    ensures { λ _. ⌜ ((i : ℕ) → i < length (quads (now (xs .entry))) → getD (quads (now (out .exit))) i (field3 .𝟘) ≡ vanishAt field3 (drop (suc i) (quads (now (xs .entry)))) (getD (quads (now (xs .entry))) i (field3 .𝟘))) ⌝ }
+{
+    fill_four(
+        Four {
+            a: 1,
+            b: 0,
+            c: 0,
+            d: 0,
+        },
+        out,
+    );
+    let mut j = quartic::count(xs);
+    while 0 < j {
+        j -= 1;
+        times_difference_four(xs, j, out);
+    }
+}
+
+// The inverses of these products, of four words each.
+pub fn divisors_four(xs: &[u32], out: &mut [u32], behind: &mut [u32])
+    requires { ⌜ (length (quads (now out)) ≡ length (quads (now xs))) × (length (quads (now xs)) ≤ length (quads (now behind))) ⌝ }
+    requires { ⌜ Apart field3 (quads (now xs)) ⌝ }
+    ensures { λ _. ⌜ ((i : ℕ) → i < length (quads (now (xs .entry))) → getD (quads (now (out .exit))) i (field3 .𝟘) ≡ reciprocal field3 (vanishAt field3 (drop (suc i) (quads (now (xs .entry)))) (getD (quads (now (xs .entry))) i (field3 .𝟘)))) ⌝ }
+{
+    differences_four(xs, out);
+    let found = inversions::invert_four(out, behind);
     let Inverses::Found = found else {
         return;
     };

@@ -7,16 +7,18 @@ use mathlib.Core.Option.{Option, none}
 use mathlib.Core.Path.{_≡_, refl, sym, ap, _∙_}
 use lib.ListN.{length, getD, take, drop, replicate, length-append, length-drop, length-replicate, take-append-drop}
 use lib.Seq.{length-take-le}
-use Rattle.definition.specs.Field.{primeOf}
-use Rattle.definition.specs.Layout.{Kind, coin, coinKinds, index, layout, message, out}
+use Rattle.definition.specs.Field.{Spelling, primeOf, wordCount}
+use Rattle.definition.specs.Layout.{Kind, coin, coinKinds, index, layout, message, out, outLayout}
 use Rattle.definition.specs.Load.{Drawn, drawKinds}
 use Rattle.definition.specs.Sheet.{Sheet, edition1, sheetOf, shiftCount}
-use Rattle.layouts.specs.CoinsAfter.{kinds-all, kinds-count, kinds-last, kinds-next, kindsAfter, later-count, laterKinds, outKinds}
+use Rattle.layouts.specs.CoinsAfter.{kinds-all, kinds-count, kinds-last, kinds-next, kindsAfter, laterKinds, outKinds}
 use Rattle.layouts.specs.Lawful.{lawful}
 use Rattle.layouts.specs.LevelsByNumber.{Paired}
+use Rattle.layouts.specs.LayoutFacts.{laterLayout}
 use Rattle.layouts.specs.Levels.{levelOf, outCoinCount}
+use Rattle.layouts.specs.OneWord.{count-one-word}
 use Rattle.generator.specs.Draws.{drawMany, indices-drawn, messages-drawn}
-use Rattle.draws.specs.AtLevel.{AtLevel, rounds-are, times-are}
+use Rattle.draws.specs.AtLevel.{AtLevel, rounds-are, single, times-are}
 use Rattle.draws.proofs.KindsDrawn.{after-append, after-coin, after-later, drawn-both, drawn-length, one-coin, outAfter, two-coins}
 
 -- what is drawn and the generator as it then is, against what the definition draws
@@ -48,6 +50,24 @@ module _ {w pw : List ℕ} {i scale : ℕ} (a : AtLevel w pw i scale) (v : ℕ) 
   abbrev h : Sheet
   h = sheetOf edition1 w
 
+  -- a round's out coins and its other coins, each of one word
+  abbrev outs : List Kind
+  outs = replicate (outCoinCount h) (out (levelOf h (i + 1)))
+
+  abbrev later : List Kind
+  later = coin ∷ coin ∷ replicate (levelOf h i .repetitions) (index (shiftCount (levelOf h i)))
+
+  outs-one : outKinds (sheetOf edition1 w) i ≡ replicate (outCoinCount (sheetOf edition1 w)) (out (levelOf (sheetOf edition1 w) (i + 1)))
+  unfolding outLayout
+  outs-one = ap (λ (σ : Spelling). outLayout σ (outCoinCount h) (levelOf h (i + 1))) (single a)
+
+  later-one : laterKinds (sheetOf edition1 w) i ≡ coin ∷ coin ∷ replicate (levelOf (sheetOf edition1 w) i .repetitions) (index (shiftCount (levelOf (sheetOf edition1 w) i)))
+  unfolding wordCount
+  later-one = ap (λ (σ : Spelling). laterLayout σ (levelOf h i)) (single a)
+
+  round-one : outs ++ later ≡ outKinds (sheetOf edition1 w) i ++ laterKinds (sheetOf edition1 w) i
+  round-one = λ x. sym outs-one x ++ sym later-one x
+
   -- the coins of round i + 1
   pub round-coins : {n m all limit : ℕ} {words front back : List ℕ} {next last : ℕ} → words ≡ front ++ back → all ≡ getD w 5 0 + 2 + getD w (6 + i) 0 →
       n ≡ getD w 5 0 → m ≡ all - getD w 5 0 → limit ≡ shiftCount (levelOf (sheetOf edition1 w) i) →
@@ -57,25 +77,27 @@ module _ {w pw : List ℕ} {i scale : ℕ} (a : AtLevel w pw i scale) (v : ℕ) 
   unfolding sheetOf
   round-coins {m = m} {front = front} {next = next} e ea en em el first second =
       let et : m - 2 ≡ levelOf h i .repetitions = omega (arith, times-are a) in
-      drawn-both h none (outKinds h i) (laterKinds h i) v e
+      drawn-both h none outs later v e
       (first ∙ ap (λ (j : ℕ). drawKinds h none (replicate j (out (levelOf h (i + 1)))) v) en) refl
-      (second (outAfter none (outKinds h i) front) ∙ (λ x. drawKinds h (outAfter none (outKinds h i) front) (coin ∷ coin ∷ replicate (et x) (index (el x))) next))
+      (second (outAfter none outs front) ∙ (λ x. drawKinds h (outAfter none outs front) (coin ∷ coin ∷ replicate (et x) (index (el x))) next))
+      ∙ ap (λ (ks : List Kind). drawKinds h none ks v) round-one
 
   -- after them none stands before the next coin
   round-closed : i < getD w 4 0 → {words : List ℕ} {next : ℕ} →
       Is words next (drawKinds (sheetOf edition1 w) none (outKinds (sheetOf edition1 w) i ++ laterKinds (sheetOf edition1 w) i) v) →
       outAfter none (outKinds (sheetOf edition1 w) i ++ laterKinds (sheetOf edition1 w) i) words ≡ none
   round-closed more {words} first =
-      let outs = outKinds h i in
       let n = outCoinCount h in
       let t = levelOf h i .repetitions in
       let law = lawful edition1 w (omega (arith, a .long)) (a .passed) in
-      let long : length words ≡ length (outs ++ laterKinds h i) = ap (λ (d : Drawn (List ℕ)). length (d .value)) first ∙ drawn-length h none (outs ++ laterKinds h i) v in
-      let count = length-append outs (laterKinds h i) in
+      let drawn = ap (λ (d : Drawn (List ℕ)). length (d .value)) first ∙ drawn-length h none (outKinds h i ++ laterKinds h i) v in
+      let long : length words ≡ length (outs ++ later) = drawn ∙ ap length (sym round-one) in
+      let count = length-append outs later in
       let ns = length-replicate n (out (levelOf h (i + 1))) in
-      ap (outAfter none (outs ++ laterKinds h i)) (sym (take-append-drop n words))
-      ∙ after-append none outs (laterKinds h i) (take n words) (drop n words) (length-take-le n words (omega (arith, long, count, ns)) ∙ sym ns)
-      ∙ after-later _ t (shiftCount (levelOf h i)) (drop n words) (law .once i (omega (arith, rounds-are a))) (length-drop n words ∙ omega (arith, long, count, ns, later-count h i))
+      let nt = length-replicate t (index (shiftCount (levelOf h i))) in
+      ap (λ (ks : List Kind). outAfter none ks words) (sym round-one) ∙ ap (outAfter none (outs ++ later)) (sym (take-append-drop n words))
+      ∙ after-append none outs later (take n words) (drop n words) (length-take-le n words (omega (arith, long, count, ns)) ∙ sym ns)
+      ∙ after-later _ t (shiftCount (levelOf h i)) (drop n words) (law .once i (omega (arith, rounds-are a))) (length-drop n words ∙ omega (arith, long, count, ns, nt))
 
   -- those after fold coin i: a round's and those after it,
   pub coins-more : {words front back : List ℕ} {next last : ℕ} → i < getD w 4 0 → words ≡ front ++ back →
@@ -108,15 +130,23 @@ pub to-next-level : {w pw : List ℕ} {i scale n count : ℕ} → AtLevel w pw i
     ToNextLevel w i n count
 unfolding sheetOf
 to-next-level {w} {i = i} a more en ec =
+    let n = count-one-word (sheetOf edition1 w) (single a) in
     let c = kinds-count (sheetOf edition1 w) i (omega (arith, rounds-are a)) in
-    record { more = more; within = omega (arith, c, times-are a); left = omega (arith, c, times-are a) }
+    let s = n (sheetOf edition1 w .outCoins) in
+    record { more = more; within = omega (arith, c, s, n 2, times-are a); left = omega (arith, c, s, n 2, times-are a) }
 
 -- all coins: fold coin 0, and those after it
 paired : {w pw : List ℕ} → AtLevel w pw 0 1 → Paired (sheetOf edition1 w)
 paired {w} a = lawful edition1 w (omega (arith, a .long)) (a .passed) .paired
 
+all-one : {w pw : List ℕ} → AtLevel w pw 0 1 → coinKinds (layout (sheetOf edition1 w)) ≡ coin ∷ kindsAfter (sheetOf edition1 w) 0
+unfolding wordCount
+all-one {w} a =
+    let h = sheetOf edition1 w in
+    kinds-all h (paired a) ∙ ap (λ (σ : Spelling). replicate (wordCount σ 1) coin ++ kindsAfter h 0) (single a)
+
 pub all-counted : {w pw : List ℕ} {n : ℕ} → AtLevel w pw 0 1 → n ≡ length (coinKinds (layout (sheetOf edition1 w))) → n ≡ 1 + length (kindsAfter (sheetOf edition1 w) 0)
-all-counted {w} a e = omega (arith, ap length (kinds-all (sheetOf edition1 w) (paired a)))
+all-counted {w} a e = omega (arith, ap length (all-one a))
 
 pub coins-all : (w pw : List ℕ) (v : ℕ) {words front back : List ℕ} {next last : ℕ} → AtLevel w pw 0 1 → words ≡ front ++ back →
     Is front next (drawKinds (sheetOf edition1 w) none (coin ∷ []) v) → Is back last (drawKinds (sheetOf edition1 w) none (kindsAfter (sheetOf edition1 w) 0) next) →
@@ -124,4 +154,4 @@ pub coins-all : (w pw : List ℕ) (v : ℕ) {words front back : List ℕ} {next 
 coins-all w pw v {front = front} a e first second =
     let h = sheetOf edition1 w in
     drawn-both h none (coin ∷ []) (kindsAfter h 0) v e first (after-coin front) second
-    ∙ ap (λ (ks : List Kind). drawKinds h none ks v) (sym (kinds-all h (paired a)))
+    ∙ ap (λ (ks : List Kind). drawKinds h none ks v) (sym (all-one a))

@@ -1,4 +1,4 @@
--- Where the draws of the coins stand: at level i of a sheet w of edition 1 that passes, with the table of the points of its domain 0.
+-- Where the draws of the coins stand: at level i of a sheet w of edition 1 and of one of the fields 0 to 2 that passes, with the table of the points of its domain 0.
 use Prim.Native.Nat.{ℕ, suc, _+_, _-_, _*_, _/_, _^_, _≤_, _<_}
 use native.Mathlib.Nat.{mul-comm, pow-suc}
 use native.Mathlib.Numerals.{add-one}
@@ -11,6 +11,7 @@ use mathlib.Core.Path.{_≡_, refl, sym, ap, _∙_, subst}
 use lib.Dec.{eqb}
 use lib.ListN.{length, getD}
 use lib.Pow.{pow-mono, pow-pos}
+use Rattle.definition.specs.Field.{one}
 use Rattle.definition.specs.Layout.{out}
 use Rattle.definition.specs.Load.{smallestAllowed}
 use Rattle.definition.specs.Reading.{sheetTest}
@@ -19,6 +20,7 @@ use Rattle.definition.specs.Verdict.{accepted}
 use Rattle.layouts.specs.Lawful.{lawful, rounds-word, times-word}
 use Rattle.layouts.specs.LevelSizes.{positive-sizes}
 use Rattle.layouts.specs.Levels.{levelOf, roundsOf}
+use Rattle.layouts.specs.OneWord.{one-word}
 use Rattle.layouts.specs.PlainSheet.{fold-one}
 use Rattle.completeness.specs.Premises.{smallest-second}
 use Rattle.layouts.specs.SheetLevels.{level-is, sized}
@@ -30,13 +32,14 @@ use Rattle.draws.specs.OutCoin.{StandsFor, Suits}
 pub record AtLevel (w pw : List ℕ) (i scale : ℕ) : Type 0 where
   pub long : length w ≡ 12
   pub passed : sheetTest edition1 w ≡ accepted
+  pub field : getD w 0 0 < 3
   pub powers : Powers (getD w 0 0) (rootOfUnity (sheetOf edition1 w)) pw
   pub points : length pw ≡ getD w 1 0
   pub level : i ≤ getD w 4 0
   pub scaled : scale ≡ 2 ^ i
 
-pub first-level : (w pw : List ℕ) → length w ≡ 12 → sheetTest edition1 w ≡ accepted → Powers (getD w 0 0) (rootOfUnity (sheetOf edition1 w)) pw → length pw ≡ getD w 1 0 → AtLevel w pw 0 1
-first-level w pw long passed powers points = record { long = long; passed = passed; powers = powers; points = points; level = omega arith; scaled = refl }
+pub first-level : (w pw : List ℕ) → length w ≡ 12 → sheetTest edition1 w ≡ accepted → getD w 0 0 < 3 → Powers (getD w 0 0) (rootOfUnity (sheetOf edition1 w)) pw → length pw ≡ getD w 1 0 → AtLevel w pw 0 1
+first-level w pw long passed field powers points = record { long = long; passed = passed; field = field; powers = powers; points = points; level = omega arith; scaled = refl }
 
 -- what the words of the sheet are at most, and what is not 0
 pub record Bounded (w : List ℕ) (i scale points : ℕ) : Type 0 where
@@ -52,6 +55,10 @@ pub record Bounded (w : List ℕ) (i scale points : ℕ) : Type 0 where
 module _ {w pw : List ℕ} {i scale : ℕ} (a : AtLevel w pw i scale) where
   long-enough : 12 ≤ length w
   long-enough = omega (arith, a .long)
+
+  -- elements are of one word
+  pub single : sheetOf edition1 w .spelling ≡ one
+  single = one-word edition1 w (a .field)
 
   -- M is word 4, and t_i word 6 + i
   pub rounds-are : roundsOf (sheetOf edition1 w) ≡ getD w 4 0
@@ -91,6 +98,7 @@ module _ {w pw : List ℕ} {i scale : ℕ} (a : AtLevel w pw i scale) where
   next-level more = record {
     long = a .long;
     passed = a .passed;
+    field = a .field;
     powers = a .powers;
     points = a .points;
     level = omega arith;

@@ -12,7 +12,7 @@ use borrow.Author.Tests.{eq-eqb, ne-eqb}
 use Rattle.algebra.specs.PrimeField.{suited}
 use Rattle.definition.specs.Deciding.{outInDomain, outRepeated, sameAs}
 use Rattle.definition.specs.Domain.{inDomain}
-use Rattle.definition.specs.Field.{fieldOf, primeField, primeOf}
+use Rattle.definition.specs.Field.{fieldIn, fieldOf, numberIn, primeField, primeOf}
 use Rattle.definition.specs.Layout.{out}
 use Rattle.definition.specs.Load.{Drawn, drawBelow, drawOut, notAllowed, smallestAllowed, step, undrawn}
 use Rattle.definition.specs.Sheet.{Level, Sheet, rootOfUnity}
@@ -62,8 +62,8 @@ module _ (field : ℕ) (pw : List ℕ) (scale before : ℕ) where
   OutLeft v again generator = (h : Sheet) (o : Option ℕ) (l : Level) → Suits field pw scale before h o l → drawOut h o (out l) again generator ≡ drawOut h o (out l) 64 v
 
   -- the word before says whether an element repeats the out coin before it
-  same-word : (h : Sheet) (o : Option ℕ) (x : ℕ) → StandsFor h o before → x < h .prime → sameAs o x ≡ eqb x before
-  unfolding sameAs
+  same-word : (h : Sheet) (o : Option ℕ) (x : ℕ) → StandsFor h o before → x < h .prime → sameAs (primeField (h .prime)) o x ≡ eqb x before
+  unfolding sameAs primeField
   same-word h none x e l = sym (ne-eqb x before (λ q. omega (arith, e, q)))
   same-word h (some y) x e l = ap (eqb x) (sym e)
 
@@ -74,7 +74,7 @@ module _ (field : ℕ) (pw : List ℕ) (scale before : ℕ) where
       (drawn : _≡_ {A = Drawn ℕ} (record { value = x; next = next }) (drawBelow p generator)) (test : MayBe pw scale before x taken) where
     -- the test of the definition is that of the code
     tested : (h : Sheet) (o : Option ℕ) (l : Level) → Suits field pw scale before h o l → not taken ≡ notAllowed h o (out l) (step generator % h .prime)
-    unfolding drawBelow notAllowed outInDomain outRepeated fieldOf
+    unfolding drawBelow notAllowed outInDomain outRepeated fieldOf fieldIn numberIn
     tested h o l s =
         let value : x ≡ step generator % h .prime = ap (λ (d : Drawn ℕ). d .value) drawn ∙ ap (λ (q : ℕ). step generator % q) (ep ∙ sym (s .prime)) in
         let below : step generator % h .prime < h .prime = mod-lt (step generator) (positive h (s .prime)) in

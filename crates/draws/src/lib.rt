@@ -174,9 +174,9 @@ fn from_first(w: &[u32], pw: &[u32], generator: Generator, out: &mut [u32]) -> G
     rest(w, pw, 0, 1, next, &mut out[1..])
 }
 
-// The coins of a run in file order, with the table of points made for them.
+// The coins of a run in file order, with the table of points made for them. The sheet is of one of the fields 0 to 2, as the load draws it.
 pub fn coins(w: &[u32], generator: Generator, out: &mut [u32]) -> Generator
-    requires { ⌜ (length (now w) ≡ 12) × (sheetTest edition1 (now w) ≡ accepted) ⌝ }
+    requires { ⌜ (length (now w) ≡ 12) × (sheetTest edition1 (now w) ≡ accepted) × (getD (now w) 0 0 < 3) ⌝ }
     requires { ⌜ length (now out) ≡ length (coinKinds (layout (sheetOf edition1 (now w)))) ⌝ }
     ensures { λ r.
         ⌜ record { value = now (out .exit); next = r .v } ≡ drawKinds (sheetOf edition1 (now (w .entry))) none (coinKinds (layout (sheetOf edition1 (now (w .entry))))) (generator .v) ⌝ }

@@ -31,7 +31,7 @@ pub fn shift_point(pw: &[u32], scale: usize, j: usize, k: usize) -> u32
 }
 
 // The inverse of ω^e, which is a power of ω too.
-fn inverse_power(pw: &[u32], e: usize) -> u32
+pub fn inverse_power(pw: &[u32], e: usize) -> u32
     requires { ⌜ 0 < length (now pw) ⌝ }
     ensures { λ v. ⌜ v ≡ inversePowerIn 0 (now (pw .entry)) e ⌝ }
 {
@@ -40,7 +40,7 @@ fn inverse_power(pw: &[u32], e: usize) -> u32
 }
 
 // What the inversion of 2 answers: (p + 1)/2 is found, since p is odd, and no power is taken.
-fn invert_two(field: u32) -> Inversion
+pub fn invert_two(field: u32) -> Inversion
     ensures { λ v. ⌜ inversionOf v ≡ fieldOf field .inverse (two (fieldOf field)) ⌝ }
 {
     Inversion::Found(field::modulus(field) / 2 + 1)

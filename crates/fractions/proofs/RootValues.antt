@@ -6,20 +6,24 @@ use native.Mathlib.Nat.{le-of-eq, le-refl, mul-div-cancel-left, mul-le-mul, mul-
 use native.Mathlib.Omega.{arith}
 use lib.ListN.{length, getD, take, drop, length-drop, List·getD-append}
 use lib.Seq.{getD-take, length-take-le, take-at, take-take}
-use Rattle.definition.specs.Field.{Field, foundOr, power, reciprocal}
+use Rattle.definition.specs.Field.{Field, foundOr, numberIn, power, reciprocal, spellingOf}
 use Rattle.definition.specs.Polynomial.{evaluate, geometric}
 use Rattle.algebra.specs.Laws.{FieldLaws}
 use Rattle.algebra.specs.Solver.{_:*_, _:=_, solve₃}
 use Rattle.list_laws.specs.Filled.{FilledOver}
 use Rattle.algebra.specs.Divisors.{Nonzero}
+use Rattle.spelling.specs.ByField.{ElementOf, fieldAt, lawsAt, pointsAt, elementsAt}
+use Rattle.spelling.specs.Points.{points-get}
+use Rattle.domain.specs.Powers.{PowersOver}
 use Rattle.sums.specs.AtRoots.{everyNth, sums-at}
 use Rattle.sums.specs.Residues.{root-powers}
 use Rattle.sums.specs.Sums.{products}
 use Rattle.tables.specs.Halving.{Halves}
 use Rattle.fractions.specs.declared.Oracle.{Oracle}
 use Rattle.folds.specs.PointsIn.{pointIn}
-use Rattle.fractions.specs.Fraction.{FractionOver}
-use Rattle.fractions.specs.Values.{ClearOver, Fits, Rooted, correctedIn, numeratorIn, vanishingIn, growthIn, valueOf, valueIn, rootIn, folded, root-number, point-room}
+use Rattle.fractions.specs.Fraction.{Fraction, FractionOver}
+use Rattle.fractions.specs.Points.{fits-points}
+use Rattle.fractions.specs.Values.{Clear, ClearOver, Fits, Rooted, correctedIn, numeratorIn, vanishingIn, growthIn, valueOf, valueIn, rootIn, folded, root-number, point-room}
 
 -- ---- a polynomial's values at the roots
 
@@ -27,7 +31,7 @@ pub halves-same : {A : Type 0} {F : Field A} {pw : List A} {at step k : ℕ} {po
 halves-same r n m en em = record { log = r .log; logSize = r .log; count-is = en ∙ r .two; size-is = em ∙ r .two; fits = omega arith }
 
 -- every stride-th element of the front of a list, as far as it goes
-every-front : {A : Type 0} (F : Field A) (f : List A) (w from stride count : ℕ) → from + count * stride < w + stride → everyNth F (take w f) from stride count ≡ everyNth F f from stride count
+pub every-front : {A : Type 0} (F : Field A) (f : List A) (w from stride count : ℕ) → from + count * stride < w + stride → everyNth F (take w f) from stride count ≡ everyNth F f from stride count
 unfolding everyNth
 every-front F f w from stride zero h = refl
 every-front F f w from stride (suc count) h =
@@ -103,12 +107,12 @@ exponent-fits e k l few small =
     let most : k * e ≤ 16 * 4096 = mul-le-mul small less in
     (omega arith, omega arith)
 
-pub rooted : {A : Type 0} (F : Field A) (L : FieldLaws F) (pw table vg : List A) (oracle : Oracle) (k : ℕ) → Fits (length pw) (length table) oracle k → (clear : ClearOver F L pw (length table) vg oracle) →
-    (j : ℕ) (y : A) (powers : List A) → j < oracle .step → y ≡ power F (power F (clear .ω) (1 + oracle .scale * j)) k → 0 < oracle .words → length powers ≡ oracle .words / k →
+pub rooted : {A : Type 0} (F : Field A) (L : FieldLaws F) (pw : List A) (n : ℕ) (oracle : Oracle) (k : ℕ) → Fits (length pw) n oracle k → {ω : A} → PowersOver F ω pw →
+    (j : ℕ) (y : A) (powers : List A) → j < oracle .step → y ≡ power F (power F ω (1 + oracle .scale * j)) k → 0 < oracle .words → length powers ≡ oracle .words / k →
     powers ≡ geometric F y (length powers - 1) → Rooted F pw (oracle .scale * j) (oracle .scale * oracle .step) k powers
-rooted {A} F L pw table vg oracle k fits clear j y powers l shift pos size list = record {
-  ω = clear .ω;
-  table = clear .powers;
+rooted {A} F L pw n oracle k fits {ω} table j y powers l shift pos size list = record {
+  ω = ω;
+  table = table;
   y = y;
   nonempty = omega (arith, size, count-some fits pos);
   short = omega (arith, size, count-few fits);
@@ -122,14 +126,13 @@ rooted {A} F L pw table vg oracle k fits clear j y powers l shift pos size list 
   where
     root : (m : ℕ) → m < k → power F (getD pw (oracle .scale * j + oracle .scale * oracle .step * m) (F .𝟘)) k ≡ y
     root m u =
-        let ω = clear .ω in
         let d = oracle .scale * oracle .step in
         let e = 1 + oracle .scale * j in
         let place = root-place fits j m in
         let inside : oracle .scale * j + d * m < length pw = omega (arith, place, point-room fits (j + m * oracle .step) (root-number fits l m u)) in
         let next : 1 + (oracle .scale * j + d * m) ≡ e + m * d = omega arith in
-        let round : power F ω (d * k) ≡ F .𝟙 = ap (power F ω) (roots-spaced fits l .1) ∙ clear .powers .round in
-        ap (λ (x : A). power F x k) (clear .powers .entry _ inside ∙ ap (power F ω) next)
+        let round : power F ω (d * k) ≡ F .𝟙 = ap (power F ω) (roots-spaced fits l .1) ∙ table .round in
+        ap (λ (x : A). power F x k) (table .entry _ inside ∙ ap (power F ω) next)
         ∙ root-powers F L ω e d k m round ∙ sym shift
 
 -- the first words of their places, which were stored there
@@ -140,16 +143,16 @@ front-whole count room front inside same =
     (take-at front (drop count room) count long, long)
 
 -- the powers of the shift point, in a part of their places
-pub rooted-part : {A : Type 0} (F : Field A) (L : FieldLaws F) (pw table vg : List A) (oracle : Oracle) (k k′ : ℕ) → Fits (length pw) (length table) oracle k → (clear : ClearOver F L pw (length table) vg oracle) →
+pub rooted-part : {A : Type 0} (F : Field A) (L : FieldLaws F) (pw : List A) (n : ℕ) (oracle : Oracle) (k k′ : ℕ) → Fits (length pw) n oracle k → {ω : A} → PowersOver F ω pw →
     (j : ℕ) (room front : List A) → j < oracle .step → 0 < oracle .words → length room ≡ 33 → length front ≡ length (take (oracle .words / k) room) →
-    front ≡ geometric F (power F (power F (clear .ω) (1 + oracle .scale * j)) k) (length front - 1) → k′ ≡ k →
+    front ≡ geometric F (power F (power F ω (1 + oracle .scale * j)) k) (length front - 1) → k′ ≡ k →
     Rooted F pw (oracle .scale * j) (oracle .scale * oracle .step) k′ (take (oracle .words / k) (front ++ drop (oracle .words / k) room))
     × (oracle .words ≡ k′ * length (take (oracle .words / k) (front ++ drop (oracle .words / k) room)))
-rooted-part F L pw table vg oracle k k′ fits clear j room front l pos places same list e =
+rooted-part F L pw n oracle k k′ fits {ω} table j room front l pos places same list e =
     let count = oracle .words / k in
     let w = front-whole count room front (omega (arith, count-few fits)) same in
-    let y = power F (power F (clear .ω) (1 + oracle .scale * j)) k in
-    let r = rooted F L pw table vg oracle k fits clear j y front l refl pos (w .1) list in
+    let y = power F (power F ω (1 + oracle .scale * j)) k in
+    let r = rooted F L pw n oracle k fits table j y front l refl pos (w .1) list in
     let whole : oracle .words ≡ k * length front = words-are fits ∙ ap (λ (n : ℕ). k * n) (sym (w .1)) in
     rw (e, w .0) (r, whole)
 
@@ -240,3 +243,19 @@ module _ {A : Type 0} (F : Field A) (L : FieldLaws F) (pw table ac vg : List A) 
       let x = getD pw (oracle .scale * j + oracle .scale * oracle .step * m) (F .𝟘) in
       fraction-is F L (oracle .words) ac vg x y (et ∙ (λ i. numeratorIn F (sym ew i) ac vg x y)) (eb ∙ (λ i. evaluate F (vanishingIn (sym ew i) vg) x))
       (roots-nonzero F L pw table vg oracle k fits clear j l more m u) (value-next F pw table ac vg oracle k fits j m more ey refl)
+
+-- the same by the field's number, where the points are words
+module _ (field : ℕ) (pw table ac vg : List ℕ) (oracle : Oracle) (k : ℕ) (fits : Fits (length pw) (length (elementsAt field table)) oracle k)
+    (clear : Clear field pw (length (elementsAt field table)) vg oracle) where
+  pub fractions-at : (j : ℕ) → j < oracle .step → 0 < oracle .words → (m : ℕ) → m < k → (words : ℕ) {y top bottom : ElementOf field} → oracle .words ≡ words →
+      y ≡ getD (elementsAt field table) (j + oracle .step * m) (fieldAt field .𝟘) →
+      top ≡ numeratorIn (fieldAt field) words (elementsAt field ac) (elementsAt field vg) (numberIn (spellingOf field) (getD pw (oracle .scale * j + oracle .scale * oracle .step * m) 0)) y →
+      bottom ≡ evaluate (fieldAt field) (vanishingIn words (elementsAt field vg)) (numberIn (spellingOf field) (getD pw (oracle .scale * j + oracle .scale * oracle .step * m) 0)) →
+      Fraction field (rootIn (fieldAt field) (pointsAt field pw) (elementsAt field table) (elementsAt field ac) (elementsAt field vg) oracle j m) top bottom
+  fractions-at j l more m u words {y} ew ey et eb =
+      let F = fieldAt field in
+      let x = sym (points-get field pw (oracle .scale * j + oracle .scale * oracle .step * m)) in
+      fractions-are F (lawsAt field) (pointsAt field pw) (elementsAt field table) (elementsAt field ac) (elementsAt field vg) oracle k
+      (fits-points field pw fits) clear j l more m u words ew ey
+      (et ∙ ap (λ (z : ElementOf field). numeratorIn F words (elementsAt field ac) (elementsAt field vg) z y) x)
+      (eb ∙ ap (λ (z : ElementOf field). evaluate F (vanishingIn words (elementsAt field vg)) z) x)

@@ -10,7 +10,8 @@ use lib.Dec.{leb}
 use lib.ListN.{length, getD, replicate, length-map}
 use Rattle.layouts.specs.DueSizes.{coins-most}
 use Rattle.layouts.specs.SheetRules.{front-words}
-use Rattle.definition.specs.Field.{primeOf}
+use Rattle.layouts.specs.Spellings.{count-most}
+use Rattle.definition.specs.Field.{primeOf, spellingOf, wordCount}
 use Rattle.definition.specs.Layout.{Kind, coinKinds, layout, limit, message}
 use Rattle.definition.specs.Lists.{firstTrue}
 use Rattle.definition.specs.Prove.{inputRangeTest}
@@ -51,13 +52,13 @@ first-after n from [] = refl
 first-after n from (true ∷ bs) = refl
 first-after n from (false ∷ bs) = ap (λ (m : ℕ). firstTrue m bs) (sym (add-suc n from)) ∙ first-after n (suc from) bs
 
-module _ (ed : Edition) (w f : List ℕ) (right : length f ≡ getD w 2 0) where
+module _ (ed : Edition) (w f : List ℕ) (right : length f ≡ wordCount (spellingOf (getD w 0 0)) (getD w 2 0)) where
   -- the coefficients alone
   pub coefficients-test : {o : Option ℕ} → o ≡ firstTrue 0 (map (leb (primeOf (getD w 0 0))) f) → refuseAt 5 o ≡ inputRangeTest (sheetOf ed w) [] f
   unfolding inputRangeTest sheetOf zipWith
   coefficients-test {o} e =
       let test = outOfRange (sheetOf ed w) in
-      let d = getD w 2 0 in
+      let d = wordCount (spellingOf (getD w 0 0)) (getD w 2 0) in
       ap (refuseAt 5) e
       ∙ ap (λ (bs : List Bool). refuseAt 5 (firstTrue 0 bs))
       (sym (ap {B = List Bool} (zipWith test (replicate d message ++ [])) (sym (append-nil f)) ∙ input-tests (sheetOf ed w) [] f [] d right
@@ -77,7 +78,7 @@ module _ (ed : Edition) (w f : List ℕ) (right : length f ≡ getD w 2 0) where
         let e : 0 + length (map (leb p) f) ≡ length f + 0 = omega (arith, length-map f (leb p)) in
         let coin-tests = zipWith (outOfRange (sheetOf ed w)) ks coins in
         ap (refuseAt 5) (sym
-        (ap (firstTrue 0) (input-tests (sheetOf ed w) ks f coins (getD w 2 0) right)
+        (ap (firstTrue 0) (input-tests (sheetOf ed w) ks f coins (wordCount (spellingOf (getD w 0 0)) (getD w 2 0)) right)
         ∙ first-append 0 (map (leb p) f) coin-tests
         ∙ ap (λ (n : ℕ). orElse first-coefficient (firstTrue n coin-tests)) e
         ∙ ap (orElse first-coefficient) (first-after (length f) 0 coin-tests)))
@@ -97,8 +98,8 @@ module _ (ed : Edition) (w f : List ℕ) (right : length f ≡ getD w 2 0) where
 
   -- the place of a coin after all coefficients is a small number
   pub place-small : (coins : List ℕ) (place : ℕ) → sheetLength ed ≤ length w → sheetTest ed w ≡ accepted → length coins ≡ length (coinKinds (layout (sheetOf ed w))) →
-      some place ≡ firstTrue 0 (zipWith (outOfRange (sheetOf ed w)) (coinKinds (layout (sheetOf ed w))) coins) → length f + place ≤ 4501
+      some place ≡ firstTrue 0 (zipWith (outOfRange (sheetOf ed w)) (coinKinds (layout (sheetOf ed w))) coins) → length f + place ≤ 16702
   place-small coins place long passed full e =
       let test = outOfRange (sheetOf ed w) in
       let ks = coinKinds (layout (sheetOf ed w)) in
-      omega (arith, right, front-words ed w passed, full, coins-most ed w long passed, first-below 0 (zipWith test ks coins) place (sym e), zip-short test ks coins)
+      omega (arith, right, front-words ed w passed, count-most (spellingOf (getD w 0 0)) (getD w 2 0), full, coins-most ed w long passed, first-below 0 (zipWith test ks coins) place (sym e), zip-short test ks coins)

@@ -10,6 +10,7 @@ use borrow.Author.Tests.{eq-eqb, ne-eqb, lt-ltb, le-ltb}
 use Rattle.layouts.specs.Tests.{equal-passes, then-passes}
 use Rattle.definition.specs.Block.{blockCount}
 use Rattle.definition.specs.Deciding.{equalTest, outTest, outTests}
+use Rattle.definition.specs.Field.{spellingOf, wordCount}
 use Rattle.definition.specs.Layout.{coinKinds, layout, wordsDue}
 use Rattle.definition.specs.Prove.{coefficientsTest, coinDomainTest, coinEqualTest, coinsTest, encodeTests, inputRangeTest, outputTest, proveTests, sheetLengthTest}
 use Rattle.definition.specs.Reading.{sheetTest}
@@ -104,14 +105,14 @@ unfolding outTests outTest equalTest coinDomainTest coinEqualTest
 coin-tests ed w coins = refl
 
 module _ (ed : Edition) (w f coins output : List ℕ) where
-  pub other-coefficients : (length f ≡ getD w 2 0 → ⊥) → refused 10 1 ≡ proveTests ed (sheetOf ed w) f coins output
+  pub other-coefficients : {n : ℕ} → n ≡ wordCount (spellingOf (getD w 0 0)) (getD w 2 0) → (length f ≡ n → ⊥) → refused 10 1 ≡ proveTests ed (sheetOf ed w) f coins output
   unfolding proveTests coefficientsTest sheetOf
-  other-coefficients h = differ 10 1 (length f) (getD w 2 0) _ h
+  other-coefficients is h = differ 10 1 (length f) (wordCount (spellingOf (getD w 0 0)) (getD w 2 0)) _ (λ e. h (e ∙ sym is))
 
-  module _ (right : length f ≡ getD w 2 0) where
+  module _ (right : length f ≡ wordCount (spellingOf (getD w 0 0)) (getD w 2 0)) where
     pub other-coins : {due : ℕ} → due ≡ length (coinKinds (layout (sheetOf ed w))) → (length coins ≡ due → ⊥) → refused 10 2 ≡ proveTests ed (sheetOf ed w) f coins output
     unfolding proveTests coefficientsTest coinsTest sheetOf
-    other-coins {due} is h = agree 10 1 (length f) (getD w 2 0) right (differ 10 2 (length coins) _ _ (λ e. h (e ∙ sym is)))
+    other-coins {due} is h = agree 10 1 (length f) (wordCount (spellingOf (getD w 0 0)) (getD w 2 0)) right (differ 10 2 (length coins) _ _ (λ e. h (e ∙ sym is)))
 
     module _ (full : length coins ≡ length (coinKinds (layout (sheetOf ed w)))) where
       from-range : {o : Outcome} →
@@ -119,7 +120,7 @@ module _ (ed : Edition) (w f coins output : List ℕ) where
           then outputTest (blockCount (wordsDue ed (sheetOf ed w))) (512 * blockCount (wordsDue ed (sheetOf ed w))) (length output)) →
           o ≡ proveTests ed (sheetOf ed w) f coins output
       unfolding proveTests coefficientsTest coinsTest sheetOf
-      from-range e = agree 10 1 (length f) (getD w 2 0) right (agree 10 2 (length coins) _ full e)
+      from-range e = agree 10 1 (length f) (wordCount (spellingOf (getD w 0 0)) (getD w 2 0)) right (agree 10 2 (length coins) _ full e)
 
       module _ {range : Found} (ranged : refuseAt 5 (placeOf range) ≡ inputRangeTest (sheetOf ed w) (coinKinds (layout (sheetOf ed w))) (f ++ coins)) where
         pub out-of-range : {place : ℕ} → range ≡ At place → refused 5 place ≡ proveTests ed (sheetOf ed w) f coins output
@@ -142,22 +143,22 @@ module _ (ed : Edition) (w f coins output : List ℕ) where
 -- ---- encode's tests after the sheet's
 
 module _ (ed : Edition) (w f output : List ℕ) where
-  pub other-count : (length f ≡ getD w 2 0 → ⊥) → refused 10 1 ≡ encodeTests (sheetOf ed w) f output
+  pub other-count : {n : ℕ} → n ≡ wordCount (spellingOf (getD w 0 0)) (getD w 2 0) → (length f ≡ n → ⊥) → refused 10 1 ≡ encodeTests (sheetOf ed w) f output
   unfolding encodeTests coefficientsTest sheetOf
-  other-count h = differ 10 1 (length f) (getD w 2 0) _ h
+  other-count is h = differ 10 1 (length f) (wordCount (spellingOf (getD w 0 0)) (getD w 2 0)) _ (λ e. h (e ∙ sym is))
 
-  module _ (right : length f ≡ getD w 2 0) {range : Found} (ranged : refuseAt 5 (placeOf range) ≡ inputRangeTest (sheetOf ed w) [] f) where
+  module _ (right : length f ≡ wordCount (spellingOf (getD w 0 0)) (getD w 2 0)) {range : Found} (ranged : refuseAt 5 (placeOf range) ≡ inputRangeTest (sheetOf ed w) [] f) where
     pub no-element : {place : ℕ} → range ≡ At place → refused 5 place ≡ encodeTests (sheetOf ed w) f output
     unfolding encodeTests coefficientsTest sheetOf
-    no-element h = agree 10 1 (length f) (getD w 2 0) right (found 5 _ ranged h)
+    no-element h = agree 10 1 (length f) (wordCount (spellingOf (getD w 0 0)) (getD w 2 0)) right (found 5 _ ranged h)
 
-    module _ (elements : range ≡ Nothing) {room : ℕ} (has : length output ≡ room) where
-      with-words : {o : Outcome} → o ≡ outputTest (getD w 1 0) (getD w 1 0) room → o ≡ encodeTests (sheetOf ed w) f output
+    module _ (elements : range ≡ Nothing) {room : ℕ} (has : length output ≡ room) {size : ℕ} (is : size ≡ wordCount (spellingOf (getD w 0 0)) (getD w 1 0)) where
+      with-words : {o : Outcome} → o ≡ outputTest size size room → o ≡ encodeTests (sheetOf ed w) f output
       unfolding encodeTests coefficientsTest sheetOf
-      with-words e = agree 10 1 (length f) (getD w 2 0) right (clear 5 ranged elements (e ∙ ap (outputTest (getD w 1 0) (getD w 1 0)) (sym has)))
+      with-words e = agree 10 1 (length f) (wordCount (spellingOf (getD w 0 0)) (getD w 2 0)) right (clear 5 ranged elements (e ∙ (λ i. outputTest (is i) (is i) (sym has i))))
 
-      pub few-words : room < getD w 1 0 → refused 11 (getD w 1 0) ≡ encodeTests (sheetOf ed w) f output
-      few-words h = with-words (short (getD w 1 0) (getD w 1 0) room h)
+      pub few-words : room < size → refused 11 size ≡ encodeTests (sheetOf ed w) f output
+      few-words h = with-words (short size size room h)
 
-      pub encodes : getD w 1 0 ≤ room → accepted ≡ encodeTests (sheetOf ed w) f output
-      encodes h = with-words (enough (getD w 1 0) (getD w 1 0) room h)
+      pub encodes : size ≤ room → accepted ≡ encodeTests (sheetOf ed w) f output
+      encodes h = with-words (enough size size room h)

@@ -7,6 +7,7 @@ ghost use mathlib.Core.Path.{_≡_};
 ghost use mathlib.Core.List.{List, _++_};
 ghost use Prim.Native.Nat.{ℕ, _≤_};
 ghost use lib.ListN.{length, getD};
+ghost use Rattle.definition.specs.Field.{spellingOf, wordCount};
 ghost use Rattle.definition.specs.Layout.{coinKinds, layout};
 ghost use Rattle.definition.specs.Prove.{coinDomainTest, coinEqualTest, encodeTests, inputRangeTest, proveTests, sheetLengthTest};
 ghost use Rattle.definition.specs.Reading.{sheetTest};
@@ -18,7 +19,7 @@ ghost use Rattle.outcome.specs.Meaning.{outcomeOf, placeOf};
 // Refusal 5 of prove: the first word out of range, by its position in the coefficients followed by the coins.
 fn input_out_of_range(e: Edition, w: &[u32], f: &[u32], coins: &[u32]) -> Found
     requires { ⌜ (sheetLength (editionOf e) ≤ length (now w)) × (sheetTest (editionOf e) (now w) ≡ accepted) ⌝ }
-    requires { ⌜ length (now f) ≡ getD (now w) 2 0 ⌝ }
+    requires { ⌜ length (now f) ≡ wordCount (spellingOf (getD (now w) 0 0)) (getD (now w) 2 0) ⌝ }
     requires { ⌜ length (now coins) ≡ length (coinKinds (layout (sheetOf (editionOf e) (now w)))) ⌝ }
     ensures { λ r.
         ⌜ refuseAt 5 (placeOf r) ≡ inputRangeTest (sheetOf (editionOf e) (now (w .entry))) (coinKinds (layout (sheetOf (editionOf e) (now (w .entry))))) (now (f .entry) ++ now (coins .entry)) ⌝ }
@@ -70,7 +71,7 @@ fn prove_after_sheet(e: Edition, w: &[u32], f: &[u32], coins: &[u32], room: usiz
     ensures { λ r.
         ⌜ ((output : List ℕ) → length output ≡ room → outcomeOf r ≡ proveTests (editionOf e) (sheetOf (editionOf e) (now (w .entry))) (now (f .entry)) (now (coins .entry)) output) ⌝ }
 {
-    if f.len() != w[2] as usize {
+    if f.len() != widths::words(w[0], w[2] as usize) {
         return Outcome::Refused(10, 1);
     }
     if coins.len() != sizes::coins_due(e, w) {
@@ -96,14 +97,15 @@ fn encode_after_sheet(w: &[u32], f: &[u32], room: usize) -> Outcome
     requires { ⌜ (sheetLength edition1 ≤ length (now w)) × (sheetTest edition1 (now w) ≡ accepted) ⌝ }
     ensures { λ r. ⌜ ((output : List ℕ) → length output ≡ room → outcomeOf r ≡ encodeTests (sheetOf edition1 (now (w .entry))) (now (f .entry)) output) ⌝ }
 {
-    if f.len() != w[2] as usize {
+    let field = w[0];
+    if f.len() != widths::words(field, w[2] as usize) {
         return Outcome::Refused(10, 1);
     }
-    let range = ranges::coefficient_out_of_range(w[0], f);
+    let range = ranges::coefficient_out_of_range(field, f);
     if let Found::At(place) = range {
         return Outcome::Refused(5, place);
     }
-    let size = w[1] as usize;
+    let size = widths::words(field, w[1] as usize);
     if room < size {
         return Outcome::Refused(11, size);
     }

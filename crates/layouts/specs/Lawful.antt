@@ -7,6 +7,7 @@ use mathlib.Core.List.{List, [], _∷_, map, tail}
 use mathlib.Core.Path.{_≡_, refl, sym, ap, _∙_, subst}
 use lib.ListN.{length, getD, take, drop, length-drop}
 use lib.Seq.{getD-drop, getD-take, length-take-le, take-take}
+use Rattle.definition.specs.Field.{spellingOf, wordCount}
 use Rattle.definition.specs.Lists.{productOf}
 use Rattle.definition.specs.Reading.{sheetTest}
 use Rattle.definition.specs.Sheet.{Edition, Sheet, foldWords, sheetLength, sheetOf}
@@ -15,6 +16,7 @@ use Rattle.layouts.specs.Levels.{degreeOf, roundsOf, total}
 use Rattle.layouts.specs.LevelsByNumber.{Paired}
 use Rattle.layouts.specs.PlainRules.{PlainSheet}
 use Rattle.layouts.specs.PlainSheet.{sheet-plain}
+use Rattle.layouts.specs.Spellings.{largest-most, largest-words}
 use Rattle.layouts.specs.SheetRules.{fold-count, fold-words, long-enough, logs, positive, pow-below, pow-most, powersOf, product-powers}
 
 pub record Lawful (h : Sheet) : Type 0 where
@@ -23,6 +25,7 @@ pub record Lawful (h : Sheet) : Type 0 where
   pub cs : List ℕ
   pub size : h .size ≡ 2 ^ suc a
   pub small : h .size ≤ 4096
+  pub words : wordCount (h .spelling) (h .size) ≤ 4096
   pub divides : (h .prime - 1) % h .size ≡ 0
   pub degree : h .degree ≡ 2 ^ b
   pub below : b < suc a
@@ -89,7 +92,8 @@ module _ (ed : Edition) (w : List ℕ) (long : sheetLength ed ≤ length w) (pas
         b = d .0;
         cs = c .0;
         size = p .1;
-        small = q .size·range .1;
+        small = omega (arith, q .size·range .1, largest-most (spellingOf (getD w 0 0)));
+        words = largest-words (spellingOf (getD w 0 0)) (getD w 1 0) (q .size·range .1);
         divides = q .size·divides;
         degree = d .1;
         below = pow-below (d .0) (suc (p .0)) (omega (arith, d .1, p .1, q .degree·range .1, q .degree·range .0));

@@ -2,16 +2,16 @@
 use Prim.Native.Nat.{ℕ, zero, suc, _+_, _-_, _≤_}
 use native.Mathlib.Nat.{add-suc, add-zero}
 use native.Mathlib.Omega.{arith}
-use mathlib.Core.List.{List, [], _∷_, _++_, map, append-assoc}
+use mathlib.Core.List.{List, [], _++_, map, append-assoc}
 use mathlib.Core.Path.{_≡_, refl, sym, ap, _∙_}
 use lib.ListN.{length, take, drop, replicate, length-append, length-replicate}
 use lib.Seq.{take-append-add, drop-append-add}
-use Rattle.definition.specs.Layout.{Kind, coin, coinKinds, index, laterCount, layout, message, out, restLayout, roundLayout, wordsDue}
+use Rattle.definition.specs.Layout.{Kind, coin, coinKinds, index, layout, message, outLayout, restLayout, roundLayout, wordsDue}
 use Rattle.definition.specs.Lists.{range}
 use Rattle.definition.specs.Sheet.{Edition, Level, Sheet, finalCount, firstLevel, sheetLength, shiftCount}
 use Rattle.list_laws.specs.NumberedParts.{firsts, firsts-length, joined, split-joined}
-use Rattle.layouts.specs.LayoutFacts.{coins-append, coins-final, coins-messages, final-length, round-coins, round-length}
-use Rattle.layouts.specs.Levels.{coinCount, coinsBefore, levelOf, outCoinCount, roundStart, roundsOf, wordCount}
+use Rattle.layouts.specs.LayoutFacts.{coins-alone, coins-append, coins-final, coins-messages, final-length, later-length, laterLayout, outs-length, round-coins, round-length}
+use Rattle.layouts.specs.Levels.{coinCount, coinsBefore, levelOf, outCoinCount, roundCount, roundStart, roundsOf, wordsFor}
 use Rattle.layouts.specs.LevelsByNumber.{Paired, level-first, levels-later}
 
 pub coins-length : (p q : List Kind) → length (coinKinds (p ++ q)) ≡ length (coinKinds p) + length (coinKinds q)
@@ -23,41 +23,45 @@ no-coins n = ap length (coins-messages n)
 module _ (ed : Edition) (h : Sheet) where
   -- what follows table i in its round
   unfoldable pub afterKinds : ℕ → List Kind
-  afterKinds zero = coin ∷ []
-  afterKinds (suc i) = replicate (outCoinCount h) (out (levelOf h (suc i))) ++ (replicate (outCoinCount h) message ++ (coin ∷ coin ∷ replicate (levelOf h i .repetitions) (index (shiftCount (levelOf h i)))))
+  afterKinds zero = replicate (wordsFor h 1) coin
+  afterKinds (suc i) = outLayout (h .spelling) (outCoinCount h) (levelOf h (suc i)) ++ (replicate (wordsFor h (outCoinCount h)) message ++ laterLayout (h .spelling) (levelOf h i))
 
   unfoldable pub roundKinds : ℕ → List Kind
-  roundKinds i = replicate (levelOf h i .size) message ++ afterKinds i
+  roundKinds i = replicate (wordsFor h (levelOf h i .size)) message ++ afterKinds i
 
   unfoldable pub lastKinds : List Kind
-  lastKinds = restLayout (outCoinCount h) (levelOf h (roundsOf h)) []
+  lastKinds = restLayout (h .spelling) (outCoinCount h) (levelOf h (roundsOf h)) []
 
-  rest-parts : (m i : ℕ) → i + m ≡ roundsOf h → restLayout (outCoinCount h) (levelOf h i) (map (levelOf h) (range (suc i) m)) ≡ joined roundKinds lastKinds (suc i) m
+  rest-parts : (m i : ℕ) → i + m ≡ roundsOf h → restLayout (h .spelling) (outCoinCount h) (levelOf h i) (map (levelOf h) (range (suc i) m)) ≡ joined roundKinds lastKinds (suc i) m
   unfolding restLayout roundLayout range joined roundKinds afterKinds lastKinds
-  rest-parts zero i e = let q : i ≡ roundsOf h = omega arith in ap (λ (n : ℕ). restLayout (outCoinCount h) (levelOf h n) []) q
-  rest-parts (suc m) i e = ap (λ (t : List Kind). roundLayout (outCoinCount h) (levelOf h i) (levelOf h (suc i)) ++ t) (rest-parts m (suc i) (omega arith))
+  rest-parts zero i e = let q : i ≡ roundsOf h = omega arith in ap (λ (n : ℕ). restLayout (h .spelling) (outCoinCount h) (levelOf h n) []) q
+  rest-parts (suc m) i e = ap (λ (t : List Kind). roundLayout (h .spelling) (outCoinCount h) (levelOf h i) (levelOf h (suc i)) ++ t) (rest-parts m (suc i) (omega arith))
 
   pub layout-parts : Paired h → layout h ≡ joined roundKinds lastKinds 0 (suc (roundsOf h))
   unfolding layout joined roundKinds afterKinds firstLevel
   layout-parts l =
       let n : h .size ≡ levelOf h 0 .size = ap (λ (b : Level). b .size) (level-first h) in
-      (λ x. replicate (n x) message ++ (coin ∷ restLayout (outCoinCount h) (level-first h x) (levels-later h l x)))
-      ∙ ap (λ (t : List Kind). replicate (levelOf h 0 .size) message ++ (coin ∷ t)) (rest-parts (roundsOf h) 0 (omega arith))
-      ∙ sym (append-assoc (replicate (levelOf h 0 .size) message) (coin ∷ []) _)
+      (λ x. replicate (wordsFor h (n x)) message ++ (replicate (wordsFor h 1) coin ++ restLayout (h .spelling) (outCoinCount h) (level-first h x) (levels-later h l x)))
+      ∙ ap (λ (t : List Kind). replicate (wordsFor h (levelOf h 0 .size)) message ++ (replicate (wordsFor h 1) coin ++ t)) (rest-parts (roundsOf h) 0 (omega arith))
+      ∙ sym (append-assoc (replicate (wordsFor h (levelOf h 0 .size)) message) (replicate (wordsFor h 1) coin) _)
 
-  pub kinds-length : (i : ℕ) → length (roundKinds i) ≡ wordCount h i
-  unfolding roundKinds afterKinds wordCount roundLayout
-  kinds-length zero = length-append (replicate (levelOf h 0 .size) message) (coin ∷ []) ∙ ap (λ (n : ℕ). n + 1) (length-replicate (levelOf h 0 .size) message)
-  kinds-length (suc i) = round-length (outCoinCount h) (levelOf h i) (levelOf h (suc i))
+  pub kinds-length : (i : ℕ) → length (roundKinds i) ≡ roundCount h i
+  unfolding roundKinds afterKinds roundCount roundLayout
+  kinds-length zero =
+      length-append (replicate (wordsFor h (levelOf h 0 .size)) message) (replicate (wordsFor h 1) coin)
+      ∙ (λ x. length-replicate (wordsFor h (levelOf h 0 .size)) message x + length-replicate (wordsFor h 1) coin x)
+  kinds-length (suc i) = round-length (h .spelling) (outCoinCount h) (levelOf h i) (levelOf h (suc i))
 
   pub kinds-coins : (i : ℕ) → length (coinKinds (roundKinds i)) ≡ coinCount h i
-  unfolding roundKinds afterKinds coinCount coinKinds laterCount roundLayout
-  kinds-coins zero = coins-length (replicate (levelOf h 0 .size) message) (coin ∷ []) ∙ omega (arith, no-coins (levelOf h 0 .size))
+  unfolding roundKinds afterKinds coinCount roundLayout
+  kinds-coins zero =
+      coins-length (replicate (wordsFor h (levelOf h 0 .size)) message) (replicate (wordsFor h 1) coin)
+      ∙ omega (arith, no-coins (wordsFor h (levelOf h 0 .size)), ap length (coins-alone (wordsFor h 1)), length-replicate (wordsFor h 1) coin)
   kinds-coins (suc i) =
       let b = levelOf h i in
       let l = levelOf h (suc i) in
-      ap length (round-coins (outCoinCount h) b l) ∙ length-append (replicate (outCoinCount h) (out l)) _
-      ∙ omega (arith, length-replicate (outCoinCount h) (out l), length-replicate (b .repetitions) (index (shiftCount b)))
+      ap length (round-coins (h .spelling) (outCoinCount h) b l) ∙ length-append (outLayout (h .spelling) (outCoinCount h) l) _
+      ∙ omega (arith, outs-length (h .spelling) (outCoinCount h) l, later-length (h .spelling) b)
 
   firsts-coins : (j : ℕ) → length (coinKinds (firsts roundKinds j)) ≡ coinsBefore h j
   unfolding firsts coinsBefore coinKinds
@@ -66,7 +70,7 @@ module _ (ed : Edition) (h : Sheet) where
 
   firsts-words : (j : ℕ) → sheetLength ed + length (firsts roundKinds j) ≡ roundStart ed h j
   unfolding roundStart
-  firsts-words j = firsts-length roundKinds (roundStart ed h) (wordCount h) (λ i. refl) j (λ i l. kinds-length i)
+  firsts-words j = firsts-length roundKinds (roundStart ed h) (roundCount h) (λ i. refl) j (λ i l. kinds-length i)
 
   -- rounds begin one after the other, behind the sheet
   pub starts-grow : (i m : ℕ) → roundStart ed h i ≤ roundStart ed h (i + m)
@@ -85,7 +89,7 @@ module _ (ed : Edition) (h : Sheet) where
     cut j r e = layout-parts l ∙ split-joined roundKinds lastKinds j r (suc (roundsOf h)) e
 
     -- the number of words due: those before the final coefficients, the coefficients and the t_M final indices
-    pub words-due : wordsDue ed h ≡ roundStart ed h (suc (roundsOf h)) + (finalCount (levelOf h (roundsOf h)) + levelOf h (roundsOf h) .repetitions)
+    pub words-due : wordsDue ed h ≡ roundStart ed h (suc (roundsOf h)) + (wordsFor h (finalCount (levelOf h (roundsOf h))) + levelOf h (roundsOf h) .repetitions)
     unfolding wordsDue joined lastKinds
     words-due =
         let M = roundsOf h in
@@ -94,7 +98,7 @@ module _ (ed : Edition) (h : Sheet) where
           ap length (cut (suc M) 0 (omega arith)),
           length-append (firsts roundKinds (suc M)) lastKinds,
           firsts-words (suc M),
-          final-length (outCoinCount h) (levelOf h M),
+          final-length (h .spelling) (outCoinCount h) (levelOf h M),
         )
 
     -- the due number of coins: those before the final coefficients, and the t_M final indices
@@ -103,7 +107,7 @@ module _ (ed : Edition) (h : Sheet) where
     coins-due =
         let M = roundsOf h in
         ap (λ (ks : List Kind). length (coinKinds ks)) (cut (suc M) 0 (omega arith)) ∙ coins-length (firsts roundKinds (suc M)) _
-        ∙ (λ x. firsts-coins (suc M) x + (ap length (coins-final (outCoinCount h) (levelOf h M)) ∙ length-replicate (levelOf h M .repetitions) (index (shiftCount (levelOf h M)))) x)
+        ∙ (λ x. firsts-coins (suc M) x + (ap length (coins-final (h .spelling) (outCoinCount h) (levelOf h M)) ∙ length-replicate (levelOf h M .repetitions) (index (shiftCount (levelOf h M)))) x)
 
     -- x words into round j
     pub after-start : (j r x : ℕ) → j + r ≡ suc (roundsOf h) → drop (roundStart ed h j + x - sheetLength ed) (layout h) ≡ drop x (joined roundKinds lastKinds j r)

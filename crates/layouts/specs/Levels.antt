@@ -2,18 +2,30 @@
 -- M is the number of rounds, s the number of out coins of a round; k_i, t_i, n_i and d_i belong to level i.
 use Prim.Native.Nat.{ℕ, zero, suc, _+_, _/_, _^_}
 use mathlib.Core.List.{List, [], _∷_, tail}
-use lib.ListN.{length, getD, take}
-use Rattle.definition.specs.Field.{Field, primeField}
+use lib.ListN.{length, getD, take, drop}
+use Rattle.definition.specs.Field.{Element, Field, Spelling, fieldIn, four, numberIn, one, quads, wordCount}
 use Rattle.definition.specs.Layout.{laterCount}
 use Rattle.definition.specs.Lists.{productOf}
 use Rattle.definition.specs.Sheet.{Edition, Level, Sheet, rootOfUnity, sheetLength}
 
 -- the sheet's field, and its ω
-abbrev pub sheetField : Sheet → Field ℕ
-sheetField h = primeField (h .prime)
+abbrev pub sheetField : (h : Sheet) → Field (Element (h .spelling))
+sheetField h = fieldIn (h .spelling) (h .prime)
 
-abbrev pub sheetRoot : Sheet → ℕ
-sheetRoot h = rootOfUnity h
+abbrev pub sheetRoot : (h : Sheet) → Element (h .spelling)
+sheetRoot h = numberIn (h .spelling) (rootOfUnity h)
+
+-- its 0, which also stands for an entry that is not there
+abbrev pub zeroOf : (h : Sheet) → Element (h .spelling)
+zeroOf h = numberIn (h .spelling) 0
+
+-- the number of words of so many of its elements, and the element that begins at word i of a list
+abbrev pub wordsFor : Sheet → ℕ → ℕ
+wordsFor h n = wordCount (h .spelling) n
+
+unfoldable pub elementAt : (σ : Spelling) → List ℕ → ℕ → Element σ
+elementAt one w i = getD w i 0
+elementAt four w i = getD (quads (drop i w)) 0 (numberIn four 0)
 
 -- M, the number of levels after level 0, and s
 abbrev pub roundsOf : Sheet → ℕ
@@ -41,22 +53,23 @@ unfoldable pub total : List ℕ → ℕ
 total [] = 0
 total (x ∷ xs) = x + total xs
 
--- THE COINS BY ROUND. Round 0 has fold coin 0 alone; round i + 1 has s out coins, a combination coin, fold coin i + 1 and t_i shift indices.
+-- THE COINS BY ROUND, in words. Round 0 has fold coin 0 alone; round i + 1 has s out coins, a combination coin, fold coin i + 1 and t_i shift indices.
 unfoldable pub coinCount : Sheet → ℕ → ℕ
-coinCount h zero = 1
-coinCount h (suc i) = outCoinCount h + laterCount (levelOf h i)
+coinCount h zero = wordsFor h 1
+coinCount h (suc i) = wordsFor h (outCoinCount h) + laterCount (h .spelling) (levelOf h i)
 
--- the number of coins sent before table i; for i = M + 1 before the final coefficients
+-- the number of coin words sent before table i; for i = M + 1 before the final coefficients
 unfoldable pub coinsBefore : Sheet → ℕ → ℕ
 coinsBefore h zero = 0
 coinsBefore h (suc i) = coinsBefore h i + coinCount h i
 
 -- THE WORDS BY ROUND. Round 0 has table 0 and its coin; round i + 1 has table, out coins, replies and the other coins.
-unfoldable pub wordCount : Sheet → ℕ → ℕ
-wordCount h zero = levelOf h 0 .size + 1
-wordCount h (suc i) = levelOf h (suc i) .size + (outCoinCount h + (outCoinCount h + laterCount (levelOf h i)))
+unfoldable pub roundCount : Sheet → ℕ → ℕ
+roundCount h zero = wordsFor h (levelOf h 0 .size) + wordsFor h 1
+roundCount h (suc i) =
+    wordsFor h (levelOf h (suc i) .size) + (wordsFor h (outCoinCount h) + (wordsFor h (outCoinCount h) + laterCount (h .spelling) (levelOf h i)))
 
 -- the word number at which round i begins, which is that of table i; for i = M + 1 that of the final coefficients
 unfoldable pub roundStart : Edition → Sheet → ℕ → ℕ
 roundStart e h zero = sheetLength e
-roundStart e h (suc i) = roundStart e h i + wordCount h i
+roundStart e h (suc i) = roundStart e h i + roundCount h i

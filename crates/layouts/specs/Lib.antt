@@ -6,6 +6,8 @@ pub mod Levels
 pub mod PlainRules
 -- tests
 pub mod Tests
+-- how elements are spelt in words
+pub mod Spellings
 -- the words of a file
 pub mod FileWords
 pub mod BlockTrip
@@ -24,7 +26,10 @@ pub mod SheetLevels
 -- the layout: its kinds, its rounds, and its size
 pub mod EachWord
 pub mod LayoutFacts
+pub mod WholeCoins
 pub mod CoinsAfter
 pub mod LayoutByRound
 pub mod DueSizes
 pub mod FileSize
+-- where elements are of one word
+pub mod OneWord

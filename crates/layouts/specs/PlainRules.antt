@@ -5,9 +5,9 @@ use mathlib.Core.List.{List}
 use mathlib.Core.Path.{_≡_}
 use lib.Dec.{ltb}
 use lib.ListN.{getD, take}
-use Rattle.definition.specs.Field.{primeOf}
+use Rattle.definition.specs.Field.{primeOf, spellingOf}
 use Rattle.definition.specs.Lists.{productOf}
-use Rattle.definition.specs.Sheet.{Edition, edition1, edition2, foldWords, sheetRules}
+use Rattle.definition.specs.Sheet.{Edition, edition1, edition2, foldWords, largestSize, sheetRules}
 
 -- The turn at which word i is tested: edition 1 goes from word to word, edition 2 through words 0 to 5, 12 to 17 and 6 to 11.
 unfoldable pub wordTurn : Edition → ℕ → ℕ
@@ -25,9 +25,9 @@ LaterWords edition2 w = ((i : ℕ) → getD w 4 0 < i → i < 6 → getD w (11 +
 
 -- The rules in plain numbers. Of all words but the folding numbers: the field; n0 and d0, powers of two; M; s; and t_0 to t_M, with zeros after them.
 pub record PlainWords (w : List ℕ) : Type 0 where
-  pub field : getD w 0 0 < 3
+  pub field : getD w 0 0 < 4
   pub size·power : (a : ℕ) × (getD w 1 0 ≡ 2 ^ a)
-  pub size·range : (4 ≤ getD w 1 0) × (getD w 1 0 ≤ 4096)
+  pub size·range : (4 ≤ getD w 1 0) × (getD w 1 0 ≤ largestSize (spellingOf (getD w 0 0)))
   pub size·divides : (primeOf (getD w 0 0) - 1) % getD w 1 0 ≡ 0
   pub degree·power : (b : ℕ) × (getD w 2 0 ≡ 2 ^ b)
   pub degree·range : (2 ≤ getD w 2 0) × (getD w 2 0 ≤ getD w 1 0 / 2)

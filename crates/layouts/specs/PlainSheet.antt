@@ -10,10 +10,10 @@ use mathlib.Core.Path.{_≡_, refl, sym, ap, _∙_, subst}
 use lib.Dec.{eqb, leb, ltb}
 use lib.ListN.{getD, take, getD-replicate}
 use borrow.Author.Tests.{eq-eqb, eqb-true, le-leb, le-ltb, lt-leb, lt-ltb, ltb-true, ne-eqb}
-use Rattle.definition.specs.Field.{knownField}
+use Rattle.definition.specs.Field.{spellingOf}
 use Rattle.definition.specs.Lists.{productOf, range}
 use Rattle.definition.specs.Reading.{sheetTest}
-use Rattle.definition.specs.Sheet.{Edition, between, degreeRule, edition1, edition2, editionRule, fieldRule, foldPlaces, foldRule, foldWords, foldingNumber, laterFoldRule, laterRules, outCoinsRule, powerOfTwo, repetitionsRule, roundsRule, sheetLength, sheetRules, sizeRule, testOrder}
+use Rattle.definition.specs.Sheet.{Edition, between, degreeRule, edition1, edition2, editionRule, fieldRule, foldPlaces, foldRule, foldWords, foldingNumber, largestSize, laterFoldRule, laterRules, outCoinsRule, powerOfTwo, repetitionsRule, roundsRule, sheetLength, sheetRules, sizeRule, testOrder}
 use Rattle.definition.specs.Verdict.{accepted}
 use Rattle.list_laws.specs.All.{All, all-append, all-map, all-of-map, all-range}
 use Rattle.list_laws.specs.Booleans.{and-true}
@@ -22,6 +22,7 @@ use Rattle.list_laws.specs.Members.{range-member}
 use Rattle.layouts.specs.PlainRules.{KeepsRule, LaterWords, PlainSheet, PlainSheet1}
 use Rattle.layouts.specs.RulesByWord.{sheet-exactly}
 use Rattle.layouts.specs.SheetRules.{between-true, edition-number, few-points, fold-product, fold-words, folding-large, folding-log, folding-small, later-fold, pow-most, power-of-two, product-replicate, repetitions-hold, rounds-most, rules-hold, rules-later}
+use Rattle.layouts.specs.Spellings.{largest-most}
 use Rattle.layouts.specs.Tests.{at-none, none-found}
 
 both : (a b : Bool) → a ≡ true → b ≡ true → (a && b) ≡ true
@@ -100,21 +101,22 @@ words-later edition2 w h = (past, edition-number w h)
 
 module _ (ed : Edition) (w : List ℕ) where
   pub sheet-plain : sheetTest ed w ≡ accepted → PlainSheet ed w
-  unfolding sheetRules fieldRule knownField sizeRule degreeRule outCoinsRule
+  unfolding sheetRules fieldRule sizeRule degreeRule outCoinsRule
   sheet-plain e =
       let h = rules-hold ed w e in
       let n = getD w 1 0 in
-      let s₁ = and-true (powerOfTwo n && between 4 4096 n) _ (h .1 .0) in
-      let s₂ = and-true (powerOfTwo n) (between 4 4096 n) (s₁ .0) in
+      let u = largestSize (spellingOf (getD w 0 0)) in
+      let s₁ = and-true (powerOfTwo n && between 4 u n) _ (h .1 .0) in
+      let s₂ = and-true (powerOfTwo n) (between 4 u n) (s₁ .0) in
       let d₁ = and-true (powerOfTwo (getD w 2 0)) _ (h .1 .1 .0) in
       let p = power-of-two n (s₂ .0) in
       let q = power-of-two (getD w 2 0) (d₁ .0) in
       let m = rounds-most ed w e in
       record {
         plain = record {
-          field = ltb-true (getD w 0 0) 3 (h .0);
+          field = ltb-true (getD w 0 0) 4 (h .0);
           size·power = (p .0, p .2);
-          size·range = between-true 4 4096 n (s₂ .1);
+          size·range = between-true 4 u n (s₂ .1);
           size·divides = eqb-true _ 0 (s₁ .1);
           degree·power = (q .0, q .2);
           degree·range = between-true 2 (n / 2) (getD w 2 0) (d₁ .1);
@@ -176,13 +178,13 @@ module _ (ed : Edition) (w : List ℕ) (s : PlainSheet ed w) where
       subst (λ (k : ℕ). foldingNumber w k ≡ true) (first-word ed w) (is-folding w (getD (foldWords ed w) 0 0) (p .0) (p .1) (s .fold·range 0 (omega arith)))
 
   all-rules : All (λ (b : Bool). b ≡ true) (sheetRules ed w)
-  unfolding sheetRules fieldRule knownField sizeRule degreeRule outCoinsRule
+  unfolding sheetRules fieldRule sizeRule degreeRule outCoinsRule
   all-rules = (
-    lt-ltb (getD w 0 0) 3 (s .plain .field),
+    lt-ltb (getD w 0 0) 4 (s .plain .field),
     (
-      both _ _ (both _ _ (is-power (getD w 1 0) (s .plain .size·power .0) (s .plain .size·power .1) (s .plain .size·range .1)) (is-between 4 4096 (getD w 1 0) (s .plain .size·range .0) (s .plain .size·range .1))) (eq-eqb _ 0 (s .plain .size·divides)),
+      both _ _ (both _ _ (is-power (getD w 1 0) (s .plain .size·power .0) (s .plain .size·power .1) (omega (arith, s .plain .size·range .1, largest-most (spellingOf (getD w 0 0))))) (is-between 4 (largestSize (spellingOf (getD w 0 0))) (getD w 1 0) (s .plain .size·range .0) (s .plain .size·range .1))) (eq-eqb _ 0 (s .plain .size·divides)),
       (
-        both _ _ (is-power (getD w 2 0) (s .plain .degree·power .0) (s .plain .degree·power .1) (omega (arith, s .plain .degree·range .1, s .plain .size·range .1))) (is-between 2 (getD w 1 0 / 2) (getD w 2 0) (s .plain .degree·range .0) (s .plain .degree·range .1)),
+        both _ _ (is-power (getD w 2 0) (s .plain .degree·power .0) (s .plain .degree·power .1) (omega (arith, s .plain .degree·range .1, s .plain .size·range .1, largest-most (spellingOf (getD w 0 0))))) (is-between 2 (getD w 1 0 / 2) (getD w 2 0) (s .plain .degree·range .0) (s .plain .degree·range .1)),
         (
           fold-rule,
           (

@@ -6,12 +6,12 @@ use mathlib.Core.List.{List, [], _∷_, _++_}
 use mathlib.Core.Path.{_≡_, refl, sym, ap, _∙_}
 use lib.Dec.{eqb, ltb, leb}
 use lib.ListN.{length, getD, take, replicate, length-append, List·getD-append}
-use borrow.Author.Tests.{eqb-true, eq-eqb}
-use Rattle.definition.specs.Field.{knownField, primeOf}
+use borrow.Author.Tests.{eqb-true, eq-eqb, lt-ltb, ltb-true}
+use Rattle.definition.specs.Field.{knownField, primeOf, spellingOf}
 use Rattle.definition.specs.Lists.{productOf, range}
 use Rattle.definition.specs.Load.{keep, permits}
 use Rattle.definition.specs.Reading.{sheetTest}
-use Rattle.definition.specs.Sheet.{between, degreeRule, edition1, fieldRule, foldPlaces, foldRule, foldWords, foldingNumber, laterRules, mostRepetitions, outCoinsRule, powerOfTwo, repetitionsRule, roundsRule, sheetRules, sizeRule}
+use Rattle.definition.specs.Sheet.{between, degreeRule, edition1, fieldRule, foldPlaces, foldRule, foldWords, foldingNumber, largestSize, laterRules, mostRepetitions, outCoinsRule, powerOfTwo, repetitionsRule, roundsRule, sheetRules, sizeRule}
 use Rattle.definition.specs.Verdict.{accepted}
 use Rattle.list_laws.specs.All.{All}
 use Rattle.layouts.specs.PlainRules.{wordTurn}
@@ -28,8 +28,8 @@ keep-all test (x ∷ xs) = go (test x) refl (keep-all test xs)
 
 -- what is permitted keeps the rule
 pub rule-kept : (w : List ℕ) (x : ℕ) → permits w x ≡ true → getD (sheetRules edition1 (w ++ (x ∷ []))) (length w) false ≡ true
-unfolding permits sheetRules fieldRule
-rule-kept [] x e = e
+unfolding permits knownField sheetRules fieldRule
+rule-kept [] x e = lt-ltb x 4 (omega (arith, ltb-true x 3 e))
 rule-kept (a ∷ w) x e = e
 
 -- the rule of a word looks at that word and those before it alone
@@ -46,8 +46,8 @@ module _ (w u : List ℕ) where
 
   pub rule-front : (j : ℕ) → j < length w → getD (sheetRules edition1 (w ++ u)) j false ≡ getD (sheetRules edition1 w) j false
   unfolding sheetRules laterRules range fieldRule sizeRule degreeRule foldRule foldingNumber roundsRule outCoinsRule
-  rule-front zero l = λ t. knownField (same 0 l t)
-  rule-front (suc zero) l = λ t. powerOfTwo (same 1 l t) && between 4 4096 (same 1 l t) && eqb ((primeOf (same 0 (omega arith) t) - 1) % same 1 l t) 0
+  rule-front zero l = λ t. ltb (same 0 l t) 4
+  rule-front (suc zero) l = λ t. powerOfTwo (same 1 l t) && between 4 (largestSize (spellingOf (same 0 (omega arith) t))) (same 1 l t) && eqb ((primeOf (same 0 (omega arith) t) - 1) % same 1 l t) 0
   rule-front (suc (suc zero)) l = λ t. powerOfTwo (same 2 l t) && between 2 (same 1 (omega arith) t / 2) (same 2 l t)
   rule-front (suc (suc (suc zero))) l = λ t. powerOfTwo (same 3 l t) && between 2 16 (same 3 l t) && leb (same 3 l t) (same 2 (omega arith) t)
   rule-front (suc (suc (suc (suc zero)))) l = λ t. leb (same 4 l t) 5 && leb (same 3 (omega arith) t ^ suc (same 4 l t)) (same 2 (omega arith) t)

@@ -7,7 +7,7 @@ use mathlib.Core.List.{List, [], _∷_, _++_, map}
 use mathlib.Core.Path.{_≡_, refl, sym, ap, _∙_}
 use lib.ListN.{length, getD, take, drop, replicate, length-append, length-drop, length-map, List·getD-append}
 use lib.Seq.{ext-getD, getD-drop, getD-take, length-take-le, take-take}
-use Rattle.definition.specs.Field.{generatorOf, primeOf}
+use Rattle.definition.specs.Field.{generatorOf, primeOf, spellingOf}
 use Rattle.definition.specs.Lists.{productOf, range}
 use Rattle.definition.specs.Reading.{sheetTest}
 use Rattle.definition.specs.Sheet.{Edition, Level, Sheet, degreeRule, edition1, edition2, editionRule, fieldRule, firstLevel, foldPlaces, foldRule, foldWords, foldingNumber, laterFoldRule, laterLevels, laterRules, outCoinsRule, repetitionsRule, roundsRule, sheetLength, sheetOf, sheetRules, sizeRule, testOrder}
@@ -124,6 +124,7 @@ pub sheet-moved : (ed ed′ : Edition) (v u : List ℕ) → 12 ≤ length v → 
     take (suc (getD v 4 0)) (foldWords ed v) ≡ take (suc (getD u 4 0)) (foldWords ed′ u) → sheetOf ed v ≡ sheetOf ed′ u
 unfolding sheetOf
 sheet-moved ed ed′ v u lv lu most same folds = λ i. record {
+  spelling = spellingOf (same 0 (omega arith) i);
   prime = primeOf (same 0 (omega arith) i);
   generator = generatorOf (same 0 (omega arith) i);
   size = same 1 (omega arith) i;

@@ -12,10 +12,10 @@ use lib.ListN.{length, getD, take, drop, replicate, drop-of-length-le, getD-repl
 use lib.Pow.{pow-add, pow-mono, pow-pos}
 use lib.Seq.{drop-cons}
 use borrow.Author.Tests.{eqb-true, le-leb, leb-true, lt-ltb, ltb-true, not-false}
-use Rattle.definition.specs.Field.{knownField}
+use Rattle.definition.specs.Field.{spellingOf}
 use Rattle.definition.specs.Lists.{productOf, range}
 use Rattle.definition.specs.Reading.{sheetTest}
-use Rattle.definition.specs.Sheet.{Edition, between, degreeRule, edition1, edition2, editionRule, fieldRule, foldPlaces, foldRule, foldWords, foldingNumber, laterFoldRule, laterRules, outCoinsRule, powerOfTwo, repetitionsRule, roundsRule, sheetLength, sheetRules, sizeRule, testOrder}
+use Rattle.definition.specs.Sheet.{Edition, between, degreeRule, edition1, edition2, editionRule, fieldRule, foldPlaces, foldRule, foldWords, foldingNumber, largestSize, laterFoldRule, laterRules, outCoinsRule, powerOfTwo, repetitionsRule, roundsRule, sheetLength, sheetRules, sizeRule, testOrder}
 use Rattle.definition.specs.Verdict.{accepted}
 use Rattle.list_laws.specs.All.{All, all-at, all-in-map, all-left, all-map, all-right}
 use Rattle.list_laws.specs.Booleans.{and-true}
@@ -23,6 +23,7 @@ use Rattle.list_laws.specs.Lists.{getD-map-range, take-replicate}
 use Rattle.list_laws.specs.Members.{member-range}
 use Rattle.layouts.specs.FileTrip.{Word}
 use Rattle.layouts.specs.Levels.{total}
+use Rattle.layouts.specs.Spellings.{largest-most}
 use Rattle.layouts.specs.Tests.{none-of}
 
 -- one of the powers of two
@@ -266,14 +267,16 @@ edition-number w h = eqb-true (getD w 17 0) 2 (all-right (λ (b : Bool). b ≡ t
 
 -- words 0 to 5 are small
 pub front-words : (ed : Edition) (w : List ℕ) → sheetTest ed w ≡ accepted →
-    (getD w 0 0 < 3) × (getD w 1 0 ≤ 4096) × (getD w 2 0 ≤ 4096) × (getD w 3 0 ≤ 16) × (getD w 4 0 ≤ 5) × (getD w 5 0 ≤ 2)
-unfolding sheetRules fieldRule knownField sizeRule degreeRule outCoinsRule
+    (getD w 0 0 < 4) × (getD w 1 0 ≤ 4096) × (getD w 2 0 ≤ 4096) × (getD w 3 0 ≤ 16) × (getD w 4 0 ≤ 5) × (getD w 5 0 ≤ 2)
+unfolding sheetRules fieldRule sizeRule degreeRule outCoinsRule
 front-words ed w e =
     let h = rules-hold ed w e in
-    let n = between-true 4 4096 (getD w 1 0) (and-true (powerOfTwo (getD w 1 0)) _ (and-true (powerOfTwo (getD w 1 0) && between 4 4096 (getD w 1 0)) _ (h .1 .0) .0) .1) in
+    let u = largestSize (spellingOf (getD w 0 0)) in
+    let n = between-true 4 u (getD w 1 0) (and-true (powerOfTwo (getD w 1 0)) _ (and-true (powerOfTwo (getD w 1 0) && between 4 u (getD w 1 0)) _ (h .1 .0) .0) .1) in
+    let most = largest-most (spellingOf (getD w 0 0)) in
     let d = between-true 2 (getD w 1 0 / 2) (getD w 2 0) (and-true (powerOfTwo (getD w 2 0)) _ (h .1 .1 .0) .1) in
     let s = between-true 1 2 (getD w 5 0) (h .1 .1 .1 .1 .1 .0) in
-    (ltb-true (getD w 0 0) 3 (h .0), n .1, omega (arith, d .1, n .1), folding-small w (getD w 3 0) (first-fold ed w e) .0, rounds-most ed w e, s .1)
+    (ltb-true (getD w 0 0) 4 (h .0), omega (arith, n .1, most), omega (arith, d .1, n .1, most), folding-small w (getD w 3 0) (first-fold ed w e) .0, rounds-most ed w e, s .1)
 
 -- every word of a sheet that passes has 32 bits
 pub sheet-words : (ed : Edition) (w : List ℕ) → length w ≡ sheetLength ed → sheetTest ed w ≡ accepted → All Word w

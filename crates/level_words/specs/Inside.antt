@@ -3,8 +3,8 @@ use Prim.Native.Nat.{ℕ, _+_, _/_, _≤_, _<_}
 use mathlib.Core.Path.{_≡_}
 use mathlib.Core.List.{List}
 use lib.ListN.{length, getD}
-use Rattle.layouts.specs.Levels.{roundsOf}
-use Rattle.definition.specs.Field.{primeOf}
+use Rattle.layouts.specs.Levels.{roundsOf, wordsFor}
+use Rattle.definition.specs.Field.{primeOf, spellingOf}
 use Rattle.definition.specs.Sheet.{Edition, Sheet, foldWords, sheetLength}
 use Rattle.fractions.specs.Values.{Below}
 use Rattle.level_words.specs.declared.State.{State}
@@ -14,6 +14,7 @@ use Rattle.level_words.specs.State.{finalsOf, currentFold, currentRepeti
 pub record Written (ed : Edition) (h : Sheet) (w : List ℕ) : Type 0 where
   pub long : 12 ≤ length w
   pub sheet : sheetLength ed ≤ length w
+  pub spelling : h .spelling ≡ spellingOf (getD w 0 0)
   pub prime : h .prime ≡ primeOf (getD w 0 0)
   pub size : getD w 1 0 ≡ h .size
   pub degree : getD w 2 0 ≡ h .degree
@@ -26,6 +27,7 @@ pub record Written (ed : Edition) (h : Sheet) (w : List ℕ) : Type 0 where
 pub record Numbers (ed : Edition) (h : Sheet) (w : List ℕ) (st : State) : Type 0 where
   pub long : 12 ≤ length w
   pub sheet : sheetLength ed ≤ length w
+  pub spelling : h .spelling ≡ spellingOf (getD w 0 0)
   pub level : st .level ≤ 5
   pub outs : getD w 5 0 ≡ h .outCoins
   pub times : getD w (6 + st .level) 0 ≡ currentRepetitions h st
@@ -48,5 +50,5 @@ pub record RoundInside (ed : Edition) (h : Sheet) (w : List ℕ) (st : State) : 
 -- The final coefficients and indices are there, and the indices are below the number of shift points.
 pub record FinalInside (ed : Edition) (h : Sheet) (w : List ℕ) (st : State) : Type 0 where
   pub numbers : Numbers ed h w st
-  pub there : st .at + nextDegree h st + currentRepetitions h st ≤ length w
+  pub there : st .at + wordsFor h (nextDegree h st) + currentRepetitions h st ≤ length w
   pub below : Below (st .size / currentFold h st) (finalsOf h w st)

@@ -3,10 +3,12 @@ use Prim.Native.Nat.{ℕ, _+_, _*_, _/_}
 use mathlib.Core.List.{List}
 use lib.Dec.{eqb}
 use lib.ListN.{length, getD, take, drop}
+use Rattle.definition.specs.Field.{Element, elementsIn}
 use Rattle.definition.specs.Layout.{readRest}
 use Rattle.definition.specs.Lists.{different}
 use Rattle.definition.specs.Sheet.{Level, Sheet, levelsFrom}
 use Rattle.definition.specs.Transcript.{Round, Rest}
+use Rattle.layouts.specs.Levels.{elementAt, wordsFor}
 use Rattle.fractions.specs.declared.Oracle.{Oracle}
 use Rattle.level_words.specs.declared.State.{State}
 
@@ -27,18 +29,21 @@ nextDegree h st = st .degree / currentFold h st
 abbrev pub nextFold : Sheet → State → ℕ
 nextFold h st = getD (h .folds) (st .level + 1) 0
 
--- where the parts of the next round begin: the table stands first, then the out coins, the replies, two coins and the shift indices
-abbrev pub outsAt : State → ℕ
-outsAt st = st .at + nextSize st
+-- at which word the parts of the next round begin: the table stands first, then the out coins, the replies, two coins and the shift indices
+abbrev pub outsAt : Sheet → State → ℕ
+outsAt h st = st .at + wordsFor h (nextSize st)
 
 abbrev pub repliesAt : Sheet → State → ℕ
-repliesAt h st = outsAt st + h .outCoins
+repliesAt h st = outsAt h st + wordsFor h (h .outCoins)
 
 abbrev pub coinsAt : Sheet → State → ℕ
-coinsAt h st = repliesAt h st + h .outCoins
+coinsAt h st = repliesAt h st + wordsFor h (h .outCoins)
+
+abbrev pub foldCoinAt : Sheet → State → ℕ
+foldCoinAt h st = coinsAt h st + wordsFor h 1
 
 abbrev pub shiftsAt : Sheet → State → ℕ
-shiftsAt h st = coinsAt h st + 2
+shiftsAt h st = coinsAt h st + wordsFor h 2
 
 unfoldable pub currentLevel : Sheet → State → Level
 currentLevel h st = record { number = st .level; size = st .size; degree = st .degree; fold = currentFold h st; repetitions = currentRepetitions h st }
@@ -63,7 +68,7 @@ nextOracle h st scale words = record { scale = 2 * scale; step = nextSize st / n
 
 -- the first place, where the words after the sheet begin at a number: at level 0, after fold coin 0
 abbrev pub afterFold : ℕ → Sheet → ℕ
-afterFold from h = from + h .size + 1
+afterFold from h = from + wordsFor h (h .size) + wordsFor h 1
 
 unfoldable pub firstState : ℕ → Sheet → State
 firstState from h = record {
@@ -78,50 +83,50 @@ firstState from h = record {
 unfoldable pub firstOracle : Sheet → Oracle
 firstOracle h = record { scale = 1; step = h .size / getD (h .folds) 0 0; words = 0 }
 
--- the level's table
-unfoldable pub currentTable : List ℕ → State → List ℕ
-currentTable w st = take (st .size) (drop (st .table) w)
+-- the words of the level's table
+unfoldable pub currentTable : Sheet → List ℕ → State → List ℕ
+currentTable h w st = take (wordsFor h (st .size)) (drop (st .table) w)
 
--- the parts of the next round
+-- the words of the parts of the next round, and its two coins
 unfoldable pub nextOuts : Sheet → List ℕ → State → List ℕ
-nextOuts h w st = take (h .outCoins) (drop (outsAt st) w)
+nextOuts h w st = take (wordsFor h (h .outCoins)) (drop (outsAt h st) w)
 
 unfoldable pub nextReplies : Sheet → List ℕ → State → List ℕ
-nextReplies h w st = take (h .outCoins) (drop (repliesAt h st) w)
+nextReplies h w st = take (wordsFor h (h .outCoins)) (drop (repliesAt h st) w)
 
 unfoldable pub nextShifts : Sheet → List ℕ → State → List ℕ
 nextShifts h w st = take (currentRepetitions h st) (drop (shiftsAt h st) w)
 
-abbrev pub nextCombination : Sheet → List ℕ → State → ℕ
-nextCombination h w st = getD w (coinsAt h st) 0
+abbrev pub nextCombination : (h : Sheet) → List ℕ → State → Element (h .spelling)
+nextCombination h w st = elementAt (h .spelling) w (coinsAt h st)
 
-abbrev pub nextFoldCoin : Sheet → List ℕ → State → ℕ
-nextFoldCoin h w st = getD w (coinsAt h st + 1) 0
+abbrev pub nextFoldCoin : (h : Sheet) → List ℕ → State → Element (h .spelling)
+nextFoldCoin h w st = elementAt (h .spelling) w (foldCoinAt h st)
 
-unfoldable pub nextRound : Sheet → List ℕ → State → Round ℕ
+unfoldable pub nextRound : (h : Sheet) → List ℕ → State → Round (Element (h .spelling))
 nextRound h w st = record {
-  table = currentTable w (nextState h st);
+  table = elementsIn (h .spelling) (currentTable h w (nextState h st));
   coins = record {
     level = currentLevel h (nextState h st);
-    outs = nextOuts h w st;
+    outs = elementsIn (h .spelling) (nextOuts h w st);
     combination = nextCombination h w st;
     fold = nextFoldCoin h w st;
     shifts = nextShifts h w st;
   };
-  replies = nextReplies h w st;
+  replies = elementsIn (h .spelling) (nextReplies h w st);
 }
 
--- the final coefficients and the final indices
+-- the words of the final coefficients, and the final indices
 unfoldable pub coefficientsOf : Sheet → List ℕ → State → List ℕ
-coefficientsOf h w st = take (nextDegree h st) (drop (st .at) w)
+coefficientsOf h w st = take (wordsFor h (nextDegree h st)) (drop (st .at) w)
 
 unfoldable pub finalsOf : Sheet → List ℕ → State → List ℕ
-finalsOf h w st = take (currentRepetitions h st) (drop (st .at + nextDegree h st) w)
+finalsOf h w st = take (currentRepetitions h st) (drop (st .at + wordsFor h (nextDegree h st)) w)
 
 -- the reads after some of the level's coins: k more for each different index
 unfoldable pub readsAfter : Sheet → State → ℕ → List ℕ → ℕ
 readsAfter h st reads js = reads + length (different eqb js) * currentFold h st
 
 -- the transcript from here on
-unfoldable pub restOf : Sheet → List ℕ → State → Rest ℕ
-restOf h w st = readRest (h .outCoins) (currentLevel h st) (laterLevelsAt h st) (drop (st .at) w)
+unfoldable pub restOf : (h : Sheet) → List ℕ → State → Rest (Element (h .spelling))
+restOf h w st = readRest (h .spelling) (h .outCoins) (currentLevel h st) (laterLevelsAt h st) (drop (st .at) w)

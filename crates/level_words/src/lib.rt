@@ -6,8 +6,9 @@ ghost use Prim.Native.Nat.{_+_, _≤_, _<_};
 ghost use lib.ListN.{length, getD, take, drop};
 ghost use Rattle.definition.specs.Sheet.{sheetLength, sheetOf};
 ghost use Rattle.list_laws.specs.All.{All};
+ghost use Rattle.layouts.specs.Levels.{wordsFor};
 ghost use Rattle.edition.specs.Meaning.{editionOf};
-ghost use Rattle.level_words.specs.State.{currentRepetitions, finalsOf, firstOracle, firstState, nextFoldCoin, nextOracle, nextShifts, nextState, readsAfter};
+ghost use Rattle.level_words.specs.State.{currentRepetitions, finalsOf, firstOracle, firstState, foldCoinAt, nextOracle, nextShifts, nextState, readsAfter};
 ghost use Rattle.level_words.specs.Inside.{FinalInside, Numbers, RoundInside, Written};
 
 // A place: the level's number, domain size and degree bound, and where its table and the words after its fold coin begin. It holds no element: the level's
@@ -32,7 +33,7 @@ pub fn first_state(e: Edition, w: &[u32]) -> State
         size: size,
         degree: w[2] as usize,
         table: from,
-        at: from + size + 1,
+        at: from + widths::words(w[0], size + 1),
     }
 }
 
@@ -61,17 +62,17 @@ pub fn next_state(e: Edition, w: &[u32], state: State) -> State
         size: state.size / 2,
         degree: state.degree / k,
         table: state.at,
-        at: state.at + state.size / 2 + s + s + 2 + t,
+        at: state.at + widths::words(w[0], state.size / 2 + s + s + 2) + t,
     }
 }
 
-// The fold coin of the next round.
-pub fn next_coin(e: Edition, w: &[u32], state: State) -> u32
+// At which word the fold coin of the next round begins.
+pub fn next_coin(e: Edition, w: &[u32], state: State) -> usize
     requires { ⌜ RoundInside (editionOf e) (sheetOf (editionOf e) (now w)) (now w) state ⌝ }
-    ensures { λ r. ⌜ r ≡ nextFoldCoin (sheetOf (editionOf e) (now (w .entry))) (now (w .entry)) state ⌝ }
+    ensures { λ r. ⌜ (r ≡ foldCoinAt (sheetOf (editionOf e) (now (w .entry))) state) × (r + wordsFor (sheetOf (editionOf e) (now (w .entry))) 1 ≤ length (now (w .entry))) ⌝ }
 {
     let s = w[5] as usize;
-    w[state.at + state.size / 2 + s + s + 1]
+    state.at + widths::words(w[0], state.size / 2 + s + s + 1)
 }
 
 // How the function of the next level is worked out, with so many words of coefficients.
@@ -113,7 +114,7 @@ pub fn reads_after_round(e: Edition, w: &[u32], state: State, reads: usize) -> u
         w,
         state,
         reads,
-        state.at + state.size / 2 + s + s + 2,
+        state.at + widths::words(w[0], state.size / 2 + s + s + 2),
         w[6 + state.level] as usize,
     )
 }
@@ -129,7 +130,7 @@ pub fn reads_after_finals(e: Edition, w: &[u32], state: State, reads: usize, cou
         w,
         state,
         reads,
-        state.at + state.degree / edition::fold(e, w, state.level),
+        state.at + widths::words(w[0], state.degree / edition::fold(e, w, state.level)),
         count,
     )
 }

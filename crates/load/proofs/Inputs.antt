@@ -20,7 +20,7 @@ use Rattle.completeness.specs.ProveAccepted.{done-exactly}
 
 pub drawn-faultless : (v : ℕ) → (length (drawInput v .value .sheet) ≡ 12) × (sheetTest edition1 (drawInput v .value .sheet) ≡ accepted)
 unfolding drawInput
-drawn-faultless v = sheet-faultless v
+drawn-faultless v = let sheet = sheet-faultless v in (sheet .0, sheet .1)
 
 -- an input drawn, and the generator behind it
 pub drawn-parts : (v : ℕ) {next : ℕ} {w f c : List ℕ} → _≡_ {A = Drawn ProverInput} (record { value = record { sheet = w; coefficients = f; coins = c }; next = next }) (drawInput v) →

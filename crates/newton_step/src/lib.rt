@@ -1,14 +1,18 @@
 // One sample more in the polynomials A and V, as coefficient lists: the definition's Newton step.
+use quartic::Four;
 ghost use mathlib.Core.Path.{_≡_};
 ghost use Prim.Native.Nat.{_+_, _-_, _≤_, _<_};
 ghost use mathlib.Core.List.{_∷_};
 ghost use lib.ListN.{length, getD, drop};
-ghost use Rattle.definition.specs.Field.{fieldOf, reciprocal};
+ghost use Rattle.definition.specs.Field.{fieldOf, reciprocal, quads};
 ghost use Rattle.definition.specs.Polynomial.{evaluate};
 ghost use Rattle.list_laws.specs.Filled.{Filled};
 ghost use Rattle.polynomial.specs.Vanishing.{vanishAt};
 ghost use Rattle.sums.specs.ZeroPadding.{ZeroFrom};
 ghost use Rattle.newton_step.specs.Steps.{Through};
+ghost use Rattle.spelling.specs.Field3.{field3};
+ghost use Rattle.quartic.specs.Meaning.{quadOf};
+ghost use Rattle.newton_step.specs.Walked.{Added, Raised};
 
 // The value at x of a polynomial with no more coefficients than `room`, lent for the powers of x, has words.
 fn value_by(field: u32, f: &[u32], x: u32, room: &mut [u32]) -> u32
@@ -50,7 +54,7 @@ pub fn step(
     v: &mut [u32],
 )
     requires { ⌜ (0 < i) × ((i ≤ length (now xs)) × ((length (now ys) ≡ length (now xs)) × (length (now us) ≡ length (now xs)))) ⌝ }
-    requires { ⌜ (length (now xs) < length (now q)) × ((length (now q) ≤ 66) × ((length (now v) ≡ length (now q)) × (length (now room) ≡ length (now q)))) ⌝ }
+    requires { ⌜ (length (now xs) < length (now q)) × ((length (now q) ≤ 66) × ((length (now v) ≡ length (now q)) × (length (now xs) < length (now room)))) ⌝ }
     requires { ⌜ getD (now us) (i - 1) 0 ≡ reciprocal (fieldOf field) (vanishAt (fieldOf field) (drop i (now xs)) (getD (now xs) (i - 1) 0)) ⌝ }
     requires { ⌜ Through (fieldOf field) (drop i (now xs)) (drop i (now ys)) (now q) (now v) ⌝ }
     ensures { λ _. ⌜ Through (fieldOf field) (drop (i - 1) (now (xs .entry))) (drop (i - 1) (now (ys .entry))) (now (q .exit)) (now (v .exit)) ⌝ }
@@ -60,4 +64,62 @@ pub fn step(
     let value = value_by(field, q, x, &mut room[..count + 1]);
     let s = field::mul(field, field::sub(field, ys[i - 1], value), us[i - 1]);
     add_and_raise(field, s, field::sub(field, 0, x), count + 2, q, v);
+}
+
+// The walk over coefficients of four words each.
+fn add_and_raise_four(s: Four, d: Four, count: usize, q: &mut [u32], v: &mut [u32])
+    requires { ⌜ (count ≤ length (quads (now q))) × (length (quads (now v)) ≡ length (quads (now q))) ⌝ }
+    ensures { λ _. ⌜ Added field3 (quadOf s) (quads (now (q .entry))) (quads (now (v .entry))) (quads (now (q .exit))) count ⌝ }
+    ensures { λ _. ⌜ Raised field3 (quadOf d) (quads (now (v .entry))) (quads (now (v .exit))) count ⌝ }
+{
+    let mut below = Four {
+        a: 0,
+        b: 0,
+        c: 0,
+        d: 0,
+    };
+    let mut i = 0;
+    while i < count {
+        let c = quartic::get(v, i);
+        quartic::put(q, i, quartic::add(quartic::get(q, i), quartic::mul(s, c)));
+        quartic::put(v, i, quartic::add(below, quartic::mul(d, c)));
+        below = c;
+        i += 1;
+    }
+}
+
+// The value at x, of four words each.
+fn value_four(f: &[u32], x: Four, room: &mut [u32]) -> Four
+    requires { ⌜ (0 < length (quads (now room))) × (length (quads (now room)) ≤ length (quads (now f))) ⌝ }
+    requires { ⌜ ZeroFrom field3 (quads (now f)) (length (quads (now room))) ⌝ }
+    ensures { λ r. ⌜ quadOf r ≡ evaluate field3 (quads (now (f .entry))) (quadOf x) ⌝ }
+{
+    element_sums::powers_four(x, room);
+    element_sums::sum_four(room, f)
+}
+
+// One sample more, of four words each.
+pub fn step_four(
+    xs: &[u32],
+    ys: &[u32],
+    us: &[u32],
+    i: usize,
+    room: &mut [u32],
+    q: &mut [u32],
+    v: &mut [u32],
+)
+    requires { ⌜ (0 < i) × ((i ≤ length (quads (now xs))) × ((length (quads (now ys)) ≡ length (quads (now xs))) × (length (quads (now us)) ≡ length (quads (now xs))))) ⌝ }
+    requires { ⌜ (length (quads (now xs)) < length (quads (now q))) × ((length (quads (now q)) ≤ 66) × ((length (quads (now v)) ≡ length (quads (now q))) × (length (quads (now room)) ≡ length (quads (now q))))) ⌝ }
+    requires { ⌜ getD (quads (now us)) (i - 1) (field3 .𝟘) ≡ reciprocal field3 (vanishAt field3 (drop i (quads (now xs))) (getD (quads (now xs)) (i - 1) (field3 .𝟘))) ⌝ }
+    requires { ⌜ Through field3 (drop i (quads (now xs))) (drop i (quads (now ys))) (quads (now q)) (quads (now v)) ⌝ }
+    ensures { λ _. ⌜ Through field3 (drop (i - 1) (quads (now (xs .entry)))) (drop (i - 1) (quads (now (ys .entry)))) (quads (now (q .exit))) (quads (now (v .exit))) ⌝ }
+{
+    let count = quartic::count(xs) - i;
+    let x = quartic::get(xs, i - 1);
+    let n = 4 * (count + 1);
+    let value = value_four(q, x, &mut room[..n]);
+    let difference = quartic::sub(quartic::get(ys, i - 1), value);
+    let s = quartic::mul(difference, quartic::get(us, i - 1));
+    let d = quartic::sub(elements::number(0), x);
+    add_and_raise_four(s, d, count + 2, q, v);
 }

@@ -10,13 +10,14 @@ use mathlib.Core.Path.{_≡_, refl, sym, ap, _∙_}
 use lib.ListN.{length, getD}
 use lib.Dec.{leb}
 use lib.Pow.{pow-mono, pow-pos}
-use borrow.Author.Tests.{eq-eqb, le-leb, lt-leb, ne-eqb}
+use borrow.Author.Tests.{le-leb, lt-leb}
 use Rattle.layouts.specs.CoinsAfter.{chosen, wordsAfter}
 use Rattle.layouts.specs.Lawful.{Lawful, lawful, rounds-word, times-word}
-use Rattle.layouts.specs.Levels.{levelOf, roundsOf}
+use Rattle.layouts.specs.Levels.{elementAt, levelOf, roundsOf, sheetField, wordsFor, zeroOf}
 use Rattle.layouts.specs.SheetRules.{long-enough, rounds-most}
-use Rattle.definition.specs.Deciding.{equalTest, outTest, outTests}
-use Rattle.definition.specs.Field.{fieldOf, primeField}
+use Rattle.layouts.specs.Spellings.{count-add, count-least, count-mono, count-zero}
+use Rattle.definition.specs.Deciding.{outTests}
+use Rattle.definition.specs.Field.{Spelling, fieldIn, primeOf, spellingOf, wordCount}
 use Rattle.definition.specs.Layout.{Kind, coinKinds, layout, wordsDue}
 use Rattle.definition.specs.Reading.{sheetTest}
 use Rattle.definition.specs.Sheet.{Edition, Level, Sheet, rootOfUnity, sheetLength, sheetOf}
@@ -27,7 +28,7 @@ use Rattle.outcome.specs.declared.Found.{Found}
 use Rattle.outcome.specs.declared.Found.the-variants.{At, Nothing}
 use Rattle.outcome.specs.Meaning.{placeOf}
 use Rattle.out_coins.specs.Kinds.{kindsAfterFold, kinds-first, kinds-last, messagesIn, round-count, roundWordCount}
-use Rattle.out_coins.specs.Walks.{equal-none, equal-step, equalAt, equalFrom, inside-none, inside-step, insideFrom, rest-there, tests-rest}
+use Rattle.out_coins.specs.Walks.{begun, equal-none, equal-step, equalAt, equalFrom, inside-none, inside-step, insideFrom, rest-there, tests-are, tests-rest}
 
 or-none : (a : Option ℕ) → orElse a none ≡ a
 or-none none = refl
@@ -37,32 +38,52 @@ or-assoc : (a b c : Option ℕ) → orElse (orElse a b) c ≡ orElse a (orElse b
 or-assoc none b c = refl
 or-assoc (some n) b c = refl
 
--- ---- two words
+-- ---- two elements
 
-module _ (w : List ℕ) (at count : ℕ) where
-  one : at + 1 ≡ suc at
-  one = omega arith
+module _ (σ : Spelling) (p : ℕ) (w : List ℕ) (at count : ℕ) where
+  abbrev equal-here : ℕ → Bool
+  equal-here v = fieldIn σ p .equal (elementAt σ w (at + v)) (elementAt σ w at)
 
-  pub equal-found : 2 ≤ count → getD w (at + 1) 0 ≡ getD w at 0 → some (at + 1) ≡ equalAt w at count
+  pub equal-found : {v : ℕ} {b : Bool} → 2 ≤ count → v ≡ wordCount σ 1 → b ≡ fieldIn σ p .equal (elementAt σ w (at + v)) (elementAt σ w at) → b ≡ true → some (at + v) ≡ equalAt σ p w at count
   unfolding equalAt
-  equal-found l e = sym (rw (le-leb 2 count l, eq-eqb (getD w (suc at) 0) (getD w at 0) (ap (λ (n : ℕ). getD w n 0) (sym one) ∙ e)) (ap some (sym one)))
+  equal-found l ev eb t =
+      let e : equal-here (wordCount σ 1) ≡ true = ap equal-here (sym ev) ∙ sym eb ∙ t in
+      sym (rw (le-leb 2 count l, e) (ap (λ (m : ℕ). some (at + m)) (sym ev)))
 
-  pub equal-not : (getD w (at + 1) 0 ≡ getD w at 0 → ⊥) → none ≡ equalAt w at count
+  pub equal-not : {v : ℕ} {b : Bool} → v ≡ wordCount σ 1 → b ≡ fieldIn σ p .equal (elementAt σ w (at + v)) (elementAt σ w at) → b ≡ false → none ≡ equalAt σ p w at count
   unfolding equalAt
-  equal-not d = sym (rw (ne-eqb (getD w (suc at) 0) (getD w at 0) (λ e. d (ap (λ (n : ℕ). getD w n 0) one ∙ e))) (go (leb 2 count)))
+  equal-not ev eb t =
+      let e : equal-here (wordCount σ 1) ≡ false = ap equal-here (sym ev) ∙ sym eb ∙ t in
+      sym (rw e (go (leb 2 count)))
     where
-      go : (b : Bool) → cond (b && false) (some (suc at)) none ≡ none
+      go : (b : Bool) → cond (b && false) (some (at + wordCount σ 1)) none ≡ none
       go true = refl
       go false = refl
 
-  pub one-coin : count < 2 → none ≡ equalAt w at count
+  pub one-coin : count < 2 → none ≡ equalAt σ p w at count
   unfolding equalAt
   one-coin d = sym (rw (lt-leb 2 count d))
 
+  -- the words of two elements
+  pub two-there : 2 ≤ count → {v : ℕ} → v ≡ wordCount σ 1 → at + wordCount σ count ≤ length w → (at + v + wordCount σ 1 ≤ length w) × (at + wordCount σ 1 ≤ length w)
+  two-there l ev h = omega (arith, ev, count-add σ 1 1, count-mono σ 2 count l)
+
+-- the number of words of what is counted
+pub in-words : (field : ℕ) {v n m : ℕ} → v ≡ wordCount (spellingOf field) n → n ≡ m → v ≡ wordCount (spellingOf field) m
+in-words field e q = e ∙ ap (wordCount (spellingOf field)) q
+
+pub messages-most : (alone : Bool) (n : ℕ) → messagesIn alone n ≤ n
+unfolding messagesIn
+messages-most true n = omega arith
+messages-most false n = omega arith
+
 -- the out coins come first among a round's words from them on
-pub outs-first : (alone : Bool) (w : List ℕ) (i : ℕ) → getD w 5 0 ≤ roundWordCount alone w i
+pub outs-first : (alone : Bool) (w : List ℕ) (i : ℕ) → wordCount (spellingOf (getD w 0 0)) (getD w 5 0) ≤ roundWordCount alone w i
 unfolding roundWordCount
-outs-first alone w i = omega arith
+outs-first alone w i =
+    let s = getD w 5 0 in
+    let σ = spellingOf (getD w 0 0) in
+    omega (arith, count-add σ (s + messagesIn alone s) 2, count-add σ s (messagesIn alone s))
 
 -- what the noted pair says in the end
 pub ended-at : {f : Found} {place : ℕ} {o : Outcome} → f ≡ At place → (refuseAt 7 none then refuseAt 14 (placeOf f)) ≡ o → refused 14 place ≡ o
@@ -87,8 +108,8 @@ asked a d = record { long = a .0; passed = a .1; due = d }
 pub record AtRound (h : Sheet) (alone : Bool) (words : List ℕ) (start : ℕ) (equal : Option ℕ) (at scale i : ℕ) : Type 0 where
   pub within : i ≤ roundsOf h
   pub scaled : scale ≡ 2 ^ i
-  pub inside : insideFrom h (chosen alone (wordsAfter h i)) words at ≡ insideFrom h (chosen alone (kindsAfterFold h)) words start
-  pub same : orElse equal (equalFrom (chosen alone (wordsAfter h i)) words at) ≡ equalFrom (chosen alone (kindsAfterFold h)) words start
+  pub inside : insideFrom h (chosen alone (wordsAfter h i)) (begun h words) at ≡ insideFrom h (chosen alone (kindsAfterFold h)) (begun h words) start
+  pub same : orElse equal (equalFrom (sheetField h) (chosen alone (wordsAfter h i)) (begun h words) at) ≡ equalFrom (sheetField h) (chosen alone (kindsAfterFold h)) (begun h words) start
   pub there : at + length (chosen alone (wordsAfter h i)) ≤ length words
 
 -- the loop's invariant: so it is in each edition whose rules the words keep
@@ -100,10 +121,10 @@ same-root : (ed ed′ : Edition) (w : List ℕ) → rootOfUnity (sheetOf ed w) �
 unfolding rootOfUnity sheetOf
 same-root ed ed′ w = refl
 
--- the sheet's field and s by their words
-field-is : (ed : Edition) (w : List ℕ) → primeField (sheetOf ed w .prime) ≡ fieldOf (getD w 0 0)
-unfolding sheetOf fieldOf
-field-is ed w = refl
+-- the number of words of the sheet's elements, and s
+words-for : (ed : Edition) (w : List ℕ) (n : ℕ) → wordsFor (sheetOf ed w) n ≡ wordCount (spellingOf (getD w 0 0)) n
+unfolding sheetOf
+words-for ed w n = refl
 
 outs-is : (ed : Edition) (w : List ℕ) → sheetOf ed w .outCoins ≡ getD w 5 0
 unfolding sheetOf
@@ -131,18 +152,19 @@ module _ {ed : Edition} {w : List ℕ} {alone : Bool} {words : List ℕ} {start 
       record {
         within = omega arith;
         scaled = refl;
-        inside = ap (λ (ks : List Kind). insideFrom h ks words start) (sym e);
-        same = ap (λ (ks : List Kind). equalFrom ks words start) (sym e);
+        inside = ap (λ (ks : List Kind). insideFrom h ks (begun h words) start) (sym e);
+        same = ap (λ (ks : List Kind). equalFrom (sheetField h) ks (begun h words) start) (sym e);
         there = omega (arith, A .due, ap length e);
       }
 
   module _ {equal : Option ℕ} {at scale i : ℕ} (r : AtRound (sheetOf ed w) alone words start equal at scale i) where
     -- after the last round
     pub ended : getD w 4 0 ≤ i → (refuseAt 7 none then refuseAt 14 equal) ≡ outTests (sheetOf ed w) start (chosen alone (kindsAfterFold (sheetOf ed w))) words
-    unfolding outTests outTest equalTest
     ended last =
         let k = kinds-last alone h i (omega (arith, rounds)) in
-        λ j. refuseAt 7 ((sym (inside-none h _ words at k) ∙ r .inside) j) then refuseAt 14 ((sym (ap (orElse equal) (equal-none _ words at k) ∙ or-none equal) ∙ r .same) j)
+        (λ j. refuseAt 7 ((sym (inside-none h _ (begun h words) at k) ∙ r .inside) j)
+        then refuseAt 14 ((sym (ap (orElse equal) (equal-none (sheetField h) (zeroOf h) _ (begun h words) at k) ∙ or-none equal) ∙ r .same) j))
+        ∙ tests-are h start (chosen alone (kindsAfterFold h)) words
 
     module _ (more : i < getD w 4 0) where
       pub small-scale : scale ≤ 32
@@ -161,9 +183,12 @@ module _ {ed : Edition} {w : List ℕ} {alone : Bool} {words : List ℕ} {start 
       time = times-word ed w (A .long) (A .passed) i (omega arith)
 
       -- the words from the out coins on, as the kinds count them
-      words-count : sheetOf ed w .outCoins + (messagesIn alone (sheetOf ed w .outCoins) + (2 + levelOf (sheetOf ed w) i .repetitions)) ≡ roundWordCount alone w i
+      words-count : wordsFor (sheetOf ed w) (sheetOf ed w .outCoins) + (wordsFor (sheetOf ed w) (messagesIn alone (sheetOf ed w .outCoins)) + (wordsFor (sheetOf ed w) 2 + levelOf (sheetOf ed w) i .repetitions)) ≡ roundWordCount alone w i
       unfolding roundWordCount sheetOf
-      words-count = omega (arith, time)
+      words-count =
+          let s = getD w 5 0 in
+          let σ = spellingOf (getD w 0 0) in
+          omega (arith, time, count-add σ (s + messagesIn alone s) 2, count-add σ s (messagesIn alone s))
 
       module _ {points : ℕ} (size : points ≡ getD w 1 0) where
         -- the round's table has n0/2^(i+1) words
@@ -171,69 +196,82 @@ module _ {ed : Edition} {w : List ℕ} {alone : Bool} {words : List ℕ} {start 
         unfolding sheetOf
         table-size = λ j. size j / scale-next j
 
-        next-there : at + messagesIn alone (points / (scale * 2)) + roundWordCount alone w i + length (chosen alone (wordsAfter (sheetOf ed w) (i + 1))) ≤ length words
-        next-there = omega (arith, r .there, round-count alone h i (omega (arith, rounds)), words-count, ap (messagesIn alone) table-size)
+        table-words : wordCount (spellingOf (getD w 0 0)) (messagesIn alone (points / (scale * 2))) ≡ wordsFor (sheetOf ed w) (messagesIn alone (levelOf (sheetOf ed w) (i + 1) .size))
+        table-words = ap (λ (n : ℕ). wordCount (spellingOf (getD w 0 0)) (messagesIn alone n)) table-size ∙ sym (words-for ed w _)
 
-        pub round-there : at + messagesIn alone (points / (scale * 2)) + roundWordCount alone w i ≤ length words
+        next-there : at + wordCount (spellingOf (getD w 0 0)) (messagesIn alone (points / (scale * 2))) + roundWordCount alone w i + length (chosen alone (wordsAfter (sheetOf ed w) (i + 1))) ≤ length words
+        next-there = omega (arith, r .there, round-count alone h i (omega (arith, rounds)), words-count, table-words)
+
+        pub round-there : at + wordCount (spellingOf (getD w 0 0)) (messagesIn alone (points / (scale * 2))) + roundWordCount alone w i ≤ length words
         round-there = omega (arith, next-there)
 
-        -- the places as the kinds count them
-        outs-place : at + messagesIn alone (levelOf (sheetOf ed w) (i + 1) .size) ≡ at + messagesIn alone (points / (scale * 2))
-        outs-place = ap (λ (n : ℕ). at + messagesIn alone n) (sym table-size)
+        pub few-messages : messagesIn alone (points / (scale * 2)) ≤ length words
+        few-messages = omega (arith, round-there, count-least (spellingOf (getD w 0 0)) (messagesIn alone (points / (scale * 2))))
 
-        next-place : at + messagesIn alone (levelOf (sheetOf ed w) (i + 1) .size) + (sheetOf ed w .outCoins + (messagesIn alone (sheetOf ed w .outCoins) + (2 + levelOf (sheetOf ed w) i .repetitions)))
-            ≡ at + messagesIn alone (points / (scale * 2)) + roundWordCount alone w i
+        -- the places as the kinds count them
+        outs-place : at + wordsFor (sheetOf ed w) (messagesIn alone (levelOf (sheetOf ed w) (i + 1) .size)) ≡ at + wordCount (spellingOf (getD w 0 0)) (messagesIn alone (points / (scale * 2)))
+        outs-place = ap (λ (n : ℕ). at + n) (sym table-words)
+
+        next-place : at + wordsFor (sheetOf ed w) (messagesIn alone (levelOf (sheetOf ed w) (i + 1) .size))
+            + (wordsFor (sheetOf ed w) (sheetOf ed w .outCoins) + (wordsFor (sheetOf ed w) (messagesIn alone (sheetOf ed w .outCoins)) + (wordsFor (sheetOf ed w) 2 + levelOf (sheetOf ed w) i .repetitions)))
+            ≡ at + wordCount (spellingOf (getD w 0 0)) (messagesIn alone (points / (scale * 2))) + roundWordCount alone w i
         next-place = λ j. outs-place j + words-count j
 
         abbrev rest : List Kind
         rest = chosen alone (wordsAfter (sheetOf ed w) (i + 1))
 
-        by-inside : insideFrom (sheetOf ed w) (chosen alone (wordsAfter (sheetOf ed w) i)) words at
-            ≡ orElse (firstInside (getD w 0 0) (rootOfUnity (sheetOf ed w)) (levelOf (sheetOf ed w) (i + 1)) words (at + messagesIn alone (points / (scale * 2))) (sheetOf ed w .outCoins))
-            (insideFrom (sheetOf ed w) rest words (at + messagesIn alone (points / (scale * 2)) + roundWordCount alone w i))
+        by-inside : insideFrom (sheetOf ed w) (chosen alone (wordsAfter (sheetOf ed w) i)) (begun (sheetOf ed w) words) at
+            ≡ orElse (firstInside (sheetOf ed w .spelling) (sheetOf ed w .prime) (rootOfUnity (sheetOf ed w)) (levelOf (sheetOf ed w) (i + 1)) words (at + wordCount (spellingOf (getD w 0 0)) (messagesIn alone (points / (scale * 2)))) (sheetOf ed w .outCoins))
+            (insideFrom (sheetOf ed w) rest (begun (sheetOf ed w) words) (at + wordCount (spellingOf (getD w 0 0)) (messagesIn alone (points / (scale * 2))) + roundWordCount alone w i))
         by-inside =
-            inside-step alone h words at i (omega (arith, rounds)) (law .once i (omega (arith, rounds))) (omega (arith, next-place, round-there)) (getD w 0 0) (field-is ed w)
-            ∙ (λ j. orElse (firstInside (getD w 0 0) (rootOfUnity h) l words (outs-place j) (h .outCoins)) (insideFrom h rest words (next-place j)))
+            inside-step alone h words at i (omega (arith, rounds)) (law .once i (omega (arith, rounds))) (omega (arith, next-place, round-there))
+            ∙ (λ j. orElse (firstInside (h .spelling) (h .prime) (rootOfUnity h) l words (outs-place j) (h .outCoins)) (insideFrom h rest (begun h words) (next-place j)))
 
-        by-equal : equalFrom (chosen alone (wordsAfter (sheetOf ed w) i)) words at
-            ≡ orElse (equalAt words (at + messagesIn alone (points / (scale * 2))) (sheetOf ed w .outCoins)) (equalFrom rest words (at + messagesIn alone (points / (scale * 2)) + roundWordCount alone w i))
+        by-equal : equalFrom (sheetField (sheetOf ed w)) (chosen alone (wordsAfter (sheetOf ed w) i)) (begun (sheetOf ed w) words) at
+            ≡ orElse (equalAt (sheetOf ed w .spelling) (sheetOf ed w .prime) words (at + wordCount (spellingOf (getD w 0 0)) (messagesIn alone (points / (scale * 2)))) (sheetOf ed w .outCoins)) (equalFrom (sheetField (sheetOf ed w)) rest (begun (sheetOf ed w) words) (at + wordCount (spellingOf (getD w 0 0)) (messagesIn alone (points / (scale * 2))) + roundWordCount alone w i))
         by-equal =
             equal-step alone h words at i (omega (arith, rounds)) (law .once i (omega (arith, rounds))) (omega (arith, next-place, round-there)) (law .outs)
-            ∙ (λ j. orElse (equalAt words (outs-place j) (h .outCoins)) (equalFrom rest words (next-place j)))
+            ∙ (λ j. orElse (equalAt (h .spelling) (h .prime) words (outs-place j) (h .outCoins)) (equalFrom (sheetField h) rest (begun h words) (next-place j)))
 
         abbrev outsAt : ℕ
-        outsAt = at + messagesIn alone (points / (scale * 2))
+        outsAt = at + wordCount (spellingOf (getD w 0 0)) (messagesIn alone (points / (scale * 2)))
 
         abbrev next : ℕ
-        next = at + messagesIn alone (points / (scale * 2)) + roundWordCount alone w i
+        next = at + wordCount (spellingOf (getD w 0 0)) (messagesIn alone (points / (scale * 2))) + roundWordCount alone w i
 
         module _ (pw : List ℕ) (many : length pw ≡ points) (ed′ : Edition) (points-are : Powers (getD w 0 0) (rootOfUnity (sheetOf ed′ w)) pw) {o : Option ℕ} {heads : ℕ}
-            (eh : heads ≡ messagesIn alone (points / (scale * 2))) (first : FirstInside words pw (scale * 2) (at + heads) (getD w 5 0) o) where
-          of-round : o ≡ firstInside (getD w 0 0) (rootOfUnity (sheetOf ed w)) (levelOf (sheetOf ed w) (i + 1)) words outsAt (sheetOf ed w .outCoins)
+            (eh : heads ≡ wordCount (spellingOf (getD w 0 0)) (messagesIn alone (points / (scale * 2))))
+            (first : FirstInside (getD w 0 0) words pw (scale * 2) (at + heads) (getD w 5 0) o) where
+          of-round : o ≡ firstInside (sheetOf ed w .spelling) (sheetOf ed w .prime) (rootOfUnity (sheetOf ed w)) (levelOf (sheetOf ed w) (i + 1)) words outsAt (sheetOf ed w .outCoins)
           unfolding sheetOf
           of-round =
-              first (getD w 0 0) (rootOfUnity h) l (rw (same-root ed ed′ w) points-are) (sym scale-next) (sym table-size ∙ ap (λ (n : ℕ). n / (scale * 2)) (sym many))
-              ∙ ap (λ (n : ℕ). firstInside (getD w 0 0) (rootOfUnity h) l words (at + n) (h .outCoins)) eh
+              first (rootOfUnity h) l (rw (same-root ed ed′ w) points-are) (sym scale-next) (sym table-size ∙ ap (λ (n : ℕ). n / (scale * 2)) (sym many))
+              ∙ ap (λ (n : ℕ). firstInside (h .spelling) (h .prime) (rootOfUnity h) l words (at + n) (h .outCoins)) eh
 
-          found-as : orElse o (insideFrom (sheetOf ed w) rest words next) ≡ insideFrom (sheetOf ed w) (chosen alone (kindsAfterFold (sheetOf ed w))) words start
-          found-as = ap (λ (x : Option ℕ). orElse x (insideFrom h rest words next)) of-round ∙ sym by-inside ∙ r .inside
+          found-as : orElse o (insideFrom (sheetOf ed w) rest (begun (sheetOf ed w) words) next) ≡ insideFrom (sheetOf ed w) (chosen alone (kindsAfterFold (sheetOf ed w))) (begun (sheetOf ed w) words) start
+          found-as = ap (λ (x : Option ℕ). orElse x (insideFrom h rest (begun h words) next)) of-round ∙ sym by-inside ∙ r .inside
 
           pub found : {place : ℕ} → some place ≡ o → refused 7 place ≡ outTests (sheetOf ed w) start (chosen alone (kindsAfterFold (sheetOf ed w))) words
-          unfolding outTests outTest refuseAt _then_
+          unfolding refuseAt _then_
           found e =
-              ap (λ (x : Option ℕ). refuseAt 7 x then equalTest h start (chosen alone (kindsAfterFold h)) words)
-              (ap (λ (x : Option ℕ). orElse x (insideFrom h rest words next)) e ∙ found-as)
+              ap (λ (x : Option ℕ). refuseAt 7 x then refuseAt 14 (equalFrom (sheetField h) (chosen alone (kindsAfterFold h)) (begun h words) start))
+              (ap (λ (x : Option ℕ). orElse x (insideFrom h rest (begun h words) next)) e ∙ found-as)
+              ∙ tests-are h start (chosen alone (kindsAfterFold h)) words
 
-          pub turned : none ≡ o → {equal′ here : Option ℕ} {next′ : ℕ} → equal′ ≡ orElse equal here → here ≡ equalAt words (at + heads) (getD w 5 0) → next′ ≡ at + heads + roundWordCount alone w i →
+          equal-as : (n : ℕ) → equalAt (spellingOf (getD w 0 0)) (primeOf (getD w 0 0)) words n (getD w 5 0) ≡ equalAt (sheetOf ed w .spelling) (sheetOf ed w .prime) words n (sheetOf ed w .outCoins)
+          unfolding sheetOf
+          equal-as n = refl
+
+          pub turned : none ≡ o → {equal′ here : Option ℕ} {next′ : ℕ} → equal′ ≡ orElse equal here → here ≡ equalAt (spellingOf (getD w 0 0)) (primeOf (getD w 0 0)) words (at + heads) (getD w 5 0) → next′ ≡ at + heads + roundWordCount alone w i →
               AtRound (sheetOf ed w) alone words start equal′ next′ (scale * 2) (i + 1)
           turned e {equal′} {here} {next′} q eq en =
               let place : next′ ≡ next = en ∙ ap (λ (n : ℕ). at + n + roundWordCount alone w i) eh in
-              let pair : equal′ ≡ orElse equal (equalAt words outsAt (h .outCoins)) = q ∙ ap (orElse equal) (eq ∙ (λ j. equalAt words (at + eh j) (sym (outs-is ed w) j))) in
+              let pair : equal′ ≡ orElse equal (equalAt (h .spelling) (h .prime) words outsAt (h .outCoins)) = q ∙ ap (orElse equal) (eq ∙ equal-as (at + heads) ∙ ap (λ (n : ℕ). equalAt (h .spelling) (h .prime) words (at + n) (h .outCoins)) eh) in
               record {
                 within = omega (arith, rounds);
                 scaled = scale-next;
-                inside = ap (insideFrom h rest words) place ∙ ap (λ (x : Option ℕ). orElse x (insideFrom h rest words next)) e ∙ found-as;
-                same = (λ j. orElse (pair j) (equalFrom rest words (place j))) ∙ or-assoc equal _ _ ∙ ap (orElse equal) (sym by-equal) ∙ r .same;
+                inside = ap (insideFrom h rest (begun h words)) place ∙ ap (λ (x : Option ℕ). orElse x (insideFrom h rest (begun h words) next)) e ∙ found-as;
+                same = (λ j. orElse (pair j) (equalFrom (sheetField h) rest (begun h words) (place j))) ∙ or-assoc equal _ _ ∙ ap (orElse equal) (sym by-equal) ∙ r .same;
                 there = omega (arith, place, next-there);
               }
 
@@ -248,29 +286,33 @@ module _ (ed : Edition) (w : List ℕ) (due : wordsDue ed (sheetOf ed w) ≤ len
   pub stream-twelve : (sheetLength ed ≤ length w) × (12 ≤ length w)
   stream-twelve = let l : sheetLength ed ≤ length w = omega (arith, all-there) in (l, long-enough ed w l)
 
-  module _ {from : ℕ} (ef : from ≡ sheetLength ed) where
-    start-is : from + getD w 1 0 + 1 ≡ sheetLength ed + messagesIn false (sheetOf ed w .size) + 1
+  module _ {from v : ℕ} (ef : from ≡ sheetLength ed) (ev : v ≡ wordCount (spellingOf (getD w 0 0)) (getD w 1 0 + 1)) where
+    start-is : from + v ≡ sheetLength ed + wordsFor (sheetOf ed w) (messagesIn false (sheetOf ed w .size)) + wordsFor (sheetOf ed w) 1
     unfolding messagesIn sheetOf
-    start-is = ap (λ (n : ℕ). n + getD w 1 0 + 1) ef
+    start-is = omega (arith, ef, ev, count-add (spellingOf (getD w 0 0)) (getD w 1 0) 1)
 
-    pub stream-start : from + getD w 1 0 + 1 + length (chosen false (kindsAfterFold (sheetOf ed w))) ≤ length w
+    pub stream-start : from + v + length (chosen false (kindsAfterFold (sheetOf ed w))) ≤ length w
     stream-start = omega (arith, start-is, rest-there false (sheetOf ed w) w (sheetLength ed) all-there)
 
-    pub stream-rest : outTests (sheetOf ed w) (from + getD w 1 0 + 1) (chosen false (kindsAfterFold (sheetOf ed w))) w ≡ outTests (sheetOf ed w) (sheetLength ed) (layout (sheetOf ed w)) w
+    pub stream-rest : outTests (sheetOf ed w) (from + v) (chosen false (kindsAfterFold (sheetOf ed w))) w ≡ outTests (sheetOf ed w) (sheetLength ed) (layout (sheetOf ed w)) w
     unfolding chosen
     stream-rest =
         ap (λ (n : ℕ). outTests (sheetOf ed w) n (chosen false (kindsAfterFold (sheetOf ed w))) w) start-is ∙ tests-rest false (sheetOf ed w) w (sheetLength ed) all-there
 
 -- a full coin list
-module _ (ed : Edition) (w coins : List ℕ) (full : length coins ≡ length (coinKinds (layout (sheetOf ed w)))) where
+module _ (ed : Edition) (w coins : List ℕ) (full : length coins ≡ length (coinKinds (layout (sheetOf ed w)))) {v : ℕ} (ev : v ≡ wordCount (spellingOf (getD w 0 0)) 1) where
   all-coins : 0 + length (chosen true (layout (sheetOf ed w))) ≤ length coins
   unfolding chosen
   all-coins = omega (arith, full)
 
-  pub coins-start : 1 + length (chosen true (kindsAfterFold (sheetOf ed w))) ≤ length coins
-  unfolding messagesIn
-  coins-start = rest-there true (sheetOf ed w) coins 0 all-coins
+  coins-begin : v ≡ 0 + wordsFor (sheetOf ed w) (messagesIn true (sheetOf ed w .size)) + wordsFor (sheetOf ed w) 1
+  unfolding messagesIn sheetOf
+  coins-begin = omega (arith, ev, count-zero (spellingOf (getD w 0 0)))
 
-  pub coins-rest : outTests (sheetOf ed w) 1 (chosen true (kindsAfterFold (sheetOf ed w))) coins ≡ outTests (sheetOf ed w) 0 (coinKinds (layout (sheetOf ed w))) coins
-  unfolding messagesIn chosen
-  coins-rest = tests-rest true (sheetOf ed w) coins 0 all-coins
+  pub coins-start : v + length (chosen true (kindsAfterFold (sheetOf ed w))) ≤ length coins
+  coins-start = omega (arith, coins-begin, rest-there true (sheetOf ed w) coins 0 all-coins)
+
+  pub coins-rest : outTests (sheetOf ed w) v (chosen true (kindsAfterFold (sheetOf ed w))) coins ≡ outTests (sheetOf ed w) 0 (coinKinds (layout (sheetOf ed w))) coins
+  unfolding chosen
+  coins-rest =
+      ap (λ (n : ℕ). outTests (sheetOf ed w) n (chosen true (kindsAfterFold (sheetOf ed w))) coins) coins-begin ∙ tests-rest true (sheetOf ed w) coins 0 all-coins

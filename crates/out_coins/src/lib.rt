@@ -6,7 +6,9 @@ ghost use mathlib.Core.Path.{_≡_};
 ghost use Prim.Native.Nat.{_+_, _≤_, _<_};
 ghost use lib.ListN.{length, getD};
 ghost use Rattle.layouts.specs.CoinsAfter.{chosen};
+ghost use Rattle.layouts.specs.Levels.{elementAt};
 ghost use Rattle.definition.specs.Deciding.{outTests};
+ghost use Rattle.definition.specs.Field.{fieldIn, four, primeOf, spellingOf, wordCount};
 ghost use Rattle.definition.specs.Layout.{coinKinds, layout, wordsDue};
 ghost use Rattle.definition.specs.Reading.{sheetTest};
 ghost use Rattle.definition.specs.Sheet.{rootOfUnity, sheetLength, sheetOf};
@@ -35,17 +37,47 @@ fn after_round(w: &[u32], alone: bool, outs: usize, i: usize) -> usize
     ensures { λ r. ⌜ r ≡ outs + roundWordCount alone (now (w .entry)) i ⌝ }
 {
     let s = w[5] as usize;
-    outs + (s + messages(alone, s) + 2 + w[6 + i] as usize)
+    outs + (widths::words(w[0], s + messages(alone, s) + 2) + w[6 + i] as usize)
 }
 
-// The second of two equal out coins of a round, which are the `count` words from number `at` on.
-fn second_equal(words: &[u32], at: usize, count: usize) -> Found
-    requires { ⌜ at + count ≤ length (now words) ⌝ }
-    ensures { λ r. ⌜ placeOf r ≡ equalAt (now (words .entry)) at count ⌝ }
+// Are two elements of four words equal, which begin at words i and j?
+fn same_four(words: &[u32], i: usize, j: usize) -> bool
+    requires { ⌜ (i + 4 ≤ length (now words)) × (j + 4 ≤ length (now words)) ⌝ }
+    ensures { λ r. ⌜ r ≡ fieldIn four (primeOf 3) .equal (elementAt four (now (words .entry)) i) (elementAt four (now (words .entry)) j) ⌝ }
+{
+    if words[i] != words[j] {
+        return false;
+    }
+    if words[i + 1] != words[j + 1] {
+        return false;
+    }
+    if words[i + 2] != words[j + 2] {
+        return false;
+    }
+    words[i + 3] == words[j + 3]
+}
+
+// Are two elements equal, which begin at words i and j?
+fn same(field: u32, words: &[u32], i: usize, j: usize) -> bool
+    requires { ⌜ (i + wordCount (spellingOf field) 1 ≤ length (now words)) × (j + wordCount (spellingOf field) 1 ≤ length (now words)) ⌝ }
+    ensures { λ r.
+        ⌜ r ≡ fieldIn (spellingOf field) (primeOf field) .equal (elementAt (spellingOf field) (now (words .entry)) i) (elementAt (spellingOf field) (now (words .entry)) j) ⌝ }
+{
+    if field == 3 {
+        return same_four(words, i, j);
+    }
+    words[i] == words[j]
+}
+
+// The second of two equal out coins of a round, which are the `count` elements from word `at` on.
+fn second_equal(field: u32, words: &[u32], at: usize, count: usize) -> Found
+    requires { ⌜ at + wordCount (spellingOf field) count ≤ length (now words) ⌝ }
+    ensures { λ r. ⌜ placeOf r ≡ equalAt (spellingOf field) (primeOf field) (now (words .entry)) at count ⌝ }
 {
     if 2 <= count {
-        if words[at + 1] == words[at] {
-            return Found::At(at + 1);
+        let second = at + widths::words(field, 1);
+        if same(field, words, second, at) {
+            return Found::At(second);
         }
     }
     Found::Nothing
@@ -75,6 +107,7 @@ fn after_fold(
     requires { ⌜ (Powers (getD (now w) 0 0) (rootOfUnity (sheetOf (editionOf e) (now w))) (now pw)) × (length (now pw) ≡ getD (now w) 1 0) ⌝ }
     ensures { λ r. ⌜ outcomeOf r ≡ outTests (sheetOf (editionOf e) (now (w .entry))) start (chosen alone (kindsAfterFold (sheetOf (editionOf e) (now (w .entry))))) (now (words .entry)) ⌝ }
 {
+    let field = w[0];
     let rounds = w[4] as usize;
     let s = w[5] as usize;
     let mut equal = Found::Nothing;
@@ -84,12 +117,12 @@ fn after_fold(
     while i < rounds {
         scale *= 2;
         // the table stands first
-        let outs = at + messages(alone, pw.len() / scale);
-        let inside = domain::first_inside(words, pw, scale, outs, s);
+        let outs = at + widths::words(field, messages(alone, pw.len() / scale));
+        let inside = domain::first_inside(field, words, pw, scale, outs, s);
         if let Found::At(place) = inside {
             return Outcome::Refused(7, place);
         }
-        equal = first_of(equal, second_equal(words, outs, s));
+        equal = first_of(equal, second_equal(field, words, outs, s));
         at = after_round(w, alone, outs, i);
         i += 1;
     }
@@ -106,7 +139,7 @@ pub fn tests(e: Edition, w: &[u32], pw: &[u32]) -> Outcome
     requires { ⌜ (Powers (getD (now w) 0 0) (rootOfUnity (sheetOf (editionOf e) (now w))) (now pw)) × (length (now pw) ≡ getD (now w) 1 0) ⌝ }
     ensures { λ r. ⌜ outcomeOf r ≡ outTests (sheetOf (editionOf e) (now (w .entry))) (sheetLength (editionOf e)) (layout (sheetOf (editionOf e) (now (w .entry)))) (now (w .entry)) ⌝ }
 {
-    let start = edition::sheet_words(e) + w[1] as usize + 1;
+    let start = edition::sheet_words(e) + widths::words(w[0], w[1] as usize + 1);
     after_fold(e, w, pw, false, w, start)
 }
 
@@ -117,5 +150,5 @@ pub fn coin_tests(e: Edition, w: &[u32], pw: &[u32], coins: &[u32]) -> Outcome
     requires { ⌜ (Powers (getD (now w) 0 0) (rootOfUnity (sheetOf (editionOf e) (now w))) (now pw)) × (length (now pw) ≡ getD (now w) 1 0) ⌝ }
     ensures { λ r. ⌜ outcomeOf r ≡ outTests (sheetOf (editionOf e) (now (w .entry))) 0 (coinKinds (layout (sheetOf (editionOf e) (now (w .entry))))) (now (coins .entry)) ⌝ }
 {
-    after_fold(e, w, pw, true, coins, 1)
+    after_fold(e, w, pw, true, coins, widths::words(w[0], 1))
 }

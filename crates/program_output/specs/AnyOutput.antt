@@ -4,7 +4,7 @@ use Prim.Native.Nat.{ℕ, _*_, _≤_}
 use native.Mathlib.Omega.{arith}
 use mathlib.Core.List.{List, [], _++_}
 use mathlib.Core.Path.{_≡_, refl, sym, ap, _∙_}
-use lib.ListN.{length, take, drop}
+use lib.ListN.{length, take, length-replicate}
 use lib.Seq.{take-at}
 use borrow.Author.Tests.{le-ltb, ltb-false}
 use Rattle.definition.specs.Block.{blockCount, fileOf, streamOf}
@@ -23,7 +23,7 @@ use Rattle.completeness.specs.Completeness.{file-size}
 use Rattle.completeness.specs.Conversion.{backward-reads, forward-reads}
 use Rattle.completeness.specs.ProveAccepted.{done-allowed}
 use Rattle.word_input.specs.Input.{afterTest, coefficientsPart, coinsPart, proveInputIn, proveWords, sheetPart, taken, wholeWordsTest, wordsOf}
-use Rattle.program_output.specs.Output.{Written, written, writtenFor}
+use Rattle.program_output.specs.Output.{convertWritten, proveWritten, room, written, writtenFor}
 
 -- a result for each output: of long ones the same is written, and what is written fits
 pub record Alike (result : List ℕ → Result) : Type 0 where
@@ -133,3 +133,20 @@ to-1-alike bytes =
     let tests = reading edition2 bytes then foldsTest (sheetOf edition2 (streamOf bytes)) in
     convert-alike tests (backward (streamOf bytes))
     (λ t. let r = then-passes (reading edition2 bytes) _ t in read-few edition1 (backward (streamOf bytes)) (backward-reads bytes (r .0) (r .1)))
+
+-- So what the programs write is what prove and the converter write on any output of 67 blocks or more.
+pub room-long : 34304 ≤ length room
+unfolding room
+room-long = omega (arith, length-replicate {A = ℕ} 34304 0)
+
+pub prove-any-output : (e : Edition) (bytes output : List ℕ) → 34304 ≤ length output → written (proveInputIn e bytes output) ≡ proveWritten e bytes
+unfolding proveWritten
+prove-any-output e bytes output long = prove-input-alike e bytes .same output room long room-long
+
+pub to-2-any-output : (bytes output : List ℕ) → 34304 ≤ length output → written (toEdition2 (take 65536 bytes) output) ≡ convertWritten edition2 bytes
+unfolding convertWritten
+to-2-any-output bytes output long = to-2-alike (take 65536 bytes) .same output room long room-long
+
+pub to-1-any-output : (bytes output : List ℕ) → 34304 ≤ length output → written (toEdition1 (take 65536 bytes) output) ≡ convertWritten edition1 bytes
+unfolding convertWritten
+to-1-any-output bytes output long = to-1-alike (take 65536 bytes) .same output room long room-long

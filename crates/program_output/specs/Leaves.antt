@@ -3,12 +3,12 @@ use Prim.Native.Nat.{ℕ, _*_, _≤_}
 use native.Mathlib.Omega.{arith}
 use mathlib.Core.List.{List}
 use mathlib.Core.Path.{_≡_, sym, ap, _∙_}
-use lib.ListN.{length, take, length-replicate}
+use lib.ListN.{length, take}
 use Rattle.definition.specs.Prove.{Answer, Result, done}
 use Rattle.line.specs.Text.{textOf}
 use Rattle.outcome.specs.Gives.{Gives}
 use Rattle.program_output.specs.Output as definition
-use Rattle.program_output.specs.AnyOutput.{Alike}
+use Rattle.program_output.specs.AnyOutput.{Alike, room-long}
 use Rattle.program_output.specs.declared.Written.{Written}
 
 -- left by an answer, whatever the output is
@@ -24,10 +24,10 @@ module _ {result : List ℕ → Result} {before after : List ℕ} {answer : Answ
   left-fits n e = omega (arith, alike .fits before n (sym (gives .answer) ∙ e), long)
 
   left : definition.writtenFor answer after ≡ definition.written (result definition.room)
-  unfolding definition.written definition.room
+  unfolding definition.written
   left =
       (λ i. definition.writtenFor (gives .answer i) (gives .output i))
-      ∙ alike .same before definition.room (omega (arith, long)) (omega (arith, length-replicate {A = ℕ} 34304 0))
+      ∙ alike .same before definition.room (omega (arith, long)) room-long
 
   -- what the code leaves is what the definition says, once that is known to be of this operation
   pub left-is : {w : definition.Written} {r : Written} → w ≡ definition.written (result definition.room) → Leaves answer r →

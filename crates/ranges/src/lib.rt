@@ -1,8 +1,8 @@
 // Refusals 5 and 6: a word out of range, a fill word not zero.
 //
 // The walk of refusal 5 counts two rounds beside the rounds 1 to M: round 0 is table 0 with its fold coin, round M + 1 is the final coefficients and
-// indices. Each is then a run of elements and a run of indices below one limit, and the functions before the walk give their numbers. A list of coins
-// alone has the same rounds with fewer elements, so that one walk serves the words of a stream and the coins of an order.
+// indices. Each is then a run of elements and a run of indices below one limit, and the functions before the walk give their numbers; the walk goes over the
+// elements' words. A list of coins alone has the same rounds with fewer elements, so that one walk serves the words of a stream and the coins of an order.
 use edition::Edition;
 use outcome::Found;
 ghost use mathlib.Core.Path.{_≡_};
@@ -105,13 +105,14 @@ fn first_beyond(e: Edition, w: &[u32], alone: bool, words: &[u32], from: usize) 
     requires { ⌜ from + length (allLimits alone (editionOf e) (now w)) ≤ length (now words) ⌝ }
     ensures { λ r. ⌜ placeOf r ≡ firstTrue from (zipWith leb (allLimits alone (editionOf e) (now (w .entry))) (drop from (now (words .entry)))) ⌝ }
 {
-    let p = field::modulus(w[0]) as usize;
+    let field = w[0];
+    let p = field::modulus(field) as usize;
     let rounds = word(w, 4) + 2;
     let mut found = Found::Nothing;
     let mut at = from;
     let mut round = 0;
     'walk: while round < rounds {
-        let first = elements(e, w, alone, round);
+        let first = widths::words(field, elements(e, w, alone, round));
         let count = first + indices(w, round);
         let below = limit(e, w, round);
         let mut j = 0;
@@ -139,7 +140,7 @@ pub fn out_of_range(e: Edition, w: &[u32]) -> Found
     first_beyond(e, w, false, w, edition::sheet_words(e))
 }
 
-// Refusal 5 of a full coin list: the first coin that is not below its limit, by its number in the list.
+// Refusal 5 of a full coin list: the first of its words that is not below its limit, by its number in the list.
 pub fn coin_out_of_range(e: Edition, w: &[u32], coins: &[u32]) -> Found
     requires { ⌜ (sheetLength (editionOf e) ≤ length (now w)) × (sheetTest (editionOf e) (now w) ≡ accepted) ⌝ }
     requires { ⌜ length (now coins) ≡ length (coinKinds (layout (sheetOf (editionOf e) (now w)))) ⌝ }
@@ -149,7 +150,7 @@ pub fn coin_out_of_range(e: Edition, w: &[u32], coins: &[u32]) -> Found
     first_beyond(e, w, true, coins, 0)
 }
 
-// Refusal 5 of coefficients: the first that is no element, by its number.
+// Refusal 5 of coefficients: the first of their words that is not below p, by its number.
 pub fn coefficient_out_of_range(field: u32, f: &[u32]) -> Found
     ensures { λ r. ⌜ placeOf r ≡ firstTrue 0 (map (leb (primeOf field)) (now (f .entry))) ⌝ }
 {

@@ -1,2 +1,4 @@
 pub mod Parts
 pub mod Ready
+pub mod Dividing
+pub mod Cases

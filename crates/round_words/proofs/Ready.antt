@@ -1,78 +1,141 @@
 -- What a call requires and what it gives, over plain numbers and lists, where the parts of the words are handed on.
 use Prim.Native.Nat.{ℕ, _+_, _/_, _≤_}
 use native.Mathlib.Omega.{arith}
-use mathlib.Core.Path.{_≡_, sym, ap, _∙_, subst}
+use mathlib.Core.Path.{_≡_, refl, sym, ap, _∙_, subst}
 use mathlib.Core.List.{List}
 use mathlib.Core.Option.{Option}
-use lib.ListN.{length, getD}
+use lib.ListN.{length, getD, drop}
 use Rattle.list_laws.specs.Lists.{part-length}
-use Rattle.definition.specs.Polynomial.{Sample}
-use Rattle.definition.specs.Sheet.{Edition, Sheet}
+use Rattle.definition.specs.Field.{elementsIn, spellingOf}
+use Rattle.definition.specs.Polynomial.{pair}
+use Rattle.definition.specs.Sheet.{Edition, Sheet, sheetOf}
+use Rattle.algebra.specs.Different.{Apart}
+use Rattle.layouts.specs.Levels.{sheetField, wordsFor}
+use Rattle.layouts.specs.Spellings.{count-add, count-least, read-length}
+use Rattle.spelling.specs.ByField.{elementsAt, fieldAt, wordsAt}
+use Rattle.elements.specs.Meaning.{valueAt, valueIn}
+use Rattle.quartic.specs.declared.Four.{Four}
+use Rattle.lists.specs.Correcting.{CorrectingOver}
 use Rattle.samples.specs.declared.Gathered.{Gathered}
 use Rattle.samples.specs.declared.Gathered.the-variants.{Clash, From}
-use Rattle.samples.specs.Samples.{Room}
+use Rattle.samples.specs.Samples.{Room, kept}
 use Rattle.fractions.specs.declared.Oracle.{Oracle}
 use Rattle.fractions.specs.Values.{Below, Clear, Fits}
-use Rattle.rounds.specs.RoundLaws.{Answered, Compared, Represents}
+use Rattle.rounds.specs.RoundLaws.{Answered, Compared}
 use Rattle.level_words.specs.declared.State.{State}
-use Rattle.level_words.specs.State.{coefficientsOf, finalsOf, currentFold, nextDegree, nextOuts, currentRepetitions, nextReplies, nextShifts, currentTable}
+use Rattle.level_words.specs.State.{coefficientsOf, coinsAt, currentFold, currentRepetitions, currentTable, finalsOf, nextCombination, nextDegree, nextOuts, nextReplies, nextShifts, outsAt, repliesAt, shiftsAt}
 use Rattle.level_words.specs.Inside.{FinalInside, RoundInside}
-use Rattle.round_words.specs.Handed.{Differing, NextSamples, TableInside}
+use Rattle.round_words.specs.Handed.{Differing, NextCorrecting, NextSamples, TableInside}
+use Rattle.round_words.proofs.Made.{by-field, by-sheet}
 
--- ---- parts of the words, by another name
+-- ---- parts of the words, by another name: what holds by the field's number holds in the sheet's field
 
-module _ (h : Sheet) (w pw ac vg : List ℕ) (st : State) (r : ℕ) (oracle : Oracle) (table : List ℕ) (et : table ≡ currentTable w st) {k : ℕ} (ek : k ≡ currentFold h st) where
-  pub distinct-parts : (shifts outs replies : List ℕ) {v : Option (List (Sample ℕ))} → shifts ≡ nextShifts h w st → outs ≡ nextOuts h w st → replies ≡ nextReplies h w st →
-      Answered (getD w 0 0) pw table ac vg oracle k r shifts outs replies v → NextSamples h w pw ac vg st r oracle v
-  distinct-parts shifts outs replies es eo er a = λ ω b f ρ fo fr fs sv.
-      a ω b f ρ (fo ∙ sym eo) (fr ∙ sym er) (fs ∙ sym es)
-      (subst (Represents (getD w 0 0) ω b f pw table ac vg oracle) (sym ek) (subst (λ (t : List ℕ). Represents (getD w 0 0) ω b f pw t ac vg oracle (currentFold h st)) (sym et) sv))
+module _ (ed : Edition) (w pw ac vg : List ℕ) (st : State) (r : Four) (oracle : Oracle) (table : List ℕ) (et : table ≡ currentTable (sheetOf ed w) w st) {k : ℕ} (ek : k ≡ currentFold (sheetOf ed w) st) where
+  pub distinct-parts : (shifts outs replies : List ℕ) (g : Gathered) (px py : List ℕ) → shifts ≡ nextShifts (sheetOf ed w) w st → outs ≡ nextOuts (sheetOf ed w) w st → replies ≡ nextReplies (sheetOf ed w) w st →
+      Answered (getD w 0 0) pw table ac vg oracle k (valueAt (getD w 0 0) r) shifts outs replies (kept g (elementsAt (getD w 0 0) px) (elementsAt (getD w 0 0) py)) →
+      NextSamples (sheetOf ed w) w pw ac vg st (valueIn (sheetOf ed w .spelling) r) oracle (kept g (elementsIn (sheetOf ed w .spelling) px) (elementsIn (sheetOf ed w .spelling) py))
+  unfolding sheetOf
+  distinct-parts shifts outs replies g px py es eo er a =
+      let h = sheetOf ed w in
+      let field = getD w 0 0 in
+      let v = kept g (elementsAt field px) (elementsAt field py) in
+      subst (λ (t : List ℕ). Answered field pw t ac vg oracle (currentFold h st) (valueAt field r) (nextShifts h w st) (nextOuts h w st) (nextReplies h w st) v) et
+      (subst (λ (n : ℕ). Answered field pw table ac vg oracle n (valueAt field r) (nextShifts h w st) (nextOuts h w st) (nextReplies h w st) v) ek
+      (subst (λ (t : List ℕ). Answered field pw table ac vg oracle k (valueAt field r) (nextShifts h w st) (nextOuts h w st) t v) er
+      (subst (λ (t : List ℕ). Answered field pw table ac vg oracle k (valueAt field r) (nextShifts h w st) t replies v) eo
+      (subst (λ (t : List ℕ). Answered field pw table ac vg oracle k (valueAt field r) t outs replies v) es a))))
 
-  pub differing-parts : (coefficients finals : List ℕ) {v : Option ℕ} → coefficients ≡ coefficientsOf h w st → finals ≡ finalsOf h w st →
-      Compared (getD w 0 0) pw table ac vg oracle k r coefficients finals v → Differing h w pw ac vg st r oracle v
+  pub differing-parts : (coefficients finals : List ℕ) {v : Option ℕ} → coefficients ≡ coefficientsOf (sheetOf ed w) w st → finals ≡ finalsOf (sheetOf ed w) w st →
+      Compared (getD w 0 0) pw table ac vg oracle k (valueAt (getD w 0 0) r) coefficients finals v → Differing (sheetOf ed w) w pw ac vg st (valueIn (sheetOf ed w .spelling) r) oracle v
+  unfolding sheetOf
   differing-parts coefficients finals {v} ec ef a =
-      subst (λ (t : List ℕ). Compared (getD w 0 0) pw t ac vg oracle (currentFold h st) r (coefficientsOf h w st) (finalsOf h w st) v) et
-      (subst (λ (n : ℕ). Compared (getD w 0 0) pw table ac vg oracle n r (coefficientsOf h w st) (finalsOf h w st) v) ek
-      (subst (λ (t : List ℕ). Compared (getD w 0 0) pw table ac vg oracle k r t (finalsOf h w st) v) ec
-      (subst (λ (t : List ℕ). Compared (getD w 0 0) pw table ac vg oracle k r coefficients t v) ef a)))
+      let h = sheetOf ed w in
+      let field = getD w 0 0 in
+      subst (λ (t : List ℕ). Compared field pw t ac vg oracle (currentFold h st) (valueAt field r) (coefficientsOf h w st) (finalsOf h w st) v) et
+      (subst (λ (n : ℕ). Compared field pw table ac vg oracle n (valueAt field r) (coefficientsOf h w st) (finalsOf h w st) v) ek
+      (subst (λ (t : List ℕ). Compared field pw table ac vg oracle k (valueAt field r) t (finalsOf h w st) v) ec
+      (subst (λ (t : List ℕ). Compared field pw table ac vg oracle k (valueAt field r) coefficients t v) ef a)))
 
-module _ (h : Sheet) (w : List ℕ) {points answers factors : ℕ} (st : State) (oracle : Oracle) (ok : TableInside h w points answers factors st oracle) where
-  fits-table : (table : List ℕ) {k : ℕ} → table ≡ currentTable w st → k ≡ currentFold h st → Fits points (length table) oracle k
+-- the samples and the combination coin
+module _ (ed : Edition) (w : List ℕ) (st : State) (px py : List ℕ) (from : ℕ) where
+  pub apart-part : Apart (sheetField (sheetOf ed w)) (drop from (elementsIn (sheetOf ed w .spelling) px)) → Apart (fieldAt (getD w 0 0)) (drop from (elementsAt (getD w 0 0) px))
+  unfolding sheetOf
+  apart-part a = a
+
+  pub corrected-part : (n : ℕ) (pa pv : List ℕ) (c : Four) → valueIn (sheetOf ed w .spelling) c ≡ nextCombination (sheetOf ed w) w st →
+      CorrectingOver (fieldAt (getD w 0 0)) (pair (drop from (elementsAt (getD w 0 0) px)) (drop from (elementsAt (getD w 0 0) py))) (valueAt (getD w 0 0) c) n (elementsAt (getD w 0 0) pa) (elementsAt (getD w 0 0) pv) →
+      NextCorrecting (sheetOf ed w) w st (pair (drop from (elementsIn (sheetOf ed w .spelling) px)) (drop from (elementsIn (sheetOf ed w .spelling) py))) n pa pv
+  unfolding sheetOf
+  corrected-part n pa pv c ec given =
+      let field = getD w 0 0 in
+      subst (λ y. CorrectingOver (fieldAt field) (pair (drop from (elementsAt field px)) (drop from (elementsAt field py))) y n (elementsAt field pa) (elementsAt field pv)) ec given
+
+-- ---- what the calls require
+
+-- no more elements than words, which are there
+pub table-small : (h : Sheet) (w : List ℕ) {points answers factors : ℕ} (st : State) (oracle : Oracle) → TableInside h w points answers factors st oracle → st .size ≤ length w
+table-small h w st oracle ok = omega (arith, ok .table, count-least (h .spelling) (st .size))
+
+pub combination-there : (ed : Edition) (h : Sheet) (w : List ℕ) (st : State) → RoundInside ed h w st → (st .size / 2 ≤ length w) × (coinsAt h st + wordsAt (getD w 0 0) 1 ≤ length w)
+combination-there ed h w st i =
+    let one = by-field h (getD w 0 0) (i .numbers .spelling) 1 refl in
+    omega (arith, i .there, one, count-least (h .spelling) (st .size / 2), count-add (h .spelling) 1 1)
+
+pub final-words : (ed : Edition) (h : Sheet) (w : List ℕ) (st : State) → FinalInside ed h w st → {k v : ℕ} → k ≡ currentFold h st → v ≡ wordsAt (getD w 0 0) (st .degree / k) →
+    v ≡ wordsFor h (nextDegree h st)
+final-words ed h w st i ek ev = by-sheet h (getD w 0 0) (i .numbers .spelling) ev (ap (λ (n : ℕ). st .degree / n) ek)
+
+pub final-small : (ed : Edition) (h : Sheet) (w : List ℕ) (st : State) → FinalInside ed h w st → {k : ℕ} → k ≡ currentFold h st → st .degree / k ≤ length w
+final-small ed h w st i ek = omega (arith, ap (λ (n : ℕ). st .degree / n) ek, i .there, count-least (h .spelling) (nextDegree h st))
+
+module _ (ed : Edition) (h : Sheet) (w : List ℕ) {points answers factors : ℕ} (st : State) (oracle : Oracle) (ok : TableInside h w points answers factors st oracle)
+    (spelt : h .spelling ≡ spellingOf (getD w 0 0)) (table : List ℕ) (et : table ≡ currentTable h w st) {k : ℕ} (ek : k ≡ currentFold h st) where
+  abbrev field : ℕ
+  field = getD w 0 0
+
+  table-size : length (elementsAt (getD w 0 0) table) ≡ st .size
   unfolding currentTable
-  fits-table table e ek =
-      subst (Fits points (length table) oracle) (sym ek)
-      (subst (λ (n : ℕ). Fits points n oracle (currentFold h st)) (sym (ap length e ∙ part-length (st .table) (st .size) w (ok .table))) (ok .fits))
+  table-size = read-length (spellingOf field) (st .size) table (by-field h field spelt (st .size) (ap length et ∙ part-length (st .table) (wordsFor h (st .size)) w (ok .table)))
 
-  -- and so is what is divided by, by the table's length
-  pub clear-table : (pw vg table : List ℕ) → table ≡ currentTable w st → Clear (getD w 0 0) pw (st .size) vg oracle → Clear (getD w 0 0) pw (length table) vg oracle
-  unfolding currentTable
-  clear-table pw vg table e clear = subst (λ (n : ℕ). Clear (getD w 0 0) pw n vg oracle) (sym (ap length e ∙ part-length (st .table) (st .size) w (ok .table))) clear
+  pub fits-table : Fits points (length (elementsAt (getD w 0 0) table)) oracle k
+  fits-table = subst (Fits points (length (elementsAt field table)) oracle) (sym ek) (subst (λ (n : ℕ). Fits points n oracle (currentFold h st)) (sym table-size) (ok .fits))
 
-  pub answer-ready : (ed : Edition) → RoundInside ed h w st → (table shifts outs replies : List ℕ) {k : ℕ} → k ≡ currentFold h st →
-      table ≡ currentTable w st → shifts ≡ nextShifts h w st → outs ≡ nextOuts h w st → replies ≡ nextReplies h w st →
-      Fits points (length table) oracle k × (Below (oracle .step) shifts × ((length replies ≡ length outs) × (length outs + length shifts ≤ 50)))
+  -- the places for coefficients, and what is divided by, by the table's length
+  pub clear-table : (pw vg : List ℕ) → Clear (getD w 0 0) pw (st .size) vg oracle →
+      (answers ≡ wordsAt (getD w 0 0) 66) × ((factors ≡ wordsAt (getD w 0 0) 132) × Clear (getD w 0 0) pw (length (elementsAt (getD w 0 0) table)) vg oracle)
+  clear-table pw vg clear = (
+    by-field h field spelt 66 (ok .in-answers),
+    (by-field h field spelt 132 (ok .in-factors), subst (λ (n : ℕ). Clear field pw n vg oracle) (sym table-size) clear),
+  )
+
+  pub answer-ready : RoundInside ed h w st → (shifts outs replies px py : List ℕ) → shifts ≡ nextShifts h w st → outs ≡ nextOuts h w st → replies ≡ nextReplies h w st →
+      length px ≡ wordsFor h 50 → length py ≡ wordsFor h 50 →
+      (Below (oracle .step) shifts × (length shifts ≤ 48))
+      × (((length py ≡ length px)
+      × ((length (elementsAt (getD w 0 0) replies) ≡ length (elementsAt (getD w 0 0) outs)) × (length (elementsAt (getD w 0 0) outs) + length shifts ≤ length (elementsAt (getD w 0 0) px))))
+      × (length (elementsAt (getD w 0 0) px) ≤ 50))
   unfolding nextShifts nextOuts nextReplies
-  answer-ready ed i table shifts outs replies ek et es eo er =
-      let s = h .outCoins in
-      let t = currentRepetitions h st in
-      let at = st .at + st .size / 2 in
-      let ns = ap length es ∙ part-length (at + s + s + 2) t w (i .there) in
-      let no = ap length eo ∙ part-length at s w (omega (arith, i .there)) in
-      let nr = ap length er ∙ part-length (at + s) s w (omega (arith, i .there)) in (
-        fits-table table et ek,
+  answer-ready i shifts outs replies px py es eo er lx ly =
+      let s = wordsFor h (h .outCoins) in
+      let σ = spellingOf field in
+      let there = i .there in
+      let ns = ap length es ∙ part-length (shiftsAt h st) (currentRepetitions h st) w there in
+      let no = read-length σ (h .outCoins) outs (by-field h field spelt (h .outCoins) (ap length eo ∙ part-length (outsAt h st) s w (omega (arith, there)))) in
+      let nr = read-length σ (h .outCoins) replies (by-field h field spelt (h .outCoins) (ap length er ∙ part-length (repliesAt h st) s w (omega (arith, there)))) in
+      let nx = read-length σ 50 px (by-field h field spelt 50 lx) in (
         (
           subst (λ (n : ℕ). Below n shifts) (sym (ok .step)) (subst (λ (js : List ℕ). Below (st .size / currentFold h st) js) (sym es) (i .below)),
-          (nr ∙ sym no, omega (arith, ns, no, i .numbers .few, ok .few)),
+          omega (arith, ns, i .numbers .few),
         ),
+        ((ly ∙ sym lx, (nr ∙ sym no, omega (arith, ns, no, nx, i .numbers .few, ok .few))), omega (arith, nx)),
       )
 
-  pub final-ready : (ed : Edition) → FinalInside ed h w st → (table finals : List ℕ) {k : ℕ} → k ≡ currentFold h st → table ≡ currentTable w st → finals ≡ finalsOf h w st →
-      Fits points (length table) oracle k × (Below (oracle .step) finals × (length finals ≤ 50))
+  pub final-ready : FinalInside ed h w st → (finals : List ℕ) → finals ≡ finalsOf h w st → Below (oracle .step) finals × (length finals ≤ 48)
   unfolding finalsOf
-  final-ready ed i table finals ek et ef =
-      let nf = ap length ef ∙ part-length (st .at + nextDegree h st) (currentRepetitions h st) w (i .there) in (
-        fits-table table et ek,
-        (subst (λ (n : ℕ). Below n finals) (sym (ok .step)) (subst (λ (js : List ℕ). Below (st .size / currentFold h st) js) (sym ef) (i .below)), omega (arith, nf, i .numbers .few)),
+  final-ready i finals ef =
+      let nf = ap length ef ∙ part-length (st .at + wordsFor h (nextDegree h st)) (currentRepetitions h st) w (i .there) in (
+        subst (λ (n : ℕ). Below n finals) (sym (ok .step)) (subst (λ (js : List ℕ). Below (st .size / currentFold h st) js) (sym ef) (i .below)),
+        omega (arith, nf, i .numbers .few),
       )
 
 -- ---- room for the samples

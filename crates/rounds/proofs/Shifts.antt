@@ -14,6 +14,8 @@ use Rattle.definition.specs.Polynomial.{Sample, pair}
 use Rattle.algebra.specs.Laws.{FieldLaws}
 use Rattle.algebra.specs.RootsOfUnity.{minusOne}
 use Rattle.list_laws.specs.Backwards.{drop-back}
+use Rattle.spelling.specs.ByField.{ElementOf, elementsAt, fieldAt, pointsAt}
+use Rattle.element_folds.specs.Points.{inverseAt}
 use Rattle.samples.specs.Samples.{put, distinctOrClash, Room}
 use Rattle.samples.specs.declared.Gathered.{Gathered}
 use Rattle.samples.specs.declared.Gathered.the-variants.{Clash, From}
@@ -23,6 +25,7 @@ use Rattle.folds.specs.Halving.{halving, exponentOf}
 use Rattle.folds.specs.HalvingLaw.{halving-same}
 use Rattle.folds.specs.PointsIn.{inversePowerIn, shiftIn}
 use Rattle.root_values.specs.Places.{PreparedOver}
+use Rattle.rounds.specs.Points.{inverse-number}
 use Rattle.rounds.specs.SamplesIn.{foldBy, numbered, sampleBy, foldIn, sampleIn}
 use Rattle.fractions.specs.Values.{Fits, Below, power-of, rootIn}
 use Rattle.folds.specs.OneHalf.{halfOf}
@@ -54,6 +57,16 @@ module _ {A : Type 0} (F : Field A) (pw roots : List A) (oracle : Oracle) where
   unfolding sampleBy
   sampled k r i {j = j} ej ek ex ey =
       (λ z. record { point = ex z; value = (ey ∙ ap (λ (k : ℕ). foldBy F pw roots oracle k r i j) ek) z }) ∙ ap (sampleBy F pw roots oracle k r i) ej
+
+-- the same by the field's number, where the points are words
+pub folded-at : (field : ℕ) (pw roots : List ℕ) (oracle : Oracle) (k : ℕ) (r : ElementOf field) (i j : ℕ) (values : List (ElementOf field)) {points n : ℕ} {v : ElementOf field} → Fits points n oracle k → length values ≡ k →
+    ((m : ℕ) → m < k → getD values m (fieldAt field .𝟘) ≡ getD (elementsAt field roots) (i * k + 1 * m) (fieldAt field .𝟘)) →
+    v ≡ halving (fieldAt field) (halfOf (fieldAt field)) (inverseAt field pw) (exponentOf (length values)) (1 + oracle .scale * j) (oracle .scale * oracle .step) r (λ m. getD values m (fieldAt field .𝟘)) →
+    v ≡ foldBy (fieldAt field) (pointsAt field pw) (elementsAt field roots) oracle k r i j
+folded-at field pw roots oracle k r i j values fits long there e =
+    let F = fieldAt field in
+    folded F (pointsAt field pw) (elementsAt field roots) oracle k r i j values fits long there
+    (e ∙ (λ z. halving F (halfOf F) (λ n. inverse-number field pw n z) (exponentOf (length values)) (1 + oracle .scale * j) (oracle .scale * oracle .step) r (λ m. getD values m (F .𝟘))))
 
 -- ---- numbered elements
 

@@ -1,3 +1,4 @@
 pub mod SamplesIn
+pub mod Points
 pub mod RoundLaws
 pub mod NextRound

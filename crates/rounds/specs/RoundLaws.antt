@@ -7,14 +7,17 @@ use mathlib.Core.Option.{Option, some}
 use native.Mathlib.Omega.{arith}
 use lib.ListN.{length}
 use Rattle.definition.specs.Lists.{firstTrue}
-use Rattle.definition.specs.Field.{Field, fieldOf, power}
+use Rattle.definition.specs.Field.{Field, power, primeOf, spellingOf}
 use Rattle.definition.specs.Sheet.{Level, shiftCount}
 use Rattle.definition.specs.Polynomial.{Sample, pair, evaluate}
 use Rattle.definition.specs.Domain.{shiftPoint, foldAt}
 use Rattle.definition.specs.Transcript.{Round}
 use Rattle.definition.specs.Deciding.{answers, differences}
 use Rattle.algebra.specs.Laws.{FieldLaws}
+use Rattle.algebra.specs.FieldIn.{signs-in}
+use Rattle.algebra.specs.PrimeField.{prime-field, suited}
 use Rattle.algebra.specs.RootsOfUnity.{minusOne}
+use Rattle.spelling.specs.ByField.{ElementOf, fieldAt, pointsAt, elementsAt}
 use Rattle.samples.specs.Samples.{distinctOrClash}
 use Rattle.fractions.specs.declared.Oracle.{Oracle}
 use Rattle.folds.specs.PointsIn.{inversePowerIn, inverse-power-is, shift-in}
@@ -45,15 +48,18 @@ abbrev pub ComparedOver : {A : Type 0} → Field A → List A → List A → Lis
 ComparedOver {A} F pw table ac vg oracle k r coefficients finals v =
     (ω : A) (b : Level) (f : ℕ → A) → RepresentsOver F ω b f pw table ac vg oracle k → v ≡ firstTrue 0 (differences F ω b f r coefficients finals)
 
--- the same of words
-abbrev pub Represents : ℕ → ℕ → Level → (ℕ → ℕ) → List ℕ → List ℕ → List ℕ → List ℕ → Oracle → ℕ → Type 0
-Represents field = RepresentsOver (fieldOf field)
+-- the same of words, by the field's number
+abbrev pub Represents : (field : ℕ) → ElementOf field → Level → (ℕ → ElementOf field) → List ℕ → List ℕ → List ℕ → List ℕ → Oracle → ℕ → Type 0
+Represents field ω b f pw table ac vg oracle k =
+    RepresentsOver (fieldAt field) ω b f (pointsAt field pw) (elementsAt field table) (elementsAt field ac) (elementsAt field vg) oracle k
 
-abbrev pub Answered : ℕ → List ℕ → List ℕ → List ℕ → List ℕ → Oracle → ℕ → ℕ → List ℕ → List ℕ → List ℕ → Option (List (Sample ℕ)) → Type 0
-Answered field = AnsweredOver (fieldOf field)
+abbrev pub Answered : (field : ℕ) → List ℕ → List ℕ → List ℕ → List ℕ → Oracle → ℕ → ElementOf field → List ℕ → List ℕ → List ℕ → Option (List (Sample (ElementOf field))) → Type 0
+Answered field pw table ac vg oracle k r shifts outs replies v =
+    AnsweredOver (fieldAt field) (pointsAt field pw) (elementsAt field table) (elementsAt field ac) (elementsAt field vg) oracle k r shifts (elementsAt field outs) (elementsAt field replies) v
 
-abbrev pub Compared : ℕ → List ℕ → List ℕ → List ℕ → List ℕ → Oracle → ℕ → ℕ → List ℕ → List ℕ → Option ℕ → Type 0
-Compared field = ComparedOver (fieldOf field)
+abbrev pub Compared : (field : ℕ) → List ℕ → List ℕ → List ℕ → List ℕ → Oracle → ℕ → ElementOf field → List ℕ → List ℕ → Option ℕ → Type 0
+Compared field pw table ac vg oracle k r coefficients finals v =
+    ComparedOver (fieldAt field) (pointsAt field pw) (elementsAt field table) (elementsAt field ac) (elementsAt field vg) oracle k r (elementsAt field coefficients) finals v
 
 -- does the final polynomial differ from a sample?
 unfoldable pub differsIn : {A : Type 0} → Field A → List A → Sample A → Bool
@@ -117,3 +123,7 @@ module _ {A : Type 0} (F : Field A) (L : FieldLaws F) (signs : minusOne F ≡ F 
         v ≡ firstTrue 0 (map (λ j. differsIn F coefficients (sampleIn F pw table ac vg oracle k r j)) finals) →
         ComparedOver F pw table ac vg oracle k r coefficients finals v
     compared coefficients finals l e = λ ω b f s. e ∙ ap (firstTrue 0) (differences-are s fits r coefficients finals l)
+
+-- in the field of each number -1 is not 1
+pub signs-at : (field : ℕ) → minusOne (fieldAt field) ≡ fieldAt field .𝟙 → ⊥
+signs-at field = signs-in (spellingOf field) (primeOf field) (prime-field (primeOf field) (suited field .prime)) (suited field .large)

@@ -2,8 +2,8 @@
 use edition::Edition;
 use generator::Generator;
 ghost use mathlib.Core.Path.{_≡_};
-ghost use Prim.Native.Nat.{ℕ, _≤_};
-ghost use lib.ListN.{length, take};
+ghost use Prim.Native.Nat.{ℕ, _≤_, _<_};
+ghost use lib.ListN.{length, getD, take};
 ghost use Rattle.definition.specs.Layout.{coinKinds, layout};
 ghost use Rattle.definition.specs.Load.{drawInput, drawSheet};
 ghost use Rattle.definition.specs.Reading.{sheetTest};
@@ -14,7 +14,7 @@ ghost use Rattle.definition.specs.Verdict.{accepted};
 pub struct Input {
     pub sheet: [u32; 12],
     pub coefficients: [u32; 2048],
-    pub coins: [u32; 309],
+    pub coins: [u32; 318],
     pub degree: usize,
     pub due: usize,
     pub next: Generator,
@@ -24,16 +24,16 @@ pub struct Input {
 const COEFFICIENTS: usize = 2048;
 
 // Places for the coins of any sheet.
-const COINS: usize = 309;
+const COINS: usize = 318;
 
-// The coefficients and the coins after a sheet w: those of the run of every v that draws this sheet.
+// The coefficients and the coins after a sheet w of one of the fields 0 to 2: those of the run of every v that draws this sheet.
 fn after_sheet(
     w: &[u32],
     generator: Generator,
     coefficients: &mut [u32],
     coins: &mut [u32],
 ) -> Generator
-    requires { ⌜ (length (now w) ≡ 12) × (sheetTest edition1 (now w) ≡ accepted) ⌝ }
+    requires { ⌜ (length (now w) ≡ 12) × (sheetTest edition1 (now w) ≡ accepted) × (getD (now w) 0 0 < 3) ⌝ }
     requires { ⌜ (length (now coefficients) ≡ sheetOf edition1 (now w) .degree) × (length (now coins) ≡ length (coinKinds (layout (sheetOf edition1 (now w))))) ⌝ }
     ensures { λ r.
         ⌜ ((v : ℕ) → record { value = now (w .entry); next = generator .v } ≡ drawSheet v → record { value = record { sheet = now (w .entry); coefficients = now (coefficients .exit); coins = now (coins .exit) }; next = r .v } ≡ drawInput v) ⌝ }

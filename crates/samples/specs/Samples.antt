@@ -4,10 +4,13 @@ use mathlib.Core.Bool.{Bool, cond}
 use mathlib.Core.List.{List, [], _∷_}
 use mathlib.Core.Option.{Option, none, some}
 use lib.ListN.{drop}
-use Rattle.definition.specs.Field.{Field}
+use Rattle.definition.specs.Field.{Field, Quad}
 use Rattle.definition.specs.Polynomial.{Sample, pair, distinct, clash}
+use Rattle.quartic.specs.Meaning.{quadOf}
 use Rattle.samples.specs.declared.FoundValue.{FoundValue}
 use Rattle.samples.specs.declared.FoundValue.the-variants.{Value, Nothing}
+use Rattle.samples.specs.declared.FoundFour.{FoundFour}
+use Rattle.samples.specs.declared.FoundFour.the-variants as foundFours
 use Rattle.samples.specs.declared.Gathered.{Gathered}
 use Rattle.samples.specs.declared.Gathered.the-variants.{Clash, From}
 
@@ -34,6 +37,11 @@ module _ {A : Type 0} (equal : A → A → Bool) where
 unfoldable pub foundOf : FoundValue → Option ℕ
 foundOf Nothing = none
 foundOf (Value v) = some v
+
+-- the same of four words
+unfoldable pub foundFour : FoundFour → Option (Quad ℕ)
+foundFour foundFours.Nothing = none
+foundFour (foundFours.Value v) = some (quadOf v)
 
 -- what an answer says of two lists: the samples that stand there from a number on
 unfoldable pub kept : {A : Type 0} → Gathered → List A → List A → Option (List (Sample A))

@@ -13,9 +13,9 @@ use borrow.Author.Tests.{leb-true, leb-false, ltb-false, le-leb, lt-leb, lt-ltb,
 use Rattle.algebra.specs.ModularArithmetic.{pow-pow}
 use Rattle.list_laws.specs.Booleans.{and-true}
 use Rattle.layouts.specs.SheetRules.{between-true}
-use Rattle.definition.specs.Field.{primeOf}
+use Rattle.definition.specs.Field.{primeOf, spellingOf}
 use Rattle.definition.specs.Lists.{productOf}
-use Rattle.definition.specs.Sheet.{Edition, between, degreeRule, edition1, edition2, foldWords, outCoinsRule, powerOfTwo, repetitionsRule, roundsRule}
+use Rattle.definition.specs.Sheet.{Edition, between, degreeRule, edition1, edition2, foldWords, largestSize, outCoinsRule, powerOfTwo, repetitionsRule, roundsRule}
 use Rattle.edition.specs.declared.Edition as code
 use Rattle.edition.specs.declared.Edition.the-variants.{One, Two}
 use Rattle.edition.specs.Meaning.{editionOf}
@@ -35,6 +35,18 @@ unfolding primeOf
 other-prime zero h k = absurd (h refl)
 other-prime (suc zero) h k = absurd (k refl)
 other-prime (suc (suc field)) h k = refl
+
+-- the largest n0 by the field's number
+pub largest-of-three : (field : ℕ) → field ≡ 3 → 1024 ≡ largestSize (spellingOf field)
+unfolding spellingOf largestSize
+largest-of-three field e = rw (eq-eqb field 3 e)
+
+pub largest-of-one : (field : ℕ) → (field ≡ 3 → ⊥) → 4096 ≡ largestSize (spellingOf field)
+unfolding spellingOf largestSize
+largest-of-one field e = rw (ne-eqb field 3 e)
+
+pub up-to : (n : ℕ) {b : Bool} {x y : ℕ} → b ≡ between 4 x n → x ≡ y → b ≡ between 4 y n
+up-to n e q = e ∙ ap (λ (m : ℕ). between 4 m n) q
 
 -- what the rules of d0 and s leave
 pub degree-one-bit : (w : List ℕ) → degreeRule w ≡ true → ones (getD w 2 0) ≡ 1

@@ -7,9 +7,9 @@ ghost use mathlib.Core.Bool.{true, not};
 ghost use mathlib.Core.List.{map};
 ghost use Prim.Native.Nat.{_+_, _-_, _≤_, _<_};
 ghost use lib.ListN.{length};
-ghost use Rattle.definition.specs.Field.{primeOf};
+ghost use Rattle.definition.specs.Field.{primeOf, spellingOf};
 ghost use Rattle.definition.specs.Lists.{firstOf, range};
-ghost use Rattle.definition.specs.Sheet.{between as betweenIn, powerOfTwo, degreeRule, edition2, fieldRule, foldRule, foldingNumber, laterFoldRule, laterRules, outCoinsRule, repetitionsRule, roundsRule, sheetLength, sheetRules, sizeRule, testOrder};
+ghost use Rattle.definition.specs.Sheet.{between as betweenIn, powerOfTwo, degreeRule, edition2, fieldRule, foldRule, foldingNumber, largestSize, laterFoldRule, laterRules, outCoinsRule, repetitionsRule, roundsRule, sheetLength, sheetRules, sizeRule, testOrder};
 ghost use Rattle.edition.specs.Meaning.{editionOf};
 ghost use Rattle.outcome.specs.Meaning.{placeOf};
 ghost use Rattle.sheet.specs.Rules.{Shape, frontRules, laterWords};
@@ -50,10 +50,20 @@ fn field_rule(w: &[u32]) -> bool
     requires { ⌜ 12 ≤ length (now w) ⌝ }
     ensures { λ r. ⌜ r ≡ fieldRule (now (w .entry)) ⌝ }
 {
-    w[0] < 3
+    w[0] < 4
 }
 
-// Word 1, n0: a power of two from 4 to 4096 that divides p - 1.
+// The largest n0: a table has at most 4,096 words.
+fn largest_size(field: u32) -> u32
+    ensures { λ r. ⌜ r ≡ largestSize (spellingOf field) ⌝ }
+{
+    if field == 3 {
+        return 1024;
+    }
+    4096
+}
+
+// Word 1, n0: a power of two from 4 to the largest that divides p - 1.
 fn size_rule(w: &[u32]) -> bool
     requires { ⌜ 12 ≤ length (now w) ⌝ }
     ensures { λ r. ⌜ r ≡ sizeRule (now (w .entry)) ⌝ }
@@ -62,7 +72,7 @@ fn size_rule(w: &[u32]) -> bool
     if !is_power(n) {
         return false;
     }
-    if !between(4, 4096, n) {
+    if !between(4, largest_size(w[0]), n) {
         return false;
     }
     group_size(w[0]) % n == 0

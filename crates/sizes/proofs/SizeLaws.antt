@@ -13,12 +13,14 @@ use Rattle.layouts.specs.DueSizes.{words-most}
 use Rattle.layouts.specs.Lawful.{Lawful, lawful, rounds-word, times-word}
 use Rattle.layouts.specs.LayoutByRound.{coins-due, starts-grow, words-due}
 use Rattle.layouts.specs.LevelSizes.{quotient}
-use Rattle.layouts.specs.Levels.{coinCount, coinsBefore, levelOf, roundStart, roundsOf, wordCount}
+use Rattle.layouts.specs.Levels.{coinCount, coinsBefore, levelOf, roundStart, roundCount, roundsOf, wordsFor}
 use Rattle.layouts.specs.LevelsByNumber.{folded, undivided}
 use Rattle.layouts.specs.PlainSheet.{sheet-plain}
 use Rattle.layouts.specs.SheetLevels.{sized}
 use Rattle.layouts.specs.SheetRules.{long-enough, pow-most}
+use Rattle.layouts.specs.Spellings.{count-add, count-least, count-most}
 use Rattle.definition.specs.Block.{blockCount}
+use Rattle.definition.specs.Field.{Spelling, spellingOf, wordCount}
 use Rattle.definition.specs.Layout.{coinKinds, laterCount, layout, wordsDue}
 use Rattle.definition.specs.Lists.{productOf}
 use Rattle.definition.specs.Reading.{sheetTest}
@@ -37,6 +39,17 @@ some-words : (ed : Edition) → 1 ≤ sheetLength ed
 some-words edition1 = omega arith
 some-words edition2 = omega arith
 
+-- a round's elements counted together
+pub round-joined : (σ : Spelling) (n s t : ℕ) {v : ℕ} → v ≡ wordCount σ (n + 2 * s + 2) → v + t ≡ roundWordCount σ n s t
+unfolding roundWordCount
+round-joined σ n s t e =
+    let z : 2 * s ≡ s + s = omega arith in
+    omega (arith, e, count-add σ (n + 2 * s) 2, count-add σ n (2 * s), ap (wordCount σ) z, count-add σ s s)
+
+pub parts-small : (σ : Spelling) (n s t : ℕ) → n + (s + s) ≤ roundWordCount σ n s t
+unfolding roundWordCount
+parts-small σ n s t = omega (arith, count-least σ n, count-least σ s)
+
 -- i of the rounds are counted in due, and d is the degree bound of level i
 pub record Counted (ed : Edition) (w : List ℕ) (due d i : ℕ) : Type 0 where
   pub within : i ≤ getD w 4 0
@@ -46,12 +59,12 @@ pub record Counted (ed : Edition) (w : List ℕ) (due d i : ℕ) : Type 0 where
 -- the same for the coins, whatever the edition
 pub record CountedCoins (w : List ℕ) (due i : ℕ) : Type 0 where
   pub within : i ≤ getD w 4 0
-  pub small : due ≤ 1 + 52 * i
+  pub small : due ≤ 4 + 64 * i
   pub sum : (ed : Edition) → sheetLength ed ≤ length w → sheetTest ed w ≡ accepted → due ≡ coinsBefore (sheetOf ed w) (suc i)
 
-pub coins-start : (w : List ℕ) → CountedCoins w 1 0
-unfolding coinsBefore coinCount
-coins-start w = record { within = omega arith; small = omega arith; sum = λ ed l p. refl }
+pub coins-start : (w : List ℕ) {v : ℕ} → v ≡ wordCount (spellingOf (getD w 0 0)) 1 → CountedCoins w v 0
+unfolding coinsBefore coinCount sheetOf
+coins-start w e = record { within = omega arith; small = omega (arith, e, count-most (spellingOf (getD w 0 0)) 1); sum = λ ed l p. omega (arith, e) }
 
 module _ (ed : Edition) (w : List ℕ) (long : sheetLength ed ≤ length w) (passed : sheetTest ed w ≡ accepted) where
   abbrev h : Sheet
@@ -117,22 +130,22 @@ module _ (ed : Edition) (w : List ℕ) (long : sheetLength ed ≤ length w) (pas
       ∙ ap (λ (l : List ℕ). getD w 2 0 / productOf l) (take-take (suc M) (suc (getD w 4 0)) (foldWords ed w) (omega (arith, e)))
       ∙ ap (λ (x : ℕ). getD w 2 0 / productOf (take (suc x) (foldWords ed w))) e
 
-  pub words-start : (log : ℕ) → getD w 1 0 ≡ 2 ^ log → {words n : ℕ} → words ≡ sheetLength ed → n ≡ 2 ^ (log - 0) → Counted ed w (words + n + 1) (getD w 2 0) 0
-  unfolding roundStart wordCount sheetOf
-  words-start log e a b = record {
+  pub words-start : (log : ℕ) → getD w 1 0 ≡ 2 ^ log → {words n v : ℕ} → words ≡ sheetLength ed → n ≡ 2 ^ (log - 0) → v ≡ wordCount (spellingOf (getD w 0 0)) (n + 1) → Counted ed w (words + v) (getD w 2 0) 0
+  unfolding roundStart roundCount sheetOf
+  words-start log e {n = n} a b v = record {
     within = omega arith;
-    sum = omega (arith, a, first-size log e b, undivided (getD w 1 0));
+    sum = omega (arith, a, v, count-add (spellingOf (getD w 0 0)) n 1, ap (wordCount (spellingOf (getD w 0 0))) (first-size log e b ∙ sym (undivided (getD w 1 0))));
     degree = degree-first ed w;
   }
 
   module _ {due d i : ℕ} (c : Counted ed w due d i) where
     module _ (more : i < getD w 4 0) (log : ℕ) {n : ℕ} (e : getD w 1 0 ≡ 2 ^ log) (q : n ≡ 2 ^ (log - (i + 1))) where
-      next-start : due + roundWordCount n (getD w 5 0) (getD w (6 + i) 0) ≡ roundStart ed (sheetOf ed w) (suc (suc i))
-      unfolding roundStart wordCount laterCount roundWordCount sheetOf
+      next-start : due + roundWordCount (spellingOf (getD w 0 0)) n (getD w 5 0) (getD w (6 + i) 0) ≡ roundStart ed (sheetOf ed w) (suc (suc i))
+      unfolding roundStart roundCount laterCount roundWordCount sheetOf
       next-start =
-          omega (arith, c .sum, time i (omega arith), q, ap (λ (x : ℕ). 2 ^ (log - x)) (add-one i), level-size log e (suc i) (omega arith))
+          omega (arith, c .sum, time i (omega arith), ap (wordCount (spellingOf (getD w 0 0))) (q ∙ ap (λ (x : ℕ). 2 ^ (log - x)) (add-one i) ∙ level-size log e (suc i) (omega arith)))
 
-      pub words-fit : due + roundWordCount n (getD w 5 0) (getD w (6 + i) 0) ≤ 8509
+      pub words-fit : due + roundWordCount (spellingOf (getD w 0 0)) n (getD w 5 0) (getD w (6 + i) 0) ≤ 8509
       words-fit =
           let M = roundsOf (sheetOf ed w) in
           let l : suc i ≤ M = omega (arith, rounds-word ed w long passed) in
@@ -146,15 +159,16 @@ module _ (ed : Edition) (w : List ℕ) (long : sheetLength ed ≤ length w) (pas
             words-most ed w long passed,
           )
 
-      pub words-turn : {r d′ : ℕ} → r ≡ roundWordCount n (getD w 5 0) (getD w (6 + i) 0) → DegreeAt ed w (i + 1) d′ → Counted ed w (due + r) d′ (i + 1)
+      pub words-turn : {r d′ : ℕ} → r ≡ roundWordCount (spellingOf (getD w 0 0)) n (getD w 5 0) (getD w (6 + i) 0) → DegreeAt ed w (i + 1) d′ → Counted ed w (due + r) d′ (i + 1)
       words-turn t g = record {
         within = omega arith;
         sum = omega (arith, t, next-start, ap (λ (x : ℕ). roundStart ed (sheetOf ed w) (suc x)) (add-one i));
         degree = g;
       }
 
-    pub words-done : getD w 4 0 ≤ i → {d′ : ℕ} → DegreeAt ed w (i + 1) d′ → due + d′ + getD w (6 + i) 0 ≡ wordsDue ed (sheetOf ed w)
-    words-done last g =
+    pub words-done : getD w 4 0 ≤ i → {d′ v : ℕ} → DegreeAt ed w (i + 1) d′ → v ≡ wordCount (spellingOf (getD w 0 0)) d′ → due + v + getD w (6 + i) 0 ≡ wordsDue ed (sheetOf ed w)
+    unfolding sheetOf
+    words-done last {d′} g ev =
         let M = roundsOf (sheetOf ed w) in
         let l : i ≡ getD w 4 0 = omega (arith, c .within) in
         let q : i ≡ M = omega (arith, rounds-word ed w long passed) in
@@ -162,9 +176,9 @@ module _ (ed : Edition) (w : List ℕ) (long : sheetLength ed ≤ length w) (pas
           arith,
           c .sum,
           ap (λ (x : ℕ). roundStart ed (sheetOf ed w) (suc x)) q,
-          g .degree (omega arith),
-          ap (λ (x : ℕ). getD w 2 0 / productOf (take x (foldWords ed w))) (add-one i ∙ ap suc l),
-          final-count,
+          ev,
+          ap (wordCount (spellingOf (getD w 0 0)))
+              (g .degree (omega arith) ∙ ap (λ (x : ℕ). getD w 2 0 / productOf (take x (foldWords ed w))) (add-one i ∙ ap suc l) ∙ sym final-count),
           time i (omega arith),
           ap (λ (x : ℕ). levelOf (sheetOf ed w) x .repetitions) q,
           words-due ed (sheetOf ed w) (law .paired),
@@ -177,9 +191,10 @@ module _ (ed : Edition) (w : List ℕ) (long : sheetLength ed ≤ length w) (pas
 
   -- ---- the coins
 
-  coins-next : {due i : ℕ} → i < getD w 4 0 → due ≡ coinsBefore (sheetOf ed w) (suc i) → due + (getD w 5 0 + 2 + getD w (6 + i) 0) ≡ coinsBefore (sheetOf ed w) (suc (i + 1))
+  coins-next : {due i v : ℕ} → i < getD w 4 0 → v ≡ wordCount (spellingOf (getD w 0 0)) (getD w 5 0 + 2) → due ≡ coinsBefore (sheetOf ed w) (suc i) →
+      due + (v + getD w (6 + i) 0) ≡ coinsBefore (sheetOf ed w) (suc (i + 1))
   unfolding coinsBefore coinCount laterCount sheetOf
-  coins-next {due} {i} more e = omega (arith, time i (omega arith), ap (λ (x : ℕ). coinsBefore (sheetOf ed w) (suc x)) (add-one i))
+  coins-next {due} {i} more ev e = omega (arith, ev, count-add (spellingOf (getD w 0 0)) (getD w 5 0) 2, time i (omega arith), ap (λ (x : ℕ). coinsBefore (sheetOf ed w) (suc x)) (add-one i))
 
   pub coins-done : {due i : ℕ} → CountedCoins w due i → getD w 4 0 ≤ i → due + getD w (6 + i) 0 ≡ length (coinKinds (layout (sheetOf ed w)))
   coins-done {due} {i} c last =
@@ -193,10 +208,10 @@ module _ (ed : Edition) (w : List ℕ) (long : sheetLength ed ≤ length w) (pas
         coins-due ed (sheetOf ed w) (law .paired),
       )
 
-pub coins-turn : (ed : Edition) (w : List ℕ) → sheetLength ed ≤ length w → sheetTest ed w ≡ accepted → {due i : ℕ} → CountedCoins w due i → i < getD w 4 0 →
-    CountedCoins w (due + (getD w 5 0 + 2 + getD w (6 + i) 0)) (i + 1)
-coins-turn ed w long passed {due} {i} c more = record {
+pub coins-turn : (ed : Edition) (w : List ℕ) → sheetLength ed ≤ length w → sheetTest ed w ≡ accepted → {due i v : ℕ} → CountedCoins w due i → i < getD w 4 0 →
+    v ≡ wordCount (spellingOf (getD w 0 0)) (getD w 5 0 + 2) → CountedCoins w (due + (v + getD w (6 + i) 0)) (i + 1)
+coins-turn ed w long passed {due} {i} c more ev = record {
   within = omega arith;
-  small = omega (arith, c .small, outs-small ed w long passed, time-small ed w long passed i (omega arith));
-  sum = λ ed′ l p. coins-next ed′ w l p more (c .sum ed′ l p);
+  small = omega (arith, c .small, ev, count-most (spellingOf (getD w 0 0)) (getD w 5 0 + 2), outs-small ed w long passed, time-small ed w long passed i (omega arith));
+  sum = λ ed′ l p. coins-next ed′ w l p more ev (c .sum ed′ l p);
 }

@@ -5,6 +5,7 @@ ghost use Prim.Native.Nat.{_+_, _-_, _^_, _≤_, _<_};
 ghost use lib.Count.{ones};
 ghost use lib.ListN.{length, getD};
 ghost use Rattle.definition.specs.Block.{blockCount};
+ghost use Rattle.definition.specs.Field.{spellingOf};
 ghost use Rattle.definition.specs.Layout.{coinKinds, layout, wordsDue};
 ghost use Rattle.definition.specs.Reading.{sheetTest};
 ghost use Rattle.definition.specs.Sheet.{sheetLength, sheetOf};
@@ -33,12 +34,12 @@ pub fn next_degree(e: Edition, w: &[u32], i: usize, d: u32) -> u32
     d >> log2(edition::fold(e, w, i) as u32)
 }
 
-// The words of a round whose table has n words, after a level with t repetitions: table, out coins, replies, combination coin, fold coin, shift indices.
-fn round_words(n: usize, s: usize, t: usize) -> usize
-    requires { ⌜ roundWordCount n s t ≤ 8509 ⌝ }
-    ensures { λ r. ⌜ r ≡ roundWordCount n s t ⌝ }
+// The words of a round whose table has n entries, after a level with t repetitions: table, out coins, replies, combination coin, fold coin, shift indices.
+fn round_words(field: u32, n: usize, s: usize, t: usize) -> usize
+    requires { ⌜ roundWordCount (spellingOf field) n s t ≤ 8509 ⌝ }
+    ensures { λ r. ⌜ r ≡ roundWordCount (spellingOf field) n s t ⌝ }
 {
-    n + 2 * s + 2 + t
+    widths::words(field, n + 2 * s + 2) + t
 }
 
 // The logarithm of n0, read off its single one bit.
@@ -62,20 +63,21 @@ pub fn words_due(e: Edition, w: &[u32]) -> usize
     requires { ⌜ (sheetLength (editionOf e) ≤ length (now w)) × (sheetTest (editionOf e) (now w) ≡ accepted) ⌝ }
     ensures { λ r. ⌜ (r ≡ wordsDue (editionOf e) (sheetOf (editionOf e) (now (w .entry)))) × (r ≤ 8509) ⌝ }
 {
+    let field = w[0];
     let rounds = w[4] as usize;
     let s = w[5] as usize;
     let log = size_log(e, w);
     // the sheet, table 0 and fold coin 0
-    let mut due = edition::sheet_words(e) + domain_size(log, 0) + 1;
+    let mut due = edition::sheet_words(e) + widths::words(field, domain_size(log, 0) + 1);
     let mut d = w[2];
     let mut i = 0;
     while i < rounds {
-        due += round_words(domain_size(log, i + 1), s, w[6 + i] as usize);
+        due += round_words(field, domain_size(log, i + 1), s, w[6 + i] as usize);
         d = next_degree(e, w, i, d);
         i += 1;
     }
     // the final coefficients and the final indices
-    due + next_degree(e, w, i, d) as usize + w[6 + i] as usize
+    due + widths::words(field, next_degree(e, w, i, d) as usize) + w[6 + i] as usize
 }
 
 // The number of blocks of 127 words that they fill.
@@ -86,19 +88,20 @@ pub fn blocks_due(e: Edition, w: &[u32]) -> usize
     (words_due(e, w) + 126) / 127
 }
 
-// The number of coins that a sheet makes due.
+// The number of words of coins that a sheet makes due.
 pub fn coins_due(e: Edition, w: &[u32]) -> usize
     requires { ⌜ (sheetLength (editionOf e) ≤ length (now w)) × (sheetTest (editionOf e) (now w) ≡ accepted) ⌝ }
     ensures { λ r. ⌜ r ≡ length (coinKinds (layout (sheetOf (editionOf e) (now (w .entry))))) ⌝ }
 {
+    let field = w[0];
     let rounds = w[4] as usize;
     let s = w[5] as usize;
     // fold coin 0
-    let mut due = 1;
+    let mut due = widths::words(field, 1);
     let mut i = 0;
     while i < rounds {
         // out coins, combination coin, fold coin, shift indices
-        due += s + 2 + w[6 + i] as usize;
+        due += widths::words(field, s + 2) + w[6 + i] as usize;
         i += 1;
     }
     // the final indices

@@ -1,5 +1,6 @@
 // The operations as C functions. Nothing is allocated and no state is kept; what is lent is lent for the call alone.
 use edition::Edition;
+use quartic::FourInverse;
 ghost use mathlib.Core.Path.{_≡_};
 ghost use Rattle.definition.specs.Reading.{reading};
 ghost use Rattle.definition.specs.Verify.{decideFile, verify, verifyIn};
@@ -7,17 +8,18 @@ ghost use Rattle.definition.specs.Block.{streamOf};
 ghost use Rattle.definition.specs.Prove.{encode, prove, proveIn};
 ghost use Rattle.definition.specs.Sheet.{edition1, edition2};
 ghost use Rattle.definition.specs.Convert.{toEdition1, toEdition2};
-ghost use Rattle.definition.specs.Field.{sum, difference, product, powerOf, powerTurnsOf, inverseOf};
+ghost use Rattle.definition.specs.Field.{sum, difference, product, powerOf, powerTurnsOf, inverseOf, sum3, difference3, product3, power3, powerTurns3, inverse3};
+ghost use Rattle.field3.specs.Words.{quadAt, spelt, inverseNumber3, inverseAfter3};
 ghost use Rattle.reader.specs.Words.{wordIn, sheetWords};
 ghost use Rattle.numbers.specs.Numbers.{numberOf, placeIn, refusalOf, valueOf, wordNumber, wordAfter, elementNumber, elementAfter, powerNumber, powerAfter, turnsAfter, inverseNumber, inverseAfter};
 
 // The number of this interface, of which the symbol's name has it too: the header and the Rust interface refer to the symbol, so that neither links with an archive
 // of another number.
 #[no_mangle]
-pub extern "C" fn tevrolig_interface_9() -> u32
-    ensures { λ r. ⌜ r ≡ 9 ⌝ }
+pub extern "C" fn tevrolig_interface_10() -> u32
+    ensures { λ r. ⌜ r ≡ 10 ⌝ }
 {
-    9
+    10
 }
 
 // Judges a file of edition 1. Answers 0 for accepted, else the fault's number, and writes the fault's place (0 where accepted) and the count of reads.
@@ -183,7 +185,7 @@ pub extern "C" fn tevrolig_to_edition_1(file: &[u8], output: &mut [u8], value: &
     n.number
 }
 
-// Writes table 0 of a polynomial at the front of `output`. Answers 0, with n0 in `value`; or a refusal's number, with its place in `value`, and the output is as
+// Writes table 0 of a polynomial at the front of `output`. Answers 0, with the number of its words in `value`; or a refusal's number, with its place in `value`, and the output is as
 // before.
 #[no_mangle]
 pub extern "C" fn tevrolig_encode(
@@ -287,4 +289,78 @@ pub extern "C" fn tevrolig_inverse(field: u32, a: u32, element: &mut u32) -> u32
         *element = inverse.word;
     }
     inverse.number
+}
+
+// The sum of two elements of field 3, of four words each, which may be any and are taken modulo p. Each operation of field 3 answers 0 and writes the four words,
+// or answers why there is none and writes nothing.
+#[no_mangle]
+pub extern "C" fn tevrolig_sum_3(a: &[u32; 4], b: &[u32; 4], out: &mut [u32; 4]) -> u32
+    ensures { λ r. ⌜ r ≡ 0 ⌝ }
+    ensures { λ r. ⌜ now (out .exit) ≡ spelt (sum3 (quadAt (now (a .entry))) (quadAt (now (b .entry)))) ⌝ }
+{
+    *out = field3::sum(*a, *b);
+    0
+}
+
+// The difference.
+#[no_mangle]
+pub extern "C" fn tevrolig_difference_3(a: &[u32; 4], b: &[u32; 4], out: &mut [u32; 4]) -> u32
+    ensures { λ r. ⌜ r ≡ 0 ⌝ }
+    ensures { λ r. ⌜ now (out .exit) ≡ spelt (difference3 (quadAt (now (a .entry))) (quadAt (now (b .entry)))) ⌝ }
+{
+    *out = field3::difference(*a, *b);
+    0
+}
+
+// The product.
+#[no_mangle]
+pub extern "C" fn tevrolig_product_3(a: &[u32; 4], b: &[u32; 4], out: &mut [u32; 4]) -> u32
+    ensures { λ r. ⌜ r ≡ 0 ⌝ }
+    ensures { λ r. ⌜ now (out .exit) ≡ spelt (product3 (quadAt (now (a .entry))) (quadAt (now (b .entry)))) ⌝ }
+{
+    *out = field3::product(*a, *b);
+    0
+}
+
+// The power; the exponent is one word as it is.
+#[no_mangle]
+pub extern "C" fn tevrolig_power_3(a: &[u32; 4], exponent: u32, out: &mut [u32; 4]) -> u32
+    ensures { λ r. ⌜ r ≡ 0 ⌝ }
+    ensures { λ r. ⌜ now (out .exit) ≡ spelt (power3 (quadAt (now (a .entry))) exponent) ⌝ }
+{
+    *out = field3::power(*a, exponent);
+    0
+}
+
+// The same power, and the turns that its loop made: as many as the exponent has binary digits, none for 0.
+#[no_mangle]
+pub extern "C" fn tevrolig_power_turns_3(
+    a: &[u32; 4],
+    exponent: u32,
+    out: &mut [u32; 4],
+    turns: &mut u32,
+) -> u32
+    ensures { λ r. ⌜ r ≡ 0 ⌝ }
+    ensures { λ r. ⌜ now (out .exit) ≡ spelt (powerTurns3 (quadAt (now (a .entry))) exponent .power) ⌝ }
+    ensures { λ r. ⌜ now (turns .exit) ≡ powerTurns3 (quadAt (now (a .entry))) exponent .turns ⌝ }
+{
+    let powered = field3::power_turns(*a, exponent);
+    let power = powered.power;
+    *out = power;
+    *turns = powered.turns;
+    0
+}
+
+// The inverse; NO_INVERSE where there is none, which is so exactly where all four words are multiples of p.
+#[no_mangle]
+pub extern "C" fn tevrolig_inverse_3(a: &[u32; 4], out: &mut [u32; 4]) -> u32
+    ensures { λ r. ⌜ r ≡ inverseNumber3 (inverse3 (quadAt (now (a .entry)))) ⌝ }
+    ensures { λ r. ⌜ now (out .exit) ≡ inverseAfter3 (inverse3 (quadAt (now (a .entry)))) (now (out .entry)) ⌝ }
+{
+    let inverse = field3::inverse(*a);
+    let FourInverse::Found(x) = inverse else {
+        return numbers::NO_INVERSE;
+    };
+    *out = [x.a, x.b, x.c, x.d];
+    0
 }

@@ -7,6 +7,7 @@ use lib.Dec.{eqb}
 use lib.ListN.{length, getD, take, drop}
 use Rattle.definition.specs.Lists.{chunks}
 use Rattle.definition.specs.Block.{wordOf}
+use Rattle.definition.specs.Field.{spellingOf, wordCount}
 use Rattle.definition.specs.Verdict.{Outcome, accepted, refused, refuseIf}
 use Rattle.definition.specs.Sheet.{Edition, edition1, sheetLength}
 use Rattle.definition.specs.Prove.{Result, refusal, finish, proveIn}
@@ -26,16 +27,19 @@ wordsOf bytes = map wordOf (chunks (length bytes / 4) 4 bytes)
 unfoldable pub takeWords : List ℕ → List ℕ → Result
 takeWords bytes output = finish (wholeWordsTest (taken bytes)) (length (wordsOf (taken bytes))) (wordsOf (taken bytes)) output
 
--- an order's words: the sheet, as long as the edition's, as many coefficients as its word 2 says, d0, or none where that word is missing, and coins, which are
--- all the rest
+-- an order's words: the sheet, as long as the edition's, the words of as many coefficients as its word 2 says, d0, or none where that word is missing, and
+-- coins, which are all the rest
+unfoldable pub coefficientWords : List ℕ → ℕ
+coefficientWords w = wordCount (spellingOf (getD w 0 0)) (getD w 2 0)
+
 unfoldable pub sheetPart : Edition → List ℕ → List ℕ
 sheetPart e w = take (sheetLength e) w
 
 unfoldable pub coefficientsPart : Edition → List ℕ → List ℕ
-coefficientsPart e w = take (getD w 2 0) (drop (sheetLength e) w)
+coefficientsPart e w = take (coefficientWords w) (drop (sheetLength e) w)
 
 unfoldable pub coinsPart : Edition → List ℕ → List ℕ
-coinsPart e w = drop (getD w 2 0) (drop (sheetLength e) w)
+coinsPart e w = drop (coefficientWords w) (drop (sheetLength e) w)
 
 unfoldable pub proveWords : Edition → List ℕ → List ℕ → Result
 proveWords e w output = proveIn e (sheetPart e w) (coefficientsPart e w) (coinsPart e w) output

@@ -3,12 +3,12 @@ use edition::Edition;
 use outcome::Answer;
 ghost use mathlib.Core.Path.{_≡_};
 ghost use Prim.Native.Nat.{_/_, _≤_};
-ghost use lib.ListN.{length, getD, take, drop};
+ghost use lib.ListN.{length, take, drop};
 ghost use Rattle.definition.specs.Sheet.{sheetLength};
 ghost use Rattle.edition.specs.Meaning.{editionOf};
 ghost use Rattle.outcome.specs.Meaning.{answerOf};
 ghost use Rattle.list_laws.specs.Overwriting.{overwrite};
-ghost use Rattle.word_input.specs.Input.{taken as takenOf, wordsOf, takeWords, sheetPart, coefficientsPart, coinsPart};
+ghost use Rattle.word_input.specs.Input.{taken as takenOf, wordsOf, takeWords, sheetPart, coefficientWords, coefficientsPart, coinsPart};
 
 // The bytes that count: the first 16,384, or all.
 fn taken(bytes: &[u8]) -> &[u8]
@@ -66,14 +66,14 @@ fn after(words: &[u32], count: usize) -> &[u32]
     &words[count..]
 }
 
-// Word 2 of a sheet, d0, which says how many coefficients an order has; 0 where it is missing.
-fn degree_bound(words: &[u32]) -> usize
-    ensures { λ r. ⌜ r ≡ getD (now (words .entry)) 2 0 ⌝ }
+// How many words the coefficients of an order have, by its sheet: those of d0 elements, which is word 2; none where it is missing.
+fn coefficient_words(words: &[u32]) -> usize
+    ensures { λ r. ⌜ r ≡ coefficientWords (now (words .entry)) ⌝ }
 {
     if words.len() < 3 {
         return 0;
     }
-    words[2] as usize
+    widths::words(words[0], words[2] as usize)
 }
 
 // The sheet of an order, of the edition: its first words.
@@ -90,16 +90,16 @@ fn body(e: Edition, words: &[u32]) -> &[u32]
     after(words, edition::sheet_words(e))
 }
 
-// The coefficients of an order: the next d0 words.
+// The coefficients of an order: the words after the sheet, as many as these.
 pub fn coefficients(e: Edition, words: &[u32]) -> &[u32]
     ensures { λ r. ⌜ now r ≡ coefficientsPart (editionOf e) (now (words .entry)) ⌝ }
 {
-    front(body(e, words), degree_bound(words))
+    front(body(e, words), coefficient_words(words))
 }
 
 // The coins of an order: the rest.
 pub fn coins(e: Edition, words: &[u32]) -> &[u32]
     ensures { λ r. ⌜ now r ≡ coinsPart (editionOf e) (now (words .entry)) ⌝ }
 {
-    after(body(e, words), degree_bound(words))
+    after(body(e, words), coefficient_words(words))
 }

@@ -1,11 +1,14 @@
 //! Verify, prove and encode in idiomatic Rust, of both editions, for the benchmark alone.
 //!
-//! Each stands here twice, by the constant TUNED. Plain Rust writes a step of Horner's rule as a product and a sum, each with its
+//! Where elements have one word, each stands here twice, by the constant TUNED. Plain Rust writes a step of Horner's rule as a product and a sum, each with its
 //! remainder, and a walk for each point. The tuned one does by hand what the proved code does: one remainder for both, two points
 //! in one walk of verify, four in one pass of the prover's quotient. All else is the same: the points of domain 0 as one table, Newton's
 //! form of the samples, an inversion for two values, folds by halving, tables by halves, the correction by its recurrence.
 //! Verify stands here once more, by the coefficient lists of the proved code ([`Lists`]).
+//!
+//! Where elements have four words, each stands here once, in plain Rust, verify by coefficient lists; what is asked for by the constant or the way is of no account.
 
+mod four_words;
 mod lists;
 mod newton;
 mod prove;

@@ -1,6 +1,6 @@
 //! Encode and prove, for inputs that pass their tests; of others they only say so. The rules of the sheet are the model's.
 
-use super::{points, Prime, CHECK_MODULUS};
+use super::{four_words, points, Prime, CHECK_MODULUS};
 use crate::sheet::{Edition, Sheet};
 use crate::stream::{BLOCK_BYTES, BLOCK_WORDS};
 
@@ -95,40 +95,46 @@ fn encode_in<const P: u64, const TUNED: bool>(sheet: &Sheet, f: &[u32], out: &mu
 /// The sheet of an input to encode that passes its tests.
 fn encode_tests(edition: Edition, sheet: &[u32], f: &[u32], room: usize) -> Option<Sheet> {
     let sheet = Sheet::read_in(edition, sheet)?.ok()?;
-    let passes =
-        f.len() == sheet.d0 && f.iter().all(|&c| u64::from(c) < sheet.field.p) && room >= sheet.n0;
+    let passes = f.len() == sheet.width * sheet.d0
+        && f.iter().all(|&c| u64::from(c) < sheet.field.p)
+        && room >= sheet.width * sheet.n0;
     passes.then_some(sheet)
 }
 
 /// Writes table 0 and answers its size.
 pub fn encode<const TUNED: bool>(sheet: &[u32], f: &[u32], out: &mut [u32]) -> Option<usize> {
     let sheet = encode_tests(Edition::One, sheet, f, out.len())?;
-    let table = &mut out[..sheet.n0];
+    let table = &mut out[..sheet.width * sheet.n0];
     match sheet.field.p {
+        _ if sheet.width == 4 => four_words::encode(&sheet, f, table),
         17 => encode_in::<17, TUNED>(&sheet, f, table),
         65537 => encode_in::<65537, TUNED>(&sheet, f, table),
         _ => encode_in::<2013265921, TUNED>(&sheet, f, table),
     }
-    Some(sheet.n0)
+    Some(sheet.width * sheet.n0)
 }
 
 /// Are the coins in range, the out coins outside their domains, and no two of a round equal?
 fn coins_pass(sheet: &Sheet, powers: &[u32], coins: &[u32]) -> bool {
     let element = |&c: &u32| u64::from(c) < sheet.field.p;
     let index = |i: usize| move |&j: &u32| (j as usize) < sheet.indices(i);
-    if !element(&coins[0]) {
+    let width = sheet.width;
+    let (first, mut rest) = coins.split_at(width);
+    if !first.iter().all(element) {
         return false;
     }
-    let mut rest = &coins[1..];
     for i in 1..=sheet.rounds {
-        let (elements, after) = rest.split_at(sheet.outs + 2);
+        let (elements, after) = rest.split_at(width * (sheet.outs + 2));
         let (shifts, next) = after.split_at(sheet.t[i - 1]);
-        let outs = &elements[..sheet.outs];
-        let inside = |x: &u32| powers.iter().step_by(1 << i).any(|p| p == x);
+        let mut outs = elements[..width * sheet.outs].chunks_exact(width);
+        let inside = |x: &[u32]| {
+            x[1..].iter().all(|&word| word == 0)
+                && powers.iter().step_by(1 << i).any(|p| *p == x[0])
+        };
         if !elements.iter().all(element)
             || !shifts.iter().all(index(i - 1))
-            || outs.iter().any(inside)
-            || sheet.outs == 2 && outs[0] == outs[1]
+            || outs.clone().any(inside)
+            || sheet.outs == 2 && outs.next() == outs.next()
         {
             return false;
         }
@@ -148,6 +154,9 @@ fn stream<const P: u64, const TUNED: bool>(
     let powers = points(prime, sheet.field.g as u32, sheet.n0);
     if !coins_pass(sheet, &powers, coins) {
         return None;
+    }
+    if sheet.width == 4 {
+        return Some(four_words::stream(sheet, &powers, words, f, coins));
     }
     let write_table = |words: &mut Vec<u32>, i: usize, f: &[u32]| {
         let from = words.len();
@@ -200,9 +209,9 @@ pub fn prove<const TUNED: bool>(
     let words = sheet.to_vec();
     let sheet = encode_tests(edition, sheet, f, usize::MAX)?;
     let due: usize = (1..=sheet.rounds)
-        .map(|i| sheet.outs + 2 + sheet.t[i - 1])
+        .map(|i| sheet.width * (sheet.outs + 2) + sheet.t[i - 1])
         .sum();
-    if coins.len() != 1 + due + sheet.t[sheet.rounds] {
+    if coins.len() != sheet.width + due + sheet.t[sheet.rounds] {
         return None;
     }
     let words = match sheet.field.p {

@@ -35,10 +35,10 @@ fn load(file: &[u8]) -> Result<Vec<u32>, usize> {
 
 fn words_due(sheet: &Sheet) -> usize {
     let rounds: usize = (1..=sheet.rounds)
-        .map(|i| sheet.n(i) + 2 * sheet.outs + 2 + sheet.t[i - 1])
+        .map(|i| sheet.width * (sheet.n(i) + 2 * sheet.outs + 2) + sheet.t[i - 1])
         .sum();
-    let before = sheet.edition.sheet_words() + sheet.n0 + 1;
-    before + rounds + sheet.d[sheet.rounds + 1] + sheet.t[sheet.rounds]
+    let before = sheet.edition.sheet_words() + sheet.width * (sheet.n0 + 1);
+    before + rounds + sheet.width * sheet.d[sheet.rounds + 1] + sheet.t[sheet.rounds]
 }
 
 /// Refusal 5: round after round, elements and then indices.
@@ -56,6 +56,7 @@ fn out_of_range(sheet: &Sheet, words: &[u32]) -> Option<usize> {
                 (elements, sheet.t[i - 1], sheet.indices(i - 1))
             }
         };
+        let elements = sheet.width * elements;
         for j in 0..elements + indices {
             let limit = if j < elements {
                 sheet.field.p
@@ -96,25 +97,36 @@ pub(super) fn read(edition: Edition, file: &[u8]) -> Result<(Sheet, Vec<u32>), V
 
 /// Each round with the place of its first out coin.
 fn outs(sheet: &Sheet) -> impl Iterator<Item = (usize, usize)> + '_ {
-    let mut at = sheet.edition.sheet_words() + sheet.n0 + 1;
+    let width = sheet.width;
+    let mut at = sheet.edition.sheet_words() + width * (sheet.n0 + 1);
     (1..=sheet.rounds).map(move |i| {
-        let outs = at + sheet.n(i);
-        at = outs + 2 * sheet.outs + 2 + sheet.t[i - 1];
+        let outs = at + width * sheet.n(i);
+        at = outs + width * (2 * sheet.outs + 2) + sheet.t[i - 1];
         (i, outs)
     })
 }
 
 /// Refusal 7: the first out coin that lies in its round's domain.
 pub(super) fn out_in_domain(powers: &[u32], sheet: &Sheet, words: &[u32]) -> Option<usize> {
+    let width = sheet.width;
     outs(sheet).find_map(|(i, first)| {
-        let inside = |&place: &usize| powers.iter().step_by(1 << i).any(|&x| x == words[place]);
-        (first..first + sheet.outs).find(inside)
+        let inside = |&place: &usize| {
+            words[place + 1..place + width].iter().all(|&x| x == 0)
+                && powers.iter().step_by(1 << i).any(|&x| x == words[place])
+        };
+        (first..first + width * sheet.outs)
+            .step_by(width)
+            .find(inside)
     })
 }
 
 /// Refusal 14: the first out coin that equals the one before it in its round.
 pub(super) fn equal_out(sheet: &Sheet, words: &[u32]) -> Option<usize> {
-    let equal = |&(_, first): &(usize, usize)| words[first] == words[first + 1];
+    let width = sheet.width;
+    let equal = |&(_, first): &(usize, usize)| {
+        let (one, other) = words[first..first + 2 * width].split_at(width);
+        one == other
+    };
     let round = outs(sheet).find(|round| sheet.outs == 2 && equal(round));
-    round.map(|(_, first)| first + 1)
+    round.map(|(_, first)| first + width)
 }

@@ -1,7 +1,7 @@
 //! Verify, by one of two ways to a level's values.
 
 use super::reading::{equal_out, out_in_domain, read, refused};
-use super::{points, Prime};
+use super::{four_words, points, Prime};
 use crate::sheet::{Edition, Sheet};
 use crate::{Outcome, Verdict};
 
@@ -86,7 +86,7 @@ impl Samples {
 
 /// How many different ones there are among some indices. A few are compared in pairs,
 /// more are marked: both versions count by this, as the proved code does.
-fn different(indices: &[u32]) -> usize {
+pub(super) fn different(indices: &[u32]) -> usize {
     if indices.len() <= FEW_INDICES {
         let last = |&i: &usize| !indices[i + 1..].contains(&indices[i]);
         return (0..indices.len()).filter(last).count();
@@ -125,6 +125,9 @@ where
         Ok(read) => read,
         Err(verdict) => return verdict,
     };
+    if sheet.width == 4 {
+        return four_words::decide(&sheet, &words);
+    }
     match sheet.field.p {
         17 => decide::<C, 17, TUNED>(&sheet, &words),
         65537 => decide::<C, 65537, TUNED>(&sheet, &words),

@@ -3,7 +3,7 @@
 
 use std::path::Path;
 use tevrolig_model::domain::Subgroup;
-use tevrolig_model::field::Field;
+use tevrolig_model::field::{Field, QUARTIC};
 use tevrolig_model::generate::{aim, coefficients, coins, honest_file, Rng, REFUSALS};
 use tevrolig_model::layout::{Layout, Part};
 use tevrolig_model::sheet::{Edition, Sheet};
@@ -43,10 +43,11 @@ fn files() -> Vec<(String, Vec<u8>)> {
     ];
 
     // Each refusal on files of every field.
-    let sheets: [[u32; 12]; 3] = [
+    let sheets: [[u32; 12]; 4] = [
         [0, 16, 8, 2, 1, 2, 1, 3, 0, 0, 0, 0],
         [1, 256, 128, 4, 2, 2, 9, 5, 7, 0, 0, 0],
         [2, 128, 64, 2, 3, 2, 7, 6, 5, 9, 0, 0],
+        [3, 64, 32, 2, 2, 2, 7, 5, 6, 0, 0, 0],
     ];
     for (field, sheet) in sheets.iter().enumerate() {
         // From these seeds 14, 8 and 9 come in several rounds and at several places, and equal out coins with equal replies and with others.
@@ -132,11 +133,40 @@ fn files() -> Vec<(String, Vec<u8>)> {
     ];
     files.push(("both-editions".into(), to_blocks(&both)));
 
+    // Elements of four words (document 02, CR 11): n0 ends at 1024; an out coin that is a point of its domain in its first word alone, and one that is the
+    // coin before it in three words.
+    let sheet = [3, 16, 8, 2, 1, 2, 1, 3, 0, 0, 0, 0];
+    let mut rng = Rng::new(31);
+    let given = coefficients(&mut rng, &sheet);
+    let mut drawn = coins(&mut rng, &sheet, false);
+    let point = Subgroup::new(QUARTIC.base, 16).point(1, 3) as u32;
+    drawn[4..12].copy_from_slice(&[point, 0, 0, 1, point, 0, 0, 2]);
+    let file = honest_file(&sheet, &given, &drawn);
+    files.push(("outside-by-d".into(), file.clone()));
+    let outs = 12 + 64 + 4 + 32;
+    let changes = [
+        ("inside", [(outs + 7, 0), (0, 3)]),
+        ("equal-in-four-words", [(outs + 7, 1), (0, 3)]),
+        ("later-word-above", [(outs + 6, 2013265921), (0, 3)]),
+        ("field-3-n0-2048", [(1, 2048), (0, 3)]),
+        ("field-4", [(1, 2048), (0, 4)]),
+    ];
+    for (name, changes) in changes {
+        let mut file = file.clone();
+        for (word, value) in changes {
+            write_word(&mut file, word, value);
+        }
+        generate::rewrite_checks(&mut file);
+        files.push((name.into(), file));
+    }
+
     // The largest sheets, honest.
-    let largest: [[u32; 12]; 3] = [
+    let largest: [[u32; 12]; 5] = [
         [2, 4096, 2048, 2, 5, 2, 48, 48, 48, 48, 48, 48],
         [2, 4096, 2048, 16, 1, 2, 48, 48, 0, 0, 0, 0],
         [2, 4096, 512, 4, 2, 2, 36, 27, 22, 0, 0, 0],
+        [3, 1024, 512, 2, 5, 2, 48, 48, 48, 29, 13, 48],
+        [3, 1024, 512, 16, 1, 2, 29, 48, 0, 0, 0, 0],
     ];
     for (i, sheet) in largest.iter().enumerate() {
         let mut rng = Rng::new(100 + i as u64);

@@ -1,4 +1,4 @@
-//! Prints small test cases in all three fields, one per line: the file's bytes in
+//! Prints small test cases in all four fields, one per line: the file's bytes in
 //! hexadecimal (`-` for none), then outcome, number, place and reads.
 //!
 //! Arguments: seed, count, and optionally what to print instead:
@@ -25,8 +25,9 @@ use tevrolig_model::sheet::Edition;
 use tevrolig_model::verify::{decide_in, read_in, verify_in};
 use tevrolig_model::{line, Answer, Verdict};
 
-/// Bytes of a file at most.
+/// Bytes of a file at most: two blocks, or four where elements have four words.
 const MOST_BYTES: usize = 1024;
+const MOST_BYTES_OF_FOUR: usize = 2048;
 
 fn main() -> ExitCode {
     let arguments: Vec<String> = env::args().skip(1).collect();
@@ -147,12 +148,18 @@ const DECIDED: [u32; 8] = [8, 9, 9, 14, 8, 9, 9, 0];
 /// deciding finds. Most have rounds, and at most 6 final coins, and none has final coins
 /// with more than 128 places, so that a case is short to compute.
 fn small(edition: Edition, rng: &mut Rng, case: usize) -> Vec<u8> {
-    let field = rng.below(3) as u32;
+    let field = rng.below(4) as u32;
     let repeated = case.is_multiple_of(3);
     let (shifts, tries) = if repeated { (2, 64) } else { (1, 8) };
-    let mut sheet = sheet_over(edition, rng, field, 32);
+    // With four words each, fewer points: a case is to be short to compute.
+    let (most_n0, most_bytes) = match field {
+        3 if !rng.one_in(4) => (16, MOST_BYTES_OF_FOUR),
+        3 => (32, MOST_BYTES_OF_FOUR),
+        _ => (32, MOST_BYTES),
+    };
+    let mut sheet = sheet_over(edition, rng, field, most_n0);
     while (sheet[4] == 0 || sheet[6] < shifts) && !rng.one_in(tries) {
-        sheet = sheet_over(edition, rng, field, 32);
+        sheet = sheet_over(edition, rng, field, most_n0);
     }
     let last = sheet[4] as usize;
     let fold = match edition {
@@ -187,7 +194,7 @@ fn small(edition: Edition, rng: &mut Rng, case: usize) -> Vec<u8> {
             }
             _ => aim(edition, rng, &mut damaged, number),
         };
-        if hit && !damaged.is_empty() && damaged.len() <= MOST_BYTES {
+        if hit && !damaged.is_empty() && damaged.len() <= most_bytes {
             return damaged;
         }
         // The file has no place for that fault.

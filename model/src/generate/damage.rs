@@ -1,7 +1,7 @@
 //! Damage done to a file on purpose, each kind aimed at one refusal.
 
 use super::sheets::any_fault;
-use super::{rewrite_checks, Rng};
+use super::{rewrite_checks, word_of_element, Rng};
 use crate::domain::Subgroup;
 use crate::layout::{Layout, Part};
 use crate::sheet::{Edition, Sheet};
@@ -147,11 +147,46 @@ impl<'a> Target<'a> {
         write_word(self.file, word, value as u32);
     }
 
-    /// An element other than the one at this word.
+    /// A word of an element other than the one at this place.
     fn other_element(&mut self, word: usize) -> u64 {
         let p = self.sheet.field.p;
         let old = u64::from(read_word(self.file, word));
         (old + 1 + self.rng.below(p - 1)) % p
+    }
+
+    /// Writes a number as an element.
+    fn write_number(&mut self, word: usize, value: u64) {
+        self.write(word, value);
+        for later in 1..self.sheet.width {
+            self.write(word + later, 0);
+        }
+    }
+
+    /// The words of the element that begins at this one.
+    fn element(&self, word: usize) -> Vec<u32> {
+        let words = word..word + self.sheet.width;
+        words.map(|word| read_word(self.file, word)).collect()
+    }
+
+    /// Copies an element.
+    fn copy(&mut self, from: usize, to: usize) {
+        for (at, value) in self.element(from).into_iter().enumerate() {
+            self.write(to + at, u64::from(value));
+        }
+    }
+
+    /// Makes another element of one, in a single word of it.
+    fn change(&mut self, word: usize) {
+        let word = word + word_of_element(self.rng, self.sheet.width);
+        let value = self.other_element(word);
+        self.write(word, value);
+    }
+
+    /// The number of the first word of an element of a part.
+    fn some_element(&mut self, part: Part) -> usize {
+        let words = self.layout.range(part);
+        let width = self.sheet.width;
+        words.start + width * self.rng.place(words.len() / width)
     }
 
     /// The word number of one word of a part.
@@ -219,8 +254,8 @@ impl<'a> Target<'a> {
             return false;
         };
         let point = Subgroup::of(&self.sheet).point(i, self.rng.place(self.sheet.n(i)));
-        let word = self.some_word(Part::OutCoins(i));
-        self.write(word, point);
+        let word = self.some_element(Part::OutCoins(i));
+        self.write_number(word, point);
         true
     }
 
@@ -230,19 +265,18 @@ impl<'a> Target<'a> {
         let Some(i) = self.some_round() else {
             return false;
         };
-        let outs = self.layout.range(Part::OutCoins(i));
-        let replies = self.layout.range(Part::Replies(i));
-        if outs.len() < 2 {
+        if self.sheet.outs < 2 {
             return false;
         }
-        let kept = self.rng.place(2);
-        let coin = u64::from(read_word(self.file, outs.start + kept));
-        self.write(outs.start + 1 - kept, coin);
-        let reply = match self.rng.below(2) {
-            0 => u64::from(read_word(self.file, replies.start + kept)),
-            _ => self.other_element(replies.start + kept),
-        };
-        self.write(replies.start + 1 - kept, reply);
+        let [outs, replies] =
+            [Part::OutCoins(i), Part::Replies(i)].map(|part| self.layout.range(part).start);
+        let kept = self.sheet.width * self.rng.place(2);
+        let other = self.sheet.width - kept;
+        self.copy(outs + kept, outs + other);
+        self.copy(replies + kept, replies + other);
+        if !self.rng.one_in(2) {
+            self.change(replies + other);
+        }
         true
     }
 
@@ -257,15 +291,16 @@ impl<'a> Target<'a> {
         let index = self.some_index(Part::ShiftIndices(i), i - 1);
         let k = self.sheet.k[i - 1];
         let point = Subgroup::of(&self.sheet).shift_point(i - 1, k, index);
-        let there = |&word: &usize| u64::from(read_word(self.file, word)) == point;
-        let word = match outs.clone().find(there) {
+        let mut number = vec![0; self.sheet.width];
+        number[0] = point as u32;
+        let mut places = outs.clone().step_by(self.sheet.width);
+        let word = match places.find(|&word| self.element(word) == number) {
             Some(word) => word,
-            None => self.some_word(Part::OutCoins(i)),
+            None => self.some_element(Part::OutCoins(i)),
         };
-        self.write(word, point);
+        self.write_number(word, point);
         // The replies follow the out coins.
-        let reply = self.other_element(word + outs.len());
-        self.write(word + outs.len(), reply);
+        self.change(word + outs.len());
         true
     }
 
@@ -277,7 +312,9 @@ impl<'a> Target<'a> {
             let index = self.some_index(Part::FinalIndices, last);
             let m = self.rng.place(self.sheet.k[last]);
             let stride = self.sheet.indices(last);
-            self.layout.range(Part::Table(last)).start + index + m * stride
+            let entry = index + m * stride;
+            let word = word_of_element(self.rng, self.sheet.width);
+            self.layout.range(Part::Table(last)).start + self.sheet.width * entry + word
         } else {
             let mut parts = vec![Part::FinalCoefficients, Part::FoldCoin(last)];
             if let Some(i) = self.some_round() {

@@ -1,7 +1,9 @@
 //! Equal out coins made on purpose (document 02, CR 6), in the prover's input and
 //! in a file, with the refusal that they are made for.
 
-use super::{aim, coefficients, coins, honest_file, rewrite_checks, sheet_up_to, Rng};
+use super::{
+    aim, coefficients, coins, honest_file, rewrite_checks, sheet_up_to, word_of_element, Rng,
+};
 use crate::domain::Subgroup;
 use crate::field::Field;
 use crate::layout::{Layout, Part};
@@ -63,15 +65,16 @@ pub fn honest_case_of(rng: &mut Rng, words: &[u32]) -> Case {
     for section in layout.sections {
         let mut part: Vec<u32> = section.words.map(|word| read_word(&file, word)).collect();
         if matches!(section.part, Part::OutCoins(_) | Part::Replies(_)) {
-            part = [part[0], part[0]].to_vec();
+            part = part.repeat(2);
         }
         stream.extend(&part);
         if section.part.is_coin() {
             coins.extend(part);
         }
     }
-    let layout = Layout::new(&Sheet::read(words).expect("a sheet without fault"));
-    let [_, word] = pair(&layout, 1);
+    let sheet = Sheet::read(words).expect("a sheet without fault");
+    let layout = Layout::new(&sheet);
+    let [_, word] = pair(&sheet, &layout, 1);
     Case {
         sheet: words.to_vec(),
         coefficients,
@@ -109,26 +112,29 @@ pub fn case_of(rng: &mut Rng, words: &[u32]) -> Case {
     let equal: Vec<usize> = (1..=sheet.rounds)
         .filter(|&i| i == round || others && rng.one_in(2))
         .collect();
+    let width = sheet.width;
     for &i in &equal {
-        let [first, second] = pair(&layout, i);
+        let [first, second] = pair(&sheet, &layout, i);
         let [from, to] = rng.pick(&[[first, second], [second, first]]);
-        let coin = read_word(&file, from);
-        write_word(&mut file, to, coin);
-        let [from, to] = [from, to].map(|word| word + 2);
-        let reply = read_word(&file, from);
+        copy(&mut file, width, from, to);
+        let [from, to] = [from, to].map(|word| word + 2 * width);
+        copy(&mut file, width, from, to);
+        let word = to + word_of_element(rng, width);
+        let reply = read_word(&file, word);
         let another = (u64::from(reply) + 1 + rng.below(sheet.field.p - 1)) % sheet.field.p;
-        write_word(&mut file, to, rng.pick(&[reply, another as u32]));
+        write_word(&mut file, word, rng.pick(&[reply, another as u32]));
     }
     let round = equal[0];
-    let [first, second] = pair(&layout, round);
-    let replies_agree = read_word(&file, first + 2) == read_word(&file, second + 2);
+    let [first, second] = pair(&sheet, &layout, round);
+    let replies_agree = (2 * width..3 * width)
+        .all(|reply| read_word(&file, first + reply) == read_word(&file, second + reply));
     let (mut number, mut word) = (14, second);
 
     // Of equal coins both are moved, so that they stay equal.
     if rng.one_in(4) {
         let i = 1 + rng.place(sheet.rounds);
         let point = Subgroup::of(&sheet).point(i, rng.place(sheet.n(i)));
-        let [first, second] = pair(&layout, i);
+        let [first, second] = pair(&sheet, &layout, i);
         let moved = if equal.contains(&i) {
             vec![first, second]
         } else {
@@ -137,13 +143,16 @@ pub fn case_of(rng: &mut Rng, words: &[u32]) -> Case {
         (number, word) = (7, moved[0]);
         for word in moved {
             write_word(&mut file, word, point as u32);
+            for later in 1..width {
+                write_word(&mut file, word + later, 0);
+            }
         }
         faults.push(7);
     }
     rewrite_checks(&mut file);
 
     for i in 1..=sheet.rounds {
-        for word in pair(&layout, i) {
+        for word in layout.range(Part::OutCoins(i)) {
             coins[layout.coin_position(word)] = read_word(&file, word);
         }
     }
@@ -162,10 +171,19 @@ pub fn case_of(rng: &mut Rng, words: &[u32]) -> Case {
     }
 }
 
-/// The word numbers of the two out coins of a round; each reply is two words later.
-fn pair(layout: &Layout, i: usize) -> [usize; 2] {
+/// The numbers of the first words of the two out coins of a round; each reply is two
+/// elements later.
+fn pair(sheet: &Sheet, layout: &Layout, i: usize) -> [usize; 2] {
     let outs = layout.range(Part::OutCoins(i));
-    [outs.start, outs.start + 1]
+    [outs.start, outs.start + sheet.width]
+}
+
+/// Copies an element of so many words.
+fn copy(file: &mut [u8], width: usize, from: usize, to: usize) {
+    for at in 0..width {
+        let word = read_word(file, from + at);
+        write_word(file, to + at, word);
+    }
 }
 
 /// Whether a run of the load, whose first round has two out coins, draws the first of

@@ -1,5 +1,6 @@
 //! Deterministic test data of both editions: sheets, coefficients, coins, honest and
-//! damaged files. Where a sheet is given, its number of words tells the edition.
+//! damaged files. Where a sheet is given, its number of words tells the edition, and its
+//! first word whether elements have one word or four.
 
 pub mod convert;
 mod damage;
@@ -11,15 +12,19 @@ mod sheets;
 pub use crate::stream::write_checks as rewrite_checks;
 pub use damage::{aim, damage, REFUSALS};
 pub use random::Rng;
-pub use sheets::{differing_at, fault, sheet, sheet_over, sheet_up_to, test_order, two_faults};
+pub use sheets::{
+    differing_at, fault, sheet, sheet_of_one_word, sheet_over, sheet_up_to, test_order, two_faults,
+};
 
 use crate::domain::Subgroup;
-use crate::layout::{Layout, Part};
+use crate::elements::{Elements, Four};
+use crate::layout::{Layout, Part, Section};
 use crate::prove::{prove_in, Answer};
 use crate::sheet::{Edition, Sheet};
 use crate::stream::BLOCK_BYTES;
 
-/// d0 coefficients: mostly random, sometimes sparse or all at an end of the range.
+/// d0 coefficients in words: mostly random, sometimes sparse or all at an end of the
+/// range; of four words, sometimes all with the same single one that is not 0.
 pub fn coefficients(rng: &mut Rng, sheet: &[u32]) -> Vec<u32> {
     let Some(sheet) = known(sheet) else {
         return Vec::new();
@@ -32,12 +37,26 @@ pub fn coefficients(rng: &mut Rng, sheet: &[u32]) -> Vec<u32> {
         2 | 3 if !rng.one_in(8) => 0,
         _ => rng.below(p),
     };
-    (0..sheet.d0).map(coefficient).map(|c| c as u32).collect()
+    let mut words: Vec<u32> = (0..sheet.width * sheet.d0)
+        .map(coefficient)
+        .map(|c| c as u32)
+        .collect();
+    if sheet.width > 1 && rng.one_in(8) {
+        let kept = rng.place(sheet.width);
+        for element in words.chunks_exact_mut(sheet.width) {
+            for (at, word) in element.iter_mut().enumerate() {
+                *word *= u32::from(at == kept);
+            }
+        }
+    }
+    words
 }
 
 /// A full list of allowed coins. Hostile coins sit where slips happen: zeros,
 /// fold coins at a root, out coins at a shift point or as in the round before,
-/// repeated indices, combination coins that are 0 or inverse to a point.
+/// repeated indices, combination coins that are 0 or inverse to a point; and of four
+/// words out coins that are a point of the domain in the first word, or the coin before
+/// in three.
 pub fn coins(rng: &mut Rng, sheet: &[u32], hostile: bool) -> Vec<u32> {
     let Some(sheet) = known(sheet) else {
         return Vec::new();
@@ -50,22 +69,25 @@ pub fn coins(rng: &mut Rng, sheet: &[u32], hostile: bool) -> Vec<u32> {
         earlier: Vec::new(),
         hostile,
     };
-    let mut coins = Vec::new();
+    let mut words = Vec::new();
     for section in layout.coin_sections() {
-        let first = coins.len();
+        let mut coins: Vec<Four> = Vec::new();
         draw.favour(rng, section.part);
-        for _ in section.words.clone() {
-            let before = coins[first..].last().copied();
-            coins.push(draw.coin(rng, section.part, section.limit, before));
+        for _ in 0..section.count() {
+            coins.push(draw.coin(rng, section, coins.last().copied()));
+        }
+        for coin in &coins {
+            words.extend(coin[..section.width].iter().map(|&word| word as u32));
         }
         if matches!(section.part, Part::OutCoins(_)) {
-            draw.earlier = coins[first..].to_vec();
+            draw.earlier = coins;
         }
     }
-    coins.into_iter().map(|coin| coin as u32).collect()
+    words
 }
 
-/// What drawing a coin needs to know.
+/// What drawing a coin needs to know. A coin has four words here, of which the first
+/// ones count.
 struct Draw {
     sheet: Sheet,
     subgroup: Subgroup,
@@ -73,7 +95,7 @@ struct Draw {
     favourite: usize,
     /// The out coins of the round before. They lie outside its domain, and so outside
     /// the next, which is a part of it.
-    earlier: Vec<u64>,
+    earlier: Vec<Four>,
     hostile: bool,
 }
 
@@ -85,11 +107,16 @@ impl Draw {
         }
     }
 
-    fn coin(&self, rng: &mut Rng, part: Part, limit: u64, before: Option<u64>) -> u64 {
+    fn coin(&self, rng: &mut Rng, section: &Section, before: Option<Four>) -> Four {
+        let (part, limit) = (section.part, section.limit);
         if !self.hostile || rng.one_in(4) {
-            return self.plain(rng, part, limit, before);
+            return self.plain(rng, section, before);
         }
-        match part {
+        if section.width > 1 && rng.one_in(3) {
+            return self.nearly(rng, section, before);
+        }
+        let before_number = before.map(|coin| coin[0]);
+        let coin = match part {
             Part::FoldCoin(i) => {
                 let root = self.some_point(rng, i);
                 rng.pick(&[0, 1, limit - 1, root, root])
@@ -98,13 +125,14 @@ impl Draw {
                 let k = self.sheet.k[i - 1];
                 let meeting = self.subgroup.shift_point(i - 1, k, self.favourite);
                 let earlier = match self.earlier[..] {
-                    [] => meeting,
+                    [] => number(meeting),
                     ref coins => rng.pick(coins),
                 };
-                match rng.pick(&[0, meeting, meeting, earlier]) {
-                    coin if before == Some(coin) => self.plain(rng, part, limit, before),
+                let met = [number(0), number(meeting), number(meeting), earlier];
+                return match rng.pick(&met) {
+                    coin if before == Some(coin) => self.plain(rng, section, before),
                     coin => coin,
-                }
+                };
             }
             Part::Combination(i) => {
                 let inverse = self.sheet.field.div(1, self.some_point(rng, i));
@@ -112,30 +140,66 @@ impl Draw {
             }
             Part::ShiftIndices(_) => {
                 let favourite = self.favourite as u64;
-                rng.pick(&[0, limit - 1, favourite, before.unwrap_or(favourite)])
+                rng.pick(&[0, limit - 1, favourite, before_number.unwrap_or(favourite)])
             }
-            _ => rng.pick(&[0, limit - 1, before.unwrap_or(0)]),
-        }
+            _ => rng.pick(&[0, limit - 1, before_number.unwrap_or(0)]),
+        };
+        number(coin)
     }
 
     /// Any value in range; an out coin of round i also keeps out of domain i, and is
     /// not the one before it.
-    fn plain(&self, rng: &mut Rng, part: Part, limit: u64, before: Option<u64>) -> u64 {
-        let Part::OutCoins(i) = part else {
-            return rng.below(limit);
-        };
-        let domain = self.subgroup.domain(i);
+    fn plain(&self, rng: &mut Rng, section: &Section, before: Option<Four>) -> Four {
         loop {
-            let coin = rng.below(limit);
-            if !domain.contains(&coin) && before != Some(coin) {
+            let coin = any_words(rng, section);
+            if self.allowed(section, coin, before) {
                 return coin;
             }
         }
     }
 
+    /// A coin of four words with a single word that is not 0; an out coin that is a point
+    /// of its domain, or the coin before it, but for one word.
+    fn nearly(&self, rng: &mut Rng, section: &Section, before: Option<Four>) -> Four {
+        loop {
+            let at = rng.place(section.width);
+            let any = any_words(rng, section);
+            let mut coin = match (section.part, before) {
+                (Part::OutCoins(_), Some(coin)) if rng.one_in(2) => coin,
+                (Part::OutCoins(i), _) => number(self.some_point(rng, i)),
+                _ => number(0),
+            };
+            coin[at] = any[at];
+            if self.allowed(section, coin, before) {
+                return coin;
+            }
+        }
+    }
+
+    /// Whether a coin in range is allowed after the one before it.
+    fn allowed(&self, section: &Section, coin: Four, before: Option<Four>) -> bool {
+        let Part::OutCoins(i) = section.part else {
+            return true;
+        };
+        let inside = coin[1..] == [0; 3] && self.subgroup.domain(i).contains(&coin[0]);
+        !inside && before != Some(coin)
+    }
+
     fn some_point(&self, rng: &mut Rng, i: usize) -> u64 {
         self.subgroup.point(i, rng.place(self.subgroup.size(i)))
     }
+}
+
+/// The coin that is a number, or an index.
+fn number(x: u64) -> Four {
+    [x, 0, 0, 0]
+}
+
+/// Any words in range, as many as a coin of the section has.
+fn any_words(rng: &mut Rng, section: &Section) -> Four {
+    let mut coin = number(0);
+    coin[..section.width].fill_with(|| rng.below(section.limit));
+    coin
 }
 
 /// The prover's file; empty if the prover refuses.
@@ -147,6 +211,15 @@ pub fn honest_file(sheet: &[u32], coefficients: &[u32], coins: &[u32]) -> Vec<u8
     match prove_in(known.edition, sheet, coefficients, coins, &mut file) {
         Answer::Done(_) => file,
         Answer::Refused { .. } => Vec::new(),
+    }
+}
+
+/// One of the words of an element; of a single one there is nothing to draw.
+fn word_of_element(rng: &mut Rng, width: usize) -> usize {
+    if width == 1 {
+        0
+    } else {
+        rng.place(width)
     }
 }
 

@@ -1,7 +1,9 @@
 //! Shift and final indices repeated on purpose (document 02, CR 8), in the prover's
 //! input and in a file, and the reads that are due.
 
-use super::{aim, coefficients, coins, honest_file, known, rewrite_checks, sheet_up_to, Rng};
+use super::{
+    aim, coefficients, coins, honest_file, known, rewrite_checks, sheet_up_to, word_of_element, Rng,
+};
 use crate::layout::{Layout, Part};
 use crate::sheet::{Edition, Sheet};
 use crate::stream::{read_word, write_word};
@@ -101,7 +103,8 @@ pub fn fail_late(rng: &mut Rng, words: &[u32], file: &mut [u8]) {
     let late = (0..finals.len()).rfind(new).map_or(0, |i| finals[i]);
 
     let root = late as usize + rng.place(sheet.k[last]) * sheet.indices(last);
-    let word = Layout::new(&sheet).range(Part::Table(last)).start + root;
+    let table = Layout::new(&sheet).range(Part::Table(last)).start;
+    let word = table + sheet.width * root + word_of_element(rng, sheet.width);
     let p = sheet.field.p;
     let other = (u64::from(read_word(file, word)) + 1 + rng.below(p - 1)) % p;
     write_word(file, word, other as u32);

@@ -10,11 +10,17 @@ pub fn sheet(edition: Edition, rng: &mut Rng) -> Vec<u32> {
 
 /// A random sheet without fault, with n0 at most the limit (or 4).
 pub fn sheet_up_to(edition: Edition, rng: &mut Rng, most_n0: u32) -> Vec<u32> {
+    let field = rng.below(4) as u32;
+    sheet_over(edition, rng, field, most_n0)
+}
+
+/// The same with elements of one word.
+pub fn sheet_of_one_word(edition: Edition, rng: &mut Rng, most_n0: u32) -> Vec<u32> {
     let field = rng.below(3) as u32;
     sheet_over(edition, rng, field, most_n0)
 }
 
-/// The same for a given field, which is 0, 1 or 2. A sheet without rounds is
+/// The same for a given field, which is 0, 1, 2 or 3. A sheet without rounds is
 /// drawn again up to four times, as most small ones have none.
 pub fn sheet_over(edition: Edition, rng: &mut Rng, field: u32, most_n0: u32) -> Vec<u32> {
     let mut words = any_sheet(edition, rng, field, most_n0);
@@ -27,7 +33,12 @@ pub fn sheet_over(edition: Edition, rng: &mut Rng, field: u32, most_n0: u32) -> 
 }
 
 fn any_sheet(edition: Edition, rng: &mut Rng, field: u32, most_n0: u32) -> Vec<u32> {
-    let most_n0 = most_n0.clamp(4, if field == 0 { 16 } else { 4096 });
+    let most = match field {
+        0 => 16,
+        3 => 1024,
+        _ => 4096,
+    };
+    let most_n0 = most_n0.clamp(4, most);
     let n0 = power_of_two(rng, 4, most_n0);
     let d0 = power_of_two(rng, 2, n0 / 2).max(power_of_two(rng, 2, n0 / 2));
     let outs = 1 + rng.below(2) as u32;
@@ -56,7 +67,8 @@ pub fn differing_at(rng: &mut Rng, i: usize) -> Vec<u32> {
     let n0 = (2 * d0) << rng.pick(&[0, 0, 1]);
     let n0 = n0.min(4096);
     let field = match n0 {
-        ..=16 => rng.below(3) as u32,
+        ..=16 => rng.below(4) as u32,
+        17..=1024 => 1 + rng.below(3) as u32,
         _ => 1 + rng.below(2) as u32,
     };
     let outs = 1 + rng.below(2) as u32;

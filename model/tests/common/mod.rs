@@ -3,6 +3,7 @@
 #![allow(dead_code)]
 
 use tevrolig_model::domain::Subgroup;
+use tevrolig_model::elements::Elements;
 use tevrolig_model::generate::repeats::reads_due;
 use tevrolig_model::generate::{self, rewrite_checks, Rng};
 use tevrolig_model::layout::Layout;

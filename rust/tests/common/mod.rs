@@ -16,9 +16,9 @@ pub use tevrolig_model::sheet::Edition::{self, One, Two};
 /// Bytes or words beside the output that nobody may touch. It is odd, so that the output's bytes begin anywhere.
 const GUARD: usize = 61;
 
-/// The largest sheets of edition 1, and in edition 2 those with folding numbers of every order.
+/// The largest sheets of edition 1, and in edition 2 those with folding numbers of every order; at last those with elements of four words.
 #[rustfmt::skip]
-pub const LARGEST: [&[u32]; 10] = [
+pub const LARGEST: [&[u32]; 14] = [
     &[2, 4096, 2048, 2, 5, 2, 48, 48, 48, 48, 48, 48],
     &[2, 4096, 2048, 16, 1, 2, 48, 48, 0, 0, 0, 0],
     &[2, 4096, 512, 4, 2, 2, 36, 27, 22, 0, 0, 0],
@@ -29,6 +29,10 @@ pub const LARGEST: [&[u32]; 10] = [
     &[1, 4096, 2048, 16, 3, 1, 48, 30, 14, 48, 0, 0, 4, 2, 16, 0, 0, 2],
     &[2, 4096, 2048, 2, 3, 2, 48, 48, 29, 48, 0, 0, 4, 8, 16, 0, 0, 2],
     &[1, 1024, 512, 16, 2, 2, 3, 2, 4, 0, 0, 0, 4, 2, 0, 0, 0, 2],
+    &[3, 1024, 512, 2, 5, 2, 48, 48, 48, 29, 13, 48],
+    &[3, 1024, 512, 16, 1, 2, 29, 48, 0, 0, 0, 0],
+    &[3, 1024, 512, 2, 5, 2, 48, 48, 48, 29, 13, 48, 2, 2, 2, 2, 2, 2],
+    &[3, 1024, 512, 16, 3, 1, 30, 6, 2, 48, 0, 0, 4, 2, 2, 0, 0, 2],
 ];
 
 /// What prove is given; encode leaves the coins out.
@@ -223,7 +227,7 @@ impl ProverInput {
     /// it is encoded likewise.
     pub fn is_proved(&self, more: usize, what: &str) {
         let (sheet, layout) = self.known();
-        let (blocks, words) = (layout.blocks(), sheet.n0);
+        let (blocks, words) = (layout.blocks(), sheet.width * sheet.n0);
         let [proved, encoded] = [blocks, words].map(|due| Answer::Done(due as u64));
         let [unproved, unencoded] = [blocks, words].map(|due| refused((11, due)));
         assert_eq!(self.prove(512 * blocks + more, what), proved, "{what}");
@@ -243,7 +247,7 @@ pub fn refused((number, place): (u32, usize)) -> Answer {
     }
 }
 
-/// The limit of each coin of a section.
+/// The limit of each word of a section.
 pub fn limits(section: &Section) -> impl Iterator<Item = u64> {
     let limit = section.limit;
     section.words.clone().map(move |_| limit)

@@ -1,19 +1,22 @@
 -- `answers::compare_finals` meets its contract. Assumes nothing.
-use Prim.Native.Nat.{_≤_}
 use native.Mathlib.Omega.{arith}
 use lib.ListN.{length}
+use Rattle.answers.proofs.Sizes.{most, most-roots, room}
 use borrow.Author.Needs.{needs}
-use Rattle.list_laws.specs.Zeros.{length-zeros}
-use Rattle.answers.proofs.Sizes.{most-places}
 use Rattle.answers.proofs.compare_finals.Statement.{statement}
 use Rattle.answers.proofs.compare_finals.Tie as tie
 
-mul-if1 : tie.Need-mul-if1
-mul-if1 c =
-    let s = c .before .before .before .before .before .before in
-    let a = s .args in
-    let l : length (a .finals .now) ≤ 50 = s .pre .1 .1 .1 in
-    omega (arith, most-places (length (a .finals .now)) (a .k) l (s .pre .1 .0 .few))
+mul-words : tie.Need-mul-words
+mul-words c =
+    let a = (c .before .before .before .before .before .before .args) in
+    let s = (c .before .before .before .before .before .before .pre) in
+    omega (arith, most-roots (length (a .finals .now)) (a .k) (s .1 .1 .1) (s .1 .0 .few))
+
+words-requires : tie.Need-words-requires
+words-requires c κs =
+    let a = (c .before .before .before .before .before .before .args) in
+    let s = (c .before .before .before .before .before .before .pre) in
+    omega (arith, most-roots (length (a .finals .now)) (a .k) (s .1 .1 .1) (s .1 .0 .few))
 
 slice-aggregate-first-difference : tie.Need-slice-aggregate-first-difference
 slice-aggregate-first-difference c = search needs
@@ -21,21 +24,33 @@ slice-aggregate-first-difference c = search needs
 slice-aggregate-first-difference-2 : tie.Need-slice-aggregate-first-difference-2
 slice-aggregate-first-difference-2 c = search needs
 
+first-difference-requires : tie.Need-first-difference-requires
+first-difference-requires c κs =
+    let a = (c .before .before .before .before .before .before .before .before .before .before .args) in
+    let s = (c .before .before .before .before .before .before .before .before .before .before .pre) in
+    let n = (c .before .before .before .words) in
+    let w = room (a .field) (length (a .finals .now)) (a .k) 64 (n .result) (s .1 .0 .few) (omega arith) (n .ensures .0) (c .before .before .if1 .taken) in
+    (s .0, (s .1 .0, (s .1 .1 .0, ((w .0, (w .0, omega (arith, s .1 .1 .1))), w .1))))
+
+returns : tie.Need-returns
+returns c = c .before .before .first-difference .ensures
+
 slice-aggregate-first-difference-3 : tie.Need-slice-aggregate-first-difference-3
 slice-aggregate-first-difference-3 c = search needs
 
-first-difference-requires : tie.Need-first-difference-requires
-first-difference-requires c κs =
-    let s = c .before .before .before .before .before .before .before .before .before .before in
-    let a = s .args in
-    let l : length (a .finals .now) ≤ 50 = s .pre .1 .1 .1 in
-    (s .pre .0, (s .pre .1 .0, (s .pre .1 .1 .0, (omega (arith, c .before .before .before .if1 .taken, length-zeros 64), (omega (arith, c .before .before .before .if1 .taken, length-zeros 64), (omega (arith, c .before .before .before .if1 .taken, length-zeros 64), omega (arith, l)))))))
-
-returns : tie.Need-returns
-returns c = search needs
-
 slice-aggregate-first-difference-4 : tie.Need-slice-aggregate-first-difference-4
 slice-aggregate-first-difference-4 c = search needs
+
+first-difference-requires-2 : tie.Need-first-difference-requires-2
+first-difference-requires-2 c κs =
+    let a = (c .before .before .before .before .before .before .before .before .before .before .before .args) in
+    let s = (c .before .before .before .before .before .before .before .before .before .before .before .pre) in
+    let n = (c .before .before .before .before .words) in
+    let w = room (a .field) (length (a .finals .now)) (a .k) 768 (n .result) (s .1 .0 .few) (omega arith) (n .ensures .0) (c .before .before .if2 .taken) in
+    (s .0, (s .1 .0, (s .1 .1 .0, ((w .0, (w .0, omega (arith, s .1 .1 .1))), w .1))))
+
+returns-2 : tie.Need-returns-2
+returns-2 c = c .before .before .first-difference2 .ensures
 
 slice-aggregate-first-difference-5 : tie.Need-slice-aggregate-first-difference-5
 slice-aggregate-first-difference-5 c = search needs
@@ -43,28 +58,32 @@ slice-aggregate-first-difference-5 c = search needs
 slice-aggregate-first-difference-6 : tie.Need-slice-aggregate-first-difference-6
 slice-aggregate-first-difference-6 c = search needs
 
-first-difference-requires-2 : tie.Need-first-difference-requires-2
-first-difference-requires-2 c κs =
-    let s = c .before .before .before .before .before .before .before .before .before .before in
-    let a = s .args in
-    let l : length (a .finals .now) ≤ 50 = s .pre .1 .1 .1 in
-    (s .pre .0, (s .pre .1 .0, (s .pre .1 .1 .0, (omega (arith, most-places (length (a .finals .now)) (a .k) l (s .pre .1 .0 .few), length-zeros 800), (omega (arith, most-places (length (a .finals .now)) (a .k) l (s .pre .1 .0 .few), length-zeros 800), (omega (arith, most-places (length (a .finals .now)) (a .k) l (s .pre .1 .0 .few), length-zeros 800), omega (arith, l)))))))
+first-difference-requires-3 : tie.Need-first-difference-requires-3
+first-difference-requires-3 c κs =
+    let a = (c .before .before .before .before .before .before .before .before .before .before .before .args) in
+    let s = (c .before .before .before .before .before .before .before .before .before .before .before .pre) in
+    let n = (c .before .before .before .before .words) in
+    let w = room (a .field) (length (a .finals .now)) (a .k) 3072 (n .result) (s .1 .0 .few) (omega arith) (n .ensures .0) (most (a .field) (length (a .finals .now)) (a .k) (n .result) (s .1 .1 .1) (s .1 .0 .few) (n .ensures .0)) in
+    (s .0, (s .1 .0, (s .1 .1 .0, ((w .0, (w .0, omega (arith, s .1 .1 .1))), w .1))))
 
-returns-2 : tie.Need-returns-2
-returns-2 c = search needs
+returns-3 : tie.Need-returns-3
+returns-3 c = c .before .before .first-difference3 .ensures
 
 pub compare-finals-spec : {M : Type 1} → statement M
 compare-finals-spec =
     tie.close
     (tie.spec
-    mul-if1
+    mul-words
+    words-requires
     slice-aggregate-first-difference
     slice-aggregate-first-difference-2
-    slice-aggregate-first-difference-3
     first-difference-requires
     returns
+    slice-aggregate-first-difference-3
     slice-aggregate-first-difference-4
+    first-difference-requires-2
+    returns-2
     slice-aggregate-first-difference-5
     slice-aggregate-first-difference-6
-    first-difference-requires-2
-    returns-2)
+    first-difference-requires-3
+    returns-3)

@@ -1,72 +1,76 @@
 -- `comparison::first_difference` meets its contract. Assumes nothing.
-use Prim.Native.Nat.{ℕ, _*_}
+use Prim.Native.Nat.{_≤_}
 use native.Mathlib.Omega.{arith}
-use mathlib.Core.Path.{_∙_, sym, ap}
+use mathlib.Core.Path.{_∙_, refl, sym}
 use lib.ListN.{length}
 use lib.Seq.{length-take-le}
-use Rattle.list_laws.specs.Zeros.{zeros, length-zeros}
-use Rattle.definition.specs.Field.{fieldOf, primeField}
-use Rattle.definition.specs.Lists.{firstTrue}
-use Rattle.algebra.specs.PrimeField.{laws, opposite-signs}
-use Rattle.rounds.specs.RoundLaws.{differsIn}
-use Rattle.rounds.specs.SamplesIn.{numbered, sampleBy}
+use Rattle.definition.specs.Field.{spellingOf}
+use Rattle.spelling.specs.ByField.{elementsAt, fieldAt, lawsAt, pointsAt}
+use Rattle.spelling.specs.Words.{elements-even, elements-inside}
+use Rattle.elements.specs.Meaning.{valueAt}
+use Rattle.fractions.specs.Points.{fits-points}
+use Rattle.rounds.specs.RoundLaws.{signs-at}
 use Rattle.rounds.proofs.Shifts.{fits-as}
-use Rattle.comparison.proofs.Comparing.{comparison-is}
+use Rattle.comparison.proofs.Comparing.{comparison-is, power-table}
 use borrow.Author.Needs.{needs}
 use Rattle.comparison.proofs.first_difference.Statement.{statement}
 use Rattle.comparison.proofs.first_difference.Tie as tie
 
 prepare-requires : tie.Need-prepare-requires
-prepare-requires c κs = c .before .before .before .before .before .before .before .before .before .before .before .before .pre
+prepare-requires c κs = let p = (c .before .before .before .before .before .before .before .before .before .before .pre) in (p .0, (p .1 .0, (p .1 .1 .0, p .1 .1 .1 .0)))
 
-array-borrow-prefix-values : tie.Need-array-borrow-prefix-values
-array-borrow-prefix-values c = search needs
+words-requires : tie.Need-words-requires
+words-requires c κs = omega (arith, c .before .before .before .before .before .before .before .before .before .before .before .before .before .before .before .pre .1 .0 .few)
+
+slice-relend-prefix-compare-by-roots : tie.Need-slice-relend-prefix-compare-by-roots
+slice-relend-prefix-compare-by-roots c =
+    let a = (c .before .before .before .before .before .before .before .before .before .before .before .before .before .before .before .before .before .args) in
+    let p = (c .before .before .before .before .before .before .prepare) in
+    let n = (c .before .words) in
+    let inside : n .result ≤ length (p .last .1 .1 .1 .1 .1 .1 .1 .1 .1 .0) = omega (arith, (p .kept .1 .1 .1 .1 .1 .1 .1 .1 .1 .0), n .ensures .0, elements-inside (spellingOf (a .field)) (a .k) (a .bottoms .now) (c .before .before .before .before .before .before .before .before .before .before .before .before .before .before .before .before .before .pre .1 .1 .1 .1)) in
+    omega (arith, inside)
 
 slice-aggregate-compare-by-roots : tie.Need-slice-aggregate-compare-by-roots
 slice-aggregate-compare-by-roots c =
-    let s = c .before .before .before .before .before .before .before .before .before .before .before .before .before .before .before .before .before .before .before .before .before in
-    sym (length-take-le (s .args .k) (zeros 16) (omega (arith, length-zeros 16, s .pre .1 .0 .few)))
+    let a = (c .before .before .before .before .before .before .before .before .before .before .before .before .before .before .before .before .before .before .args) in
+    let p = (c .before .before .before .before .before .before .before .prepare) in
+    let n = (c .before .before .words) in
+    let inside : n .result ≤ length (p .last .1 .1 .1 .1 .1 .1 .1 .1 .1 .0) = omega (arith, (p .kept .1 .1 .1 .1 .1 .1 .1 .1 .1 .0), n .ensures .0, elements-inside (spellingOf (a .field)) (a .k) (a .bottoms .now) (c .before .before .before .before .before .before .before .before .before .before .before .before .before .before .before .before .before .before .pre .1 .1 .1 .1)) in
+    sym (length-take-le (n .result) (p .last .1 .1 .1 .1 .1 .1 .1 .1 .1 .0) inside)
 
 compare-by-roots-requires : tie.Need-compare-by-roots-requires
 compare-by-roots-requires c κs =
-    let s = c .before .before .before .before .before .before .before .before .before .before .before .before .before .before .before .before .before .before .before .before .before in
-    let p = s .pre in
-    let n = length-take-le (s .args .k) (zeros 16) (omega (arith, length-zeros 16, p .1 .0 .few)) in
-    let room = ap (λ (k : ℕ). length (s .args .finals .now) * k) n in
-    let clear = p .0 .1 .1 in
-    (omega (arith, room, c .before .before .before .before .before .before .before .before .prepare .kept .1 .1 .1 .1 .1 .1 .1 .1 .0, p .1 .1 .1 .0), (fits-as n (p .1 .0), (p .1 .1 .0, (clear .ω, clear .powers))))
+    let a = (c .before .before .before .before .before .before .before .before .before .before .before .before .before .before .before .before .before .before .args) in
+    let p = (c .before .before .before .before .before .before .before .prepare) in
+    let n = (c .before .before .words) in
+    let inside : n .result ≤ length (p .last .1 .1 .1 .1 .1 .1 .1 .1 .1 .0) = omega (arith, (p .kept .1 .1 .1 .1 .1 .1 .1 .1 .1 .0), n .ensures .0, elements-inside (spellingOf (a .field)) (a .k) (a .bottoms .now) (c .before .before .before .before .before .before .before .before .before .before .before .before .before .before .before .before .before .before .pre .1 .1 .1 .1)) in
+    let q = (c .before .before .before .before .before .before .before .before .before .before .before .before .before .before .before .before .before .before .pre) in
+    (omega (arith, elements-even (spellingOf (a .field)) (p .last .1 .1 .1 .1 .1 .1 .1 .1 .0) (a .tops .now) (p .kept .1 .1 .1 .1 .1 .1 .1 .1 .0), q .1 .1 .1 .0 .0), (fits-as refl (q .1 .0), ((q .1 .1 .0, length-take-le (n .result) (p .last .1 .1 .1 .1 .1 .1 .1 .1 .1 .0) inside ∙ n .ensures .0), power-table (a .field) (a .pw .now) (q .0 .1 .1 .powers))))
 
 same-length : tie.Need-same-length
-same-length c = search needs
+same-length c = c .before .before .before .before .before .before .before .before .before .before .prepare .kept .1 .1 .1 .1 .1 .1 .1 .1 .0
 
 same-length-2 : tie.Need-same-length-2
 same-length-2 c = search needs
 
-same-length-3 : tie.Need-same-length-3
-same-length-3 c = search needs
-
 returns : tie.Need-returns
-unfolding fieldOf primeField
 returns c =
-    let s = c .before .before .before .before .before .before .before .before .before .before .before .before .before .before .before .before .before .before .before .before .before .before .before in
-    let a = s .args in
-    let F = fieldOf (a .field) in
-    let p = c .before .before .before .before .before .before .before .before .before .before .prepare in
-    let roots = p .last .1 .1 .1 .1 .1 .1 .1 .1 .0 in
-    let n = length-take-le (a .k) (zeros 16) (omega (arith, length-zeros 16, s .pre .1 .0 .few)) in
-    let same = ap (λ (k : ℕ). firstTrue 0 (numbered (λ i j. differsIn F (a .coefficients .now) (sampleBy F (a .pw .now) roots (a .oracle) k (a .r) i j)) 0 (a .finals .now))) n in
-    comparison-is F (laws (a .field)) (opposite-signs (a .field)) (a .pw .now) (a .table .now) (a .ac .now) (a .vg .now) (a .oracle) (a .k) (a .r) (a .finals .now) roots (s .pre .1 .0) (p .ensures)
-    (a .coefficients .now) (s .pre .1 .1 .0) (c .before .compare-by-roots .ensures ∙ same)
+    let a = (c .before .before .before .before .before .before .before .before .before .before .before .before .before .before .before .before .before .before .before .before .before .args) in
+    let s = (c .before .before .before .before .before .before .before .before .before .before .before .before .before .before .before .before .before .before .before .before .before .pre) in
+    let p = (c .before .before .before .before .before .before .before .before .before .before .prepare) in
+    let E = elementsAt (a .field) in
+    comparison-is (fieldAt (a .field)) (lawsAt (a .field)) (signs-at (a .field)) (pointsAt (a .field) (a .pw .now)) (E (a .table .now)) (E (a .ac .now)) (E (a .vg .now)) (a .oracle) (a .k) (valueAt (a .field) (a .r)) (a .finals .now) (E (p .last .1 .1 .1 .1 .1 .1 .1 .1 .0)) (fits-points (a .field) (a .pw .now) (s .1 .0)) (p .ensures)
+    (E (a .coefficients .now)) (s .1 .1 .0) (c .before .before .compare-by-roots .ensures)
 
 pub first-difference-spec : {M : Type 1} → statement M
 first-difference-spec =
     tie.close
     (tie.spec
     prepare-requires
-    array-borrow-prefix-values
+    words-requires
+    slice-relend-prefix-compare-by-roots
     slice-aggregate-compare-by-roots
     compare-by-roots-requires
     same-length
     same-length-2
-    same-length-3
     returns)

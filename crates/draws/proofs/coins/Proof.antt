@@ -29,7 +29,7 @@ from-first-requires : tie.Need-from-first-requires
 from-first-requires c κs =
     let s = c .before .before .before .before .before .before .before in
     let o = c .before .before .before .of-sheet .ensures .1 in
-    (first-level (s .args .w .now) _ (s .pre .0 .0) (s .pre .0 .1) (points-of-sheet edition1 (s .args .w .now) _ (o .0)) (o .1), s .pre .1)
+    (first-level (s .args .w .now) _ (s .pre .0 .0) (s .pre .0 .1) (s .pre .0 .2) (points-of-sheet edition1 (s .args .w .now) _ (o .0)) (o .1), s .pre .1)
 
 same-length : tie.Need-same-length
 same-length c = search needs

@@ -3,7 +3,7 @@ use native.Mathlib.Omega.{arith}
 use Rattle.list_laws.specs.Zeros.{length-zeros}
 use Rattle.definition.specs.Sheet.{edition1}
 use Rattle.domain.specs.OfSheet.{fitting, points-of-sheet}
-use Rattle.encode.proofs.Stages.{halves, table-zero}
+use Rattle.encode.proofs.Stages.{asked, table-zero}
 use borrow.Author.Needs.{needs}
 use Rattle.encode.proofs.first_table.Statement.{statement}
 use Rattle.encode.proofs.first_table.Tie as tie
@@ -19,21 +19,20 @@ of-sheet-within-requires c κs =
     let s = c .before .before .before .before .before .before in
     ((s .pre .0 .0, fitting edition1 (s .args .w .now) (s .pre .0 .0) (s .pre .0 .1)), omega (arith, length-zeros 256, c .before .if1 .taken))
 
-shared-slice-read-on-domain : tie.Need-shared-slice-read-on-domain
-shared-slice-read-on-domain c = search needs
+shared-slice-read-domain-table : tie.Need-shared-slice-read-domain-table
+shared-slice-read-domain-table c = search needs
 
 array-share-prefix-few : tie.Need-array-share-prefix-few
 array-share-prefix-few c = search needs
 
-slice-aggregate-on-domain : tie.Need-slice-aggregate-on-domain
-slice-aggregate-on-domain c = search needs
+slice-aggregate-domain-table : tie.Need-slice-aggregate-domain-table
+slice-aggregate-domain-table c = search needs
 
-on-domain-requires : tie.Need-on-domain-requires
-on-domain-requires c κs =
+domain-table-requires : tie.Need-domain-table-requires
+domain-table-requires c κs =
     let s = c .before .before .before .before .before .before .before .before .before .before .before in
     let w = s .args .w .now in
-    let n = c .before .before .before .before .of-sheet-within .ensures .1 .1 in
-    (halves w (s .pre .0 .0) (s .pre .0 .1) (s .pre .1 .0) (s .pre .1 .1), (omega arith, omega (arith, n, s .pre .1 .1)))
+    asked w (s .args .f .now) (s .args .out .now) (s .pre .0 .0) (s .pre .0 .1) (s .pre .1 .0) (s .pre .1 .1) (c .before .before .before .before .of-sheet-within .ensures .1 .1)
 
 slice-aggregate-of-sheet : tie.Need-slice-aggregate-of-sheet
 slice-aggregate-of-sheet c = search needs
@@ -43,21 +42,20 @@ of-sheet-requires c κs =
     let s = c .before .before .before .before .before .before in
     ((s .pre .0 .0, fitting edition1 (s .args .w .now) (s .pre .0 .0) (s .pre .0 .1)), length-zeros 4096)
 
-shared-slice-read-on-domain-2 : tie.Need-shared-slice-read-on-domain-2
-shared-slice-read-on-domain-2 c = search needs
+shared-slice-read-domain-table-2 : tie.Need-shared-slice-read-domain-table-2
+shared-slice-read-domain-table-2 c = search needs
 
 array-share-prefix-pw : tie.Need-array-share-prefix-pw
 array-share-prefix-pw c = search needs
 
-slice-aggregate-on-domain-2 : tie.Need-slice-aggregate-on-domain-2
-slice-aggregate-on-domain-2 c = search needs
+slice-aggregate-domain-table-2 : tie.Need-slice-aggregate-domain-table-2
+slice-aggregate-domain-table-2 c = search needs
 
-on-domain-requires-2 : tie.Need-on-domain-requires-2
-on-domain-requires-2 c κs =
+domain-table-requires-2 : tie.Need-domain-table-requires-2
+domain-table-requires-2 c κs =
     let s = c .before .before .before .before .before .before .before .before .before .before .before in
     let w = s .args .w .now in
-    let n = c .before .before .before .before .of-sheet .ensures .1 .1 in
-    (halves w (s .pre .0 .0) (s .pre .0 .1) (s .pre .1 .0) (s .pre .1 .1), (omega arith, omega (arith, n, s .pre .1 .1)))
+    asked w (s .args .f .now) (s .args .out .now) (s .pre .0 .0) (s .pre .0 .1) (s .pre .1 .0) (s .pre .1 .1) (c .before .before .before .before .of-sheet .ensures .1 .1)
 
 same-length : tie.Need-same-length
 same-length c = search needs
@@ -65,8 +63,9 @@ same-length c = search needs
 returns : tie.Need-returns
 returns c =
     let s = c .before .before .before .before .before .before .before .before .before .before .before .before .before .before in
-    let t = c .before .before .on-domain in
-    table-zero (s .args .w .now) (s .args .f .now) _ (t .last .1 .1 .1 .1 .0) (points-of-sheet edition1 (s .args .w .now) _ (c .before .before .before .before .before .before .before .of-sheet-within .ensures .1 .0)) (s .pre .1 .1) (t .ensures)
+    let t = c .before .before .domain-table in
+    table-zero (s .args .w .now) (s .args .f .now) _ (s .args .out .now) (t .last .1 .1 .1 .1 .0) (points-of-sheet edition1 (s .args .w .now) _ (c .before .before .before .before .before .before .before .of-sheet-within .ensures .1 .0))
+    (s .pre .1 .1) (t .kept .1 .1 .1 .1 .0) (t .ensures)
 
 same-length-2 : tie.Need-same-length-2
 same-length-2 c = search needs
@@ -74,8 +73,9 @@ same-length-2 c = search needs
 returns-2 : tie.Need-returns-2
 returns-2 c =
     let s = c .before .before .before .before .before .before .before .before .before .before .before .before .before .before in
-    let t = c .before .before .on-domain2 in
-    table-zero (s .args .w .now) (s .args .f .now) _ (t .last .1 .1 .1 .1 .0) (points-of-sheet edition1 (s .args .w .now) _ (c .before .before .before .before .before .before .before .of-sheet .ensures .1 .0)) (s .pre .1 .1) (t .ensures)
+    let t = c .before .before .domain-table2 in
+    table-zero (s .args .w .now) (s .args .f .now) _ (s .args .out .now) (t .last .1 .1 .1 .1 .0) (points-of-sheet edition1 (s .args .w .now) _ (c .before .before .before .before .before .before .before .of-sheet .ensures .1 .0))
+    (s .pre .1 .1) (t .kept .1 .1 .1 .1 .0) (t .ensures)
 
 pub first-table-spec : {M : Type 1} → statement M
 first-table-spec =
@@ -84,16 +84,16 @@ first-table-spec =
     shared-slice-read-if1
     slice-aggregate-of-sheet-within
     of-sheet-within-requires
-    shared-slice-read-on-domain
+    shared-slice-read-domain-table
     array-share-prefix-few
-    slice-aggregate-on-domain
-    on-domain-requires
+    slice-aggregate-domain-table
+    domain-table-requires
     slice-aggregate-of-sheet
     of-sheet-requires
-    shared-slice-read-on-domain-2
+    shared-slice-read-domain-table-2
     array-share-prefix-pw
-    slice-aggregate-on-domain-2
-    on-domain-requires-2
+    slice-aggregate-domain-table-2
+    domain-table-requires-2
     same-length
     returns
     same-length-2

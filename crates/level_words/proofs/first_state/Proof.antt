@@ -1,7 +1,7 @@
 -- `level_words::first_state` meets its contract. Assumes nothing.
-use borrow.Author.Needs.{needs}
 use native.Mathlib.Omega.{arith}
 use Rattle.level_words.proofs.Made.{first-place}
+use borrow.Author.Needs.{needs}
 use Rattle.level_words.proofs.first_state.Statement.{statement}
 use Rattle.level_words.proofs.first_state.Tie as tie
 
@@ -20,14 +20,20 @@ shared-slice-read-t6 c = search needs
 cast-t8 : tie.Need-cast-t8
 cast-t8 c = omega (arith, c .shared-slice-known3 .given 2)
 
-add-t9 : tie.Need-add-t9
-add-t9 c = search needs
+shared-slice-read-words : tie.Need-shared-slice-read-words
+shared-slice-read-words c = search needs
 
-add-t10 : tie.Need-add-t10
-add-t10 c = search needs
+add-words : tie.Need-add-words
+add-words c = search needs
+
+words-requires : tie.Need-words-requires
+words-requires c κs = search needs
+
+add-t13 : tie.Need-add-t13
+add-t13 c = search needs
 
 returns : tie.Need-returns
-returns c = let s = c .before .before .before .before in first-place _ _ (c .before .before .sheet-words .ensures) (s .pre .0 .size) (s .pre .0 .degree)
+returns c = let s = c .before .before .before .before .before .before in first-place _ _ _ (s .pre .0 .spelling) (c .before .before .before .before .sheet-words .ensures) (s .pre .0 .size) (s .pre .0 .degree) (c .words .ensures .0)
 
 pub first-state-spec : {M : Type 1} → statement M
 first-state-spec =
@@ -38,6 +44,8 @@ first-state-spec =
     cast-size
     shared-slice-read-t6
     cast-t8
-    add-t9
-    add-t10
+    shared-slice-read-words
+    add-words
+    words-requires
+    add-t13
     returns)

@@ -1,8 +1,10 @@
 -- `level_words::next_coin` meets its contract. Assumes nothing.
-use borrow.Author.Needs.{needs}
+use native.Mathlib.Omega.{arith}
 use Rattle.definition.specs.Sheet.{sheetOf}
 use Rattle.edition.specs.Meaning.{editionOf}
-use Rattle.level_words.proofs.Made.{coin-part}
+use Rattle.level_words.specs.Words.{before-coin}
+use Rattle.level_words.proofs.Ready.{round-small}
+use borrow.Author.Needs.{needs}
 use Rattle.level_words.proofs.next_coin.Statement.{statement}
 use Rattle.level_words.proofs.next_coin.Tie as tie
 
@@ -10,28 +12,53 @@ shared-slice-read-s : tie.Need-shared-slice-read-s
 shared-slice-read-s c = search needs
 
 cast-s : tie.Need-cast-s
-cast-s c = search needs
+cast-s c = omega (arith, c .shared-slice-known2 .given 5)
+
+shared-slice-read-words : tie.Need-shared-slice-read-words
+shared-slice-read-words c = search needs
+
+add-words : tie.Need-add-words
+add-words c =
+    let s = c .before .before .before .before in
+    let a = s .args in
+    let h = sheetOf (editionOf (a .e)) (a .w .now) in
+    omega (arith, round-small (editionOf (a .e)) h (a .w .now) (a .state) (s .pre), c .before .before .shared-slice-known2 .given 5)
+
+add-words-2 : tie.Need-add-words-2
+add-words-2 c =
+    let s = c .before .before .before .before in
+    let a = s .args in
+    let h = sheetOf (editionOf (a .e)) (a .w .now) in
+    omega (arith, round-small (editionOf (a .e)) h (a .w .now) (a .state) (s .pre), c .before .before .shared-slice-known2 .given 5)
+
+add-words-3 : tie.Need-add-words-3
+add-words-3 c =
+    let s = c .before .before .before .before in
+    let a = s .args in
+    let h = sheetOf (editionOf (a .e)) (a .w .now) in
+    omega (arith, round-small (editionOf (a .e)) h (a .w .now) (a .state) (s .pre), c .before .before .shared-slice-known2 .given 5)
+
+words-requires : tie.Need-words-requires
+words-requires c κs =
+    let s = c .before .before .before .before in
+    let a = s .args in
+    let h = sheetOf (editionOf (a .e)) (a .w .now) in
+    omega (arith, round-small (editionOf (a .e)) h (a .w .now) (a .state) (s .pre), c .before .before .shared-slice-known2 .given 5)
 
 add-result : tie.Need-add-result
-add-result c = search needs
-
-add-result-2 : tie.Need-add-result-2
-add-result-2 c = search needs
-
-add-result-3 : tie.Need-add-result-3
-add-result-3 c = search needs
-
-add-result-4 : tie.Need-add-result-4
-add-result-4 c = search needs
-
-mul-result : tie.Need-mul-result
-mul-result c = search needs
-
-shared-slice-read-result : tie.Need-shared-slice-read-result
-shared-slice-read-result c = search needs
+add-result c =
+    let s = c .before .before .before .before .before .before in
+    let a = s .args in
+    let h = sheetOf (editionOf (a .e)) (a .w .now) in
+    omega (arith, round-small (editionOf (a .e)) h (a .w .now) (a .state) (s .pre), before-coin h (a .state) _ (s .pre .numbers .spelling) (s .pre .numbers .outs) (c .before .words .ensures .0))
 
 returns : tie.Need-returns
-returns c = let s = c .before .before .before .before in coin-part (sheetOf (editionOf (s .args .e)) (s .args .w .now)) (s .args .w .now) (s .args .state) (s .pre .numbers .outs)
+returns c =
+    let s = c .before .before .before .before .before .before in
+    let a = s .args in
+    let h = sheetOf (editionOf (a .e)) (a .w .now) in
+    let e = before-coin h (a .state) _ (s .pre .numbers .spelling) (s .pre .numbers .outs) (c .before .words .ensures .0) in
+    (e, omega (arith, e, round-small (editionOf (a .e)) h (a .w .now) (a .state) (s .pre)))
 
 pub next-coin-spec : {M : Type 1} → statement M
 next-coin-spec =
@@ -39,10 +66,10 @@ next-coin-spec =
     (tie.spec
     shared-slice-read-s
     cast-s
+    shared-slice-read-words
+    add-words
+    add-words-2
+    add-words-3
+    words-requires
     add-result
-    add-result-2
-    add-result-3
-    add-result-4
-    mul-result
-    shared-slice-read-result
     returns)

@@ -1,56 +1,32 @@
 -- `out_coins::second_equal`: by the cases of `equalAt`.
+use Rattle.definition.specs.Field.{primeOf, spellingOf}
 use Rattle.outcome.specs.Meaning.{placeOf}
-use Rattle.out_coins.proofs.Rounds.{equal-found, equal-not, one-coin}
+use Rattle.out_coins.proofs.Rounds.{equal-found, equal-not, one-coin, two-there}
 use borrow.Author.Needs.{needs}
 use Rattle.out_coins.proofs.second_equal.Statement.{statement}
 use Rattle.out_coins.proofs.second_equal.Tie as tie
 
-add-if2 : tie.Need-add-if2
-add-if2 c = search needs
+words-requires : tie.Need-words-requires
+words-requires c κs = search needs
 
-mul-if2 : tie.Need-mul-if2
-mul-if2 c = search needs
+add-second : tie.Need-add-second
+add-second c = search needs
 
-shared-slice-read-if2 : tie.Need-shared-slice-read-if2
-shared-slice-read-if2 c = search needs
-
-mul-if2-2 : tie.Need-mul-if2-2
-mul-if2-2 c = search needs
-
-shared-slice-read-if2-2 : tie.Need-shared-slice-read-if2-2
-shared-slice-read-if2-2 c = search needs
-
-add-t13 : tie.Need-add-t13
-add-t13 c = search needs
+same-requires : tie.Need-same-requires
+same-requires c κs = let s = c .before .before .before in let a = s .args in two-there (spellingOf (a .field)) (primeOf (a .field)) (a .words .now) (a .at) (a .count) (c .before .if1 .taken) (c .words .ensures .0) (s .pre)
 
 returns : tie.Need-returns
 unfolding placeOf
-returns c =
-    let a = c .before .before .before .before .args in
-    equal-found (a .words .now) (a .at) (a .count) (c .before .before .before .if1 .taken) (c .if2 .taken)
+returns c = let s = c .before .before .before .before .before in let a = s .args in equal-found (spellingOf (a .field)) (primeOf (a .field)) (a .words .now) (a .at) (a .count) (c .before .before .before .if1 .taken) (c .before .before .words .ensures .0) (c .before .same .ensures) (c .if2 .taken)
 
 returns-2 : tie.Need-returns-2
 unfolding placeOf
-returns-2 c =
-    let a = c .before .before .before .before .args in
-    equal-not (a .words .now) (a .at) (a .count) (c .if2 .left)
+returns-2 c = let s = c .before .before .before .before .before in let a = s .args in equal-not (spellingOf (a .field)) (primeOf (a .field)) (a .words .now) (a .at) (a .count) (c .before .before .words .ensures .0) (c .before .same .ensures) (c .if2 .left)
 
 returns-3 : tie.Need-returns-3
 unfolding placeOf
-returns-3 c =
-    let a = c .before .args in
-    one-coin (a .words .now) (a .at) (a .count) (c .if1 .left)
+returns-3 c = let s = c .before .before in let a = s .args in one-coin (spellingOf (a .field)) (primeOf (a .field)) (a .words .now) (a .at) (a .count) (c .if1 .left)
 
 pub second-equal-spec : {M : Type 1} → statement M
 second-equal-spec =
-    tie.close
-    (tie.spec
-    add-if2
-    mul-if2
-    shared-slice-read-if2
-    mul-if2-2
-    shared-slice-read-if2-2
-    add-t13
-    returns
-    returns-2
-    returns-3)
+    tie.close (tie.spec words-requires add-second same-requires returns returns-2 returns-3)

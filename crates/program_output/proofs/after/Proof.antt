@@ -1,11 +1,9 @@
 -- `program_output::after` meets its contract.
 use Prim.Native.Nat.{ℕ}
-use mathlib.Core.List.{List, []}
 use lib.ListN.{take}
-use mathlib.Core.Path.{refl, sym, ap, _∙_}
+use mathlib.Core.Path.{refl, ap}
 use native.Mathlib.Omega.{arith}
 use Rattle.outcome.specs.Meaning.{answerOf}
-use Rattle.program_output.specs.Leaves.{Leaves}
 use Rattle.program_output.specs.Output.{writtenFor}
 use borrow.Author.Needs.{needs}
 use Rattle.program_output.proofs.after.Statement.{statement}

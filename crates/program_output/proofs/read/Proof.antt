@@ -1,7 +1,5 @@
 -- `program_output::read` meets its contract.
-use Prim.Native.Nat.{ℕ}
 use mathlib.Core.Path.{ap, _∙_}
-use mathlib.Core.List.{List}
 use Rattle.definition.specs.Line.{lineOf}
 use Rattle.definition.specs.Reading.{reading}
 use Rattle.definition.specs.Verdict.{Outcome}

@@ -46,13 +46,13 @@ slice-aggregate-after-sheet-2 c =
 
 array-borrow-prefix-coins : tie.Need-array-borrow-prefix-coins
 unfolding editionOf
-array-borrow-prefix-coins c = omega (arith, drawn-coins (c .before .before .before .before .before .before .before .args .generator .v) (c .before .before .before .before .before .draw .ensures), c .before .before .coins-due .ensures, length-zeros 309)
+array-borrow-prefix-coins c = omega (arith, drawn-coins (c .before .before .before .before .before .before .before .args .generator .v) (c .before .before .before .before .before .draw .ensures), c .before .before .coins-due .ensures, length-zeros 318)
 
 slice-aggregate-after-sheet-3 : tie.Need-slice-aggregate-after-sheet-3
 unfolding editionOf
 slice-aggregate-after-sheet-3 c =
     let n = c .before .before .before .coins-due in
-    sym (length-take-le (n .result) (zeros 309) (omega (arith, drawn-coins (c .before .before .before .before .before .before .before .before .args .generator .v) (c .before .before .before .before .before .before .draw .ensures), n .ensures, length-zeros 309)))
+    sym (length-take-le (n .result) (zeros 318) (omega (arith, drawn-coins (c .before .before .before .before .before .before .before .before .args .generator .v) (c .before .before .before .before .before .before .draw .ensures), n .ensures, length-zeros 318)))
 
 after-sheet-requires : tie.Need-after-sheet-requires
 unfolding sheetOf editionOf
@@ -61,7 +61,7 @@ after-sheet-requires c κs =
     let d = c .before .before .before .before .before .before .draw in
     let n = c .before .before .before .coins-due in
     let size = length-take-le (getD (d .last .1 .0) 2 0) (zeros 2048) (omega (arith, drawn-degree v (d .ensures), length-zeros 2048)) in
-    let due = length-take-le (n .result) (zeros 309) (omega (arith, drawn-coins v (d .ensures), n .ensures, length-zeros 309)) in
+    let due = length-take-le (n .result) (zeros 318) (omega (arith, drawn-coins v (d .ensures), n .ensures, length-zeros 318)) in
     (drawn-sheet v (d .ensures), (size, due ∙ n .ensures))
 
 returns : tie.Need-returns
@@ -73,11 +73,11 @@ returns c =
     let r = c .before .before .after-sheet in
     let degree = getD (d .last .1 .0) 2 0 in
     let few : degree ≤ length (zeros 2048) = omega (arith, drawn-degree v (d .ensures), length-zeros 2048) in
-    let due : n .result ≤ length (zeros 309) = omega (arith, drawn-coins v (d .ensures), n .ensures, length-zeros 309) in
+    let due : n .result ≤ length (zeros 318) = omega (arith, drawn-coins v (d .ensures), n .ensures, length-zeros 318) in
     let long : length (r .last .1 .1 .0) ≡ degree = r .kept .1 .1 .0 ∙ length-take-le degree (zeros 2048) few in
-    let many : length (r .last .1 .1 .1 .0) ≡ n .result = r .kept .1 .1 .1 .0 ∙ length-take-le (n .result) (zeros 309) due in (
-      (omega (arith, few, length-front (zeros 2048) (r .last .1 .1 .0) degree (r .kept .1 .1 .0)), omega (arith, due, length-front (zeros 309) (r .last .1 .1 .1 .0) (n .result) (r .kept .1 .1 .1 .0))),
-      at-front v (take-at (r .last .1 .1 .0) (drop degree (zeros 2048)) degree long) (take-at (r .last .1 .1 .1 .0) (drop (n .result) (zeros 309)) (n .result) many) (r .ensures v (d .ensures)),
+    let many : length (r .last .1 .1 .1 .0) ≡ n .result = r .kept .1 .1 .1 .0 ∙ length-take-le (n .result) (zeros 318) due in (
+      (omega (arith, few, length-front (zeros 2048) (r .last .1 .1 .0) degree (r .kept .1 .1 .0)), omega (arith, due, length-front (zeros 318) (r .last .1 .1 .1 .0) (n .result) (r .kept .1 .1 .1 .0))),
+      at-front v (take-at (r .last .1 .1 .0) (drop degree (zeros 2048)) degree long) (take-at (r .last .1 .1 .1 .0) (drop (n .result) (zeros 318)) (n .result) many) (r .ensures v (d .ensures)),
     )
 
 pub draw-spec : {M : Type 1} → statement M

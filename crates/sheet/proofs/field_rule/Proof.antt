@@ -1,7 +1,6 @@
 -- `sheet::field_rule` meets its contract. The definition, word for word. Assumes nothing.
 use mathlib.Core.Path.{refl}
 use borrow.Author.Needs.{needs}
-use Rattle.definition.specs.Field.{knownField}
 use Rattle.definition.specs.Sheet.{fieldRule}
 use Rattle.sheet.proofs.field_rule.Statement.{statement}
 use Rattle.sheet.proofs.field_rule.Tie as tie
@@ -10,7 +9,7 @@ shared-slice-read-result : tie.Need-shared-slice-read-result
 shared-slice-read-result c = search needs
 
 returns : tie.Need-returns
-unfolding fieldRule knownField
+unfolding fieldRule
 returns c = refl
 
 pub field-rule-spec : {M : Type 1} → statement M
