@@ -17,6 +17,7 @@ use Rattle.completeness.specs.Faults.{Part, combination, finals, fold, outs, pa
 use Rattle.dependence.specs.Changes.{Indices, Reordered}
 use Rattle.dependence.specs.Orders.{perm-reads}
 use Rattle.dependence.specs.Reordered.{Alike, NotNine, accepted-not}
+use Rattle.dependence.specs.TurnedRun as run
 use Rattle.dependence.specs.TurnedWords as turned
 
 -- deciding's verdict on a stream, by its sheet
@@ -54,18 +55,18 @@ module _ (ed : Edition) (x y : List ℕ) (p : Part) (passed : reading ed x ≡ a
   by-decisions alike =
       verdict-is ed x passed
       ∙ then-same (outTests h (sheetLength ed) (layout h) (streamOf x)) _ _ (λ e. counted-same _ _ (alike e))
-      ∙ ap (λ (o : Outcome). thenVerdict o (counted (decisionOf (streamOf y)))) (turned.out-tests-same ed x y p ip passed t)
+      ∙ ap (λ (o : Outcome). thenVerdict o (counted (decisionOf (streamOf y)))) (run.out-tests-same ed x y p ip passed t)
       ∙ sym other-verdict
 
   -- the shift indices of a round: the verdict stays
   shifts-verdict : (k : ℕ) → p ≡ shifts k → k < roundsOf h → verifyIn ed x ≡ verifyIn ed y
-  shifts-verdict k q l = by-decisions (λ e. turned.shifts-decided ed x y p ip passed t k q l)
+  shifts-verdict k q l = by-decisions (λ e. run.shifts-decided ed x y p ip passed t k q l)
 
   -- the final indices: the verdict stays where no final index fails
   finals-verdict : p ≡ finals → NotNine (verifyIn ed x .outcome) → verifyIn ed x ≡ verifyIn ed y
   unfolding counted thenVerdict
   finals-verdict q e =
-      by-decisions (λ o. turned.finals-decided ed x y p ip passed t q (λ n f. e n (ap (λ (v : Verdict). v .outcome) (verdict-is ed x passed)
+      by-decisions (λ o. run.finals-decided ed x y p ip passed t q (λ n f. e n (ap (λ (v : Verdict). v .outcome) (verdict-is ed x passed)
       ∙ ap (λ (r : Outcome). thenVerdict r (counted (decisionOf (streamOf x))) .outcome) o ∙ f)))
 
   pub reordered-same : NotNine (verifyIn ed x .outcome) → verifyIn ed x ≡ verifyIn ed y
