@@ -37,17 +37,25 @@ pub fn verify_2(file: &[u8]) -> Verdict {
 }
 
 pub fn verify_in(edition: Edition, file: &[u8]) -> Verdict {
+    opened_in(edition, file).0
+}
+
+/// The verdict, and the places that the count of reads is of.
+pub fn opened_in(edition: Edition, file: &[u8]) -> (Verdict, Places) {
     match read(edition, file) {
         Ok(reading) => decide(reading),
-        Err(fault) => Verdict {
-            outcome: outcome(Err(fault)),
-            reads: 0,
-        },
+        Err(fault) => {
+            let verdict = Verdict {
+                outcome: outcome(Err(fault)),
+                reads: 0,
+            };
+            (verdict, Places::new())
+        }
     }
 }
 
 /// The tests from 7 on, over the elements that the sheet names.
-fn decide(reading: Reading) -> Verdict {
+fn decide(reading: Reading) -> (Verdict, Places) {
     let mut opened = Places::new();
     let decided = match reading.sheet.width {
         Quartic::WIDTH => {
@@ -56,10 +64,11 @@ fn decide(reading: Reading) -> Verdict {
         _ => Transcript::new(reading.sheet.field, reading)
             .and_then(|transcript| transcript.decide(&mut opened)),
     };
-    Verdict {
+    let verdict = Verdict {
         outcome: outcome(decided),
         reads: opened.len() as u64,
-    }
+    };
+    (verdict, opened)
 }
 
 /// The first of two steps: the tests 1 to 6 alone.
@@ -76,7 +85,7 @@ pub fn decide_in(edition: Edition, file: &[u8]) -> Verdict {
             reads: 0,
         };
     }
-    decide(read(edition, file).expect("a file that was read"))
+    decide(read(edition, file).expect("a file that was read")).0
 }
 
 fn outcome(tested: Result<(), Fault>) -> Outcome {
@@ -218,7 +227,7 @@ fn join<E: Ord>(pairs: impl Iterator<Item = (E, E)>) -> Option<Pairs<E>> {
 
 /// Places of the tables, by table number and point number, each once however many
 /// coins lead to it.
-type Places = BTreeSet<(usize, usize)>;
+pub type Places = BTreeSet<(usize, usize)>;
 
 /// A file that passed the tests 1 to 7 and 14, which use no table word.
 struct Transcript<F> {

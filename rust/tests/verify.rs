@@ -2,10 +2,9 @@
 
 mod common;
 
-use common::{edition, honest, reads, verdict_line, Edition, One, Two, LARGEST};
+use common::{changed, edition, honest, reads, verdict_line, Edition, One, Two, LARGEST};
 use std::collections::BTreeMap;
 use tevrolig_model::generate::{self, Rng, REFUSALS};
-use tevrolig_model::stream::write_word;
 
 /// Both verdicts of a file as a line, which must be equal and leave the file as it was; likewise of the two steps.
 fn agree(edition: Edition, file: &[u8], what: &str, seed: u64) -> String {
@@ -20,16 +19,6 @@ fn drawn(edition: Edition, rng: &mut Rng, most_n0: u32, hostile: bool) -> (Vec<u
     let sheet = generate::sheet_up_to(edition, rng, most_n0);
     let file = honest(rng, &sheet, hostile);
     (sheet, file)
-}
-
-/// The file with some words of the stream changed and the checks made right.
-fn changed(file: &[u8], changes: &[(usize, u32)]) -> Vec<u8> {
-    let mut file = file.to_vec();
-    for &(word, value) in changes {
-        write_word(&mut file, word, value);
-    }
-    generate::rewrite_checks(&mut file);
-    file
 }
 
 #[test]

@@ -1,5 +1,5 @@
 -- Reading stage by stage: what each answer of a test says of the definition's outcome.
-use Prim.Native.Nat.{ℕ, _*_, _/_, _%_, _≤_}
+use Prim.Native.Nat.{ℕ, _+_, _*_, _/_, _%_, _≤_}
 use native.Mathlib.Omega.{arith}
 use borrow.Author.Tests.{eq-eqb, ne-eqb}
 use mathlib.Core.Path.{_≡_, sym, ap, _∙_}
@@ -77,6 +77,9 @@ module _ (ed : Edition) (words : List ℕ) {n : ℕ} (q : n ≡ sheetLength ed) 
   pub front-holds : none ≡ firstOf (testOrder ed) (map not (sheetRules ed (take n words))) → sheetTest ed (take (sheetLength ed) words) ≡ accepted
   front-holds e = ap (λ (m : ℕ). sheetTest ed (take m words)) (sym q) ∙ none-broken ed (take n words) e
 
+  pub front-words : {due : ℕ} → due ≡ wordsDue ed (sheetOf ed (take n words)) → due ≡ wordsDue ed (sheetOf ed (take (sheetLength ed) words))
+  front-words e = e ∙ ap (λ (m : ℕ). wordsDue ed (sheetOf ed (take m words))) q
+
   pub front-due : {due : ℕ} → due ≡ blockCount (wordsDue ed (sheetOf ed (take n words))) → due ≡ blockCount (wordsDue ed (sheetOf ed (take (sheetLength ed) words)))
   front-due e = e ∙ ap (λ (m : ℕ). blockCount (wordsDue ed (sheetOf ed (take m words)))) q
 
@@ -97,13 +100,18 @@ module _ (ed : Edition) (words : List ℕ) (n : ℕ) (some-words : sheetLength e
 pub in-block : (ed : Edition) (blocks : ℕ) → 1 ≤ blocks → sheetLength ed ≤ 127 * blocks
 in-block ed blocks one = omega (arith, short-sheet ed)
 
--- as many blocks as are due hold the words due
-pub due-fits : (ed : Edition) (words : List ℕ) (blocks due : ℕ) → 127 * blocks ≤ length words → 1 ≤ blocks → sheetTest ed (take (sheetLength ed) words) ≡ accepted → blocks ≡ due →
-    due ≡ blockCount (wordsDue ed (sheetOf ed (take (sheetLength ed) words))) → wordsDue ed (sheetOf ed (take (127 * blocks) words)) ≤ length (take (127 * blocks) words)
+-- the blocks that words fill
+pub in-blocks : {due n : ℕ} → due ≡ n → (due + 126) / 127 ≡ blockCount n
 unfolding blockCount
-due-fits ed words blocks due enough one e same is =
-    let s : wordsDue ed (sheetOf ed (front ed words)) ≡ wordsDue ed (sheetOf ed (take (127 * blocks) words)) = ap (wordsDue ed) (front-sheet ed words (127 * blocks) (in-block ed blocks one) enough e) in
-    omega (arith, length-take-le (127 * blocks) words enough)
+in-blocks e = ap (λ (m : ℕ). (m + 126) / 127) e
+
+-- as many blocks as are due hold the words due
+pub due-fits : (ed : Edition) (words : List ℕ) (blocks due : ℕ) → 127 * blocks ≤ length words → 1 ≤ blocks → sheetTest ed (take (sheetLength ed) words) ≡ accepted → blocks ≡ (due + 126) / 127 →
+    due ≡ wordsDue ed (sheetOf ed (take (sheetLength ed) words)) → (due ≡ wordsDue ed (sheetOf ed (take (127 * blocks) words))) × (due ≤ length (take (127 * blocks) words))
+due-fits ed words blocks due enough one e same is = (
+  is ∙ ap (wordsDue ed) (front-sheet ed words (127 * blocks) (in-block ed blocks one) enough e),
+  omega (arith, length-take-le (127 * blocks) words enough),
+)
 
 module _ (ed : Edition) {words : List ℕ} {blocks : ℕ} {w : List ℕ} (one : 1 ≤ blocks) (loads : Loads words blocks w) where
   fronts-are : front ed words ≡ front ed w

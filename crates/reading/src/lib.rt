@@ -14,10 +14,10 @@ ghost use Rattle.edition.specs.Meaning.{editionOf};
 ghost use Rattle.outcome.specs.Meaning.{outcomeOf};
 ghost use Rattle.reading.specs.Stages.{Loads, Read};
 
-// Refusals 5 and 6, of the words of a stream whose sheet passes and that has all words due.
-fn body(e: Edition, w: &[u32]) -> Outcome
+// Refusals 5 and 6, of the words of a stream whose sheet passes and that has all words due, whose number is given.
+fn body(e: Edition, w: &[u32], due: usize) -> Outcome
     requires { ⌜ sheetTest (editionOf e) (now w) ≡ accepted ⌝ }
-    requires { ⌜ wordsDue (editionOf e) (sheetOf (editionOf e) (now w)) ≤ length (now w) ⌝ }
+    requires { ⌜ (due ≡ wordsDue (editionOf e) (sheetOf (editionOf e) (now w))) × (due ≤ length (now w)) ⌝ }
     ensures { λ r.
         ⌜ outcomeOf r ≡ (rangeTest (sheetOf (editionOf e) (now (w .entry))) (sheetLength (editionOf e)) (layout (sheetOf (editionOf e) (now (w .entry)))) (now (w .entry)) then fillTest (wordsDue (editionOf e) (sheetOf (editionOf e) (now (w .entry)))) (now (w .entry))) ⌝ }
 {
@@ -25,7 +25,7 @@ fn body(e: Edition, w: &[u32]) -> Outcome
     if let Found::At(place) = range {
         return Outcome::Refused(5, place);
     }
-    let fill = ranges::fill_not_zero(w, sizes::words_due(e, w));
+    let fill = ranges::fill_not_zero(w, due);
     if let Found::At(place) = fill {
         return Outcome::Refused(6, place);
     }
@@ -43,11 +43,12 @@ fn after_checks(e: Edition, words: &[u32], blocks: usize) -> Outcome
     if let Found::At(place) = broken {
         return Outcome::Refused(3, place);
     }
-    let due = sizes::blocks_due(e, head);
-    if blocks != due {
-        return Outcome::Refused(4, due);
+    let due = sizes::words_due(e, head);
+    let needed = (due + 126) / 127;
+    if blocks != needed {
+        return Outcome::Refused(4, needed);
     }
-    body(e, &words[..127 * blocks])
+    body(e, &words[..127 * blocks], due)
 }
 
 // Reads a file of any length and content. Where it is accepted, the words of its stream stand at the front of the places lent.

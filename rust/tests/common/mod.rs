@@ -8,6 +8,7 @@ use tevrolig_model::generate::{self, Rng};
 use tevrolig_model::layout::{Layout, Section};
 use tevrolig_model::prove::prove_in;
 use tevrolig_model::sheet::Sheet;
+use tevrolig_model::stream::write_word;
 use tevrolig_model::verify::{decide_in, read_in, verify_in};
 use tevrolig_model::{self as model, Answer, Outcome};
 
@@ -85,6 +86,16 @@ pub fn honest(rng: &mut Rng, sheet: &[u32], hostile: bool) -> Vec<u8> {
     let coefficients = generate::coefficients(rng, sheet);
     let coins = generate::coins(rng, sheet, hostile);
     generate::honest_file(sheet, &coefficients, &coins)
+}
+
+/// The file with some words of the stream changed and the checks made right.
+pub fn changed(file: &[u8], changes: &[(usize, u32)]) -> Vec<u8> {
+    let mut file = file.to_vec();
+    for &(word, value) in changes {
+        write_word(&mut file, word, value);
+    }
+    generate::rewrite_checks(&mut file);
+    file
 }
 
 /// The reads of an accepted file: k_i for each of the different indices of level i.

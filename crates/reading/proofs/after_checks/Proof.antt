@@ -1,5 +1,5 @@
 -- `reading::after_checks` meets its contract. Assumes nothing.
-use Prim.Native.Nat.{_*_, _≤_}
+use Prim.Native.Nat.{_+_, _*_, _/_, _≤_}
 use native.Mathlib.Omega.{arith}
 use mathlib.Core.Path.{sym}
 use lib.ListN.{length}
@@ -10,7 +10,7 @@ use Rattle.edition.specs.Meaning.{editionOf}
 use Rattle.outcome.specs.Answers.{at-place, nowhere}
 use Rattle.outcome.specs.Meaning.{outcomeOf}
 use Rattle.sheet.specs.Rules.{none-broken}
-use Rattle.reading.proofs.StageLaws.{due-fits, front-broken, front-due, front-holds, front-long, front-passes, in-block, other-blocks, sheet-broken, whole}
+use Rattle.reading.proofs.StageLaws.{due-fits, front-broken, front-due, front-holds, front-long, front-passes, front-words, in-block, in-blocks, other-blocks, sheet-broken, whole}
 use Rattle.reading.proofs.after_checks.Statement.{statement}
 use Rattle.reading.proofs.after_checks.Tie as tie
 
@@ -43,8 +43,8 @@ returns c = λ w l.
 enum-told : tie.Need-enum-told
 enum-told c = search needs
 
-blocks-due-requires : tie.Need-blocks-due-requires
-blocks-due-requires c κs =
+words-due-requires : tie.Need-words-due-requires
+words-due-requires c κs =
     let r = c .before .before in
     let s = r .before .before .before .before in
     let ed = editionOf (s .args .e) in
@@ -52,6 +52,9 @@ blocks-due-requires c κs =
       front-long ed (s .args .words .now) q (omega (arith, s .pre, q, short-sheet ed)),
       none-broken ed _ (nowhere (r .broken .ensures) (c .enum-told .given .1)),
     )
+
+add-needed : tie.Need-add-needed
+add-needed c = search needs
 
 returns-2 : tie.Need-returns-2
 unfolding outcomeOf
@@ -63,7 +66,7 @@ returns-2 c = λ w l.
     let words = s .args .words .now in
     let q = r .before .before .sheet-words .ensures in
     other-blocks ed (s .pre .1) l (front-holds ed words q (nowhere (r .broken .ensures) (t .enum-told .given .1)))
-    (c .before .blocks-due .result) (front-due ed words q (c .before .blocks-due .ensures .0)) (c .if1 .taken)
+    ((c .before .words-due .result + 126) / 127) (front-due ed words q (in-blocks (c .before .words-due .ensures .0))) (c .if1 .taken)
 
 mul-body : tie.Need-mul-body
 mul-body c = search needs
@@ -72,7 +75,7 @@ slice-aggregate-body : tie.Need-slice-aggregate-body
 slice-aggregate-body c =
     let b = c .before .before in
     let s = b .before .before .before .before .before .before .before in
-    sym (length-take-le (127 * s .args .blocks) (s .args .words .now) (omega (arith, s .pre .0, c .before .if1 .left, b .blocks-due .ensures .1 .1)))
+    sym (length-take-le (127 * s .args .blocks) (s .args .words .now) (omega (arith, s .pre .0, c .before .if1 .left, b .words-due .ensures .1)))
 
 body-requires : tie.Need-body-requires
 body-requires c κs =
@@ -83,10 +86,10 @@ body-requires c κs =
     let ed = editionOf (s .args .e) in
     let words = s .args .words .now in
     let q = r .before .before .sheet-words .ensures in
-    let enough : 127 * s .args .blocks ≤ length words = omega (arith, s .pre .0, c .before .if1 .left, b .blocks-due .ensures .1 .1) in
+    let enough : 127 * s .args .blocks ≤ length words = omega (arith, s .pre .0, c .before .if1 .left, b .words-due .ensures .1) in
     let passed = front-holds ed words q (nowhere (r .broken .ensures) (t .enum-told .given .1)) in (
       front-passes ed words (127 * s .args .blocks) (in-block ed (s .args .blocks) (s .pre .1)) enough passed,
-      due-fits ed words (s .args .blocks) (b .blocks-due .result) enough (s .pre .1) passed (c .before .if1 .left) (front-due ed words q (b .blocks-due .ensures .0)),
+      due-fits ed words (s .args .blocks) (b .words-due .result) enough (s .pre .1) passed (c .before .if1 .left) (front-words ed words q (b .words-due .ensures .0)),
     )
 
 returns-3 : tie.Need-returns-3
@@ -99,7 +102,7 @@ returns-3 c = λ w l.
     let words = s .args .words .now in
     let q = r .before .before .sheet-words .ensures in
     whole ed (s .pre .1) l (front-holds ed words q (nowhere (r .broken .ensures) (t .enum-told .given .1)))
-    (b .blocks-due .result) (front-due ed words q (b .blocks-due .ensures .0)) (c .before .before .if1 .left) (b .blocks-due .ensures .1 .1) (c .body .ensures)
+    ((b .words-due .result + 126) / 127) (front-due ed words q (in-blocks (b .words-due .ensures .0))) (c .before .before .if1 .left) (omega (arith, b .words-due .ensures .1)) (c .body .ensures)
 
 pub after-checks-spec : {M : Type 1} → statement M
 after-checks-spec =
@@ -111,7 +114,8 @@ after-checks-spec =
     enum-known-broken
     returns
     enum-told
-    blocks-due-requires
+    words-due-requires
+    add-needed
     returns-2
     mul-body
     slice-aggregate-body
