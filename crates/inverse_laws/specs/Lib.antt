@@ -5,3 +5,4 @@
 pub mod Before
 -- the field as it was, and that only the reciprocal is asked of it
 pub mod SameOperations
+pub mod AsBefore
