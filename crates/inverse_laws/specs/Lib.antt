@@ -2,7 +2,11 @@
 -- before they are what they are. A reader needs two vocabularies and the page; the others are their proofs.
 
 -- the vocabularies, and the page
+pub mod TakenApart
 pub mod Before
--- the field as it was, and that only the reciprocal is asked of it
+-- each inverse that is asked for is found: in any field with the laws, and in every file and every run
+pub mod Found
+pub mod FoundInFiles
+-- the field as it was: all that is asked of it is the same, so verify and prove are
 pub mod SameOperations
 pub mod AsBefore

@@ -13,7 +13,7 @@ use Rattle.definition.specs.Field.{Field, elementsIn, fieldIn, numberIn, whereF
 use Rattle.definition.specs.Layout.{layout, readCoins, readTranscript, wordsDue}
 use Rattle.definition.specs.Lists.{firstTrue}
 use Rattle.definition.specs.Polynomial.{Sample, addPoly, clash, distinct, evaluate, foldPoly, geometric, mulPoly, pair, points, quotient, scale, subPoly, vanishing}
-use Rattle.definition.specs.Prove.{Result, finish, proveTests, sheetLengthTest}
+use Rattle.definition.specs.Prove.{Result, done, proveTests, refusal, sheetLengthTest}
 use Rattle.definition.specs.Prover.{honestAnswers, honestRound, tableOf}
 use Rattle.definition.specs.Reading.{reading, sheetTest}
 use Rattle.definition.specs.Sheet.{Edition, Level, firstLevel, rootOfUnity, sheetLength, sheetOf}
@@ -139,8 +139,8 @@ honestStreamFound e w f coins =
 
 -- refused: the output as before, and no inverse is asked for; done: the part written, if it is found, and after it the output as before
 unfoldable pub finishFound : Outcome → ℕ → Option (List ℕ) → List ℕ → Option Result
-finishFound accepted count found output = whereFound (λ written. finish accepted count written output) found
-finishFound (refused number place) count found output = some (finish (refused number place) count [] output)
+finishFound accepted count found output = whereFound (λ written. record { answer = done count; output = written ++ drop (length written) output }) found
+finishFound (refused number place) count found output = some (record { answer = refusal number place; output = output })
 
 unfoldable pub proveFound : Edition → List ℕ → List ℕ → List ℕ → List ℕ → Option Result
 proveFound e w f coins output =
