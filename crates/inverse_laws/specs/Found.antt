@@ -3,6 +3,7 @@
 use Prim.Native.Nat.{ℕ, _<_}
 use mathlib.Core.Bool.{Bool, true, false, cond, not}
 use mathlib.Core.List.{List, [], _∷_, _++_, map, map-map}
+use mathlib.Core.Logic.{_↔_}
 use mathlib.Core.Option.{Option, none, some}
 use mathlib.Core.Path.{_≡_, refl, sym, ap, _∙_, subst}
 use lib.ListN.{getD, length}
@@ -15,13 +16,16 @@ use Rattle.definition.specs.Prover.{honest, honestAnswers, honestRest, honestRo
 use Rattle.definition.specs.Sheet.{Level, shiftCount}
 use Rattle.definition.specs.Transcript.{Coins, Rest, Round, RoundCoins, Transcript, final, round}
 use Rattle.definition.specs.Verdict.{refuseAt, refused}
-use Rattle.list_laws.specs.All.{All, all-map, everywhere}
+use Rattle.list_laws.specs.All.{All, all-map, all-places, at-place, everywhere}
+use Rattle.list_laws.specs.Booleans.{some≢none}
 use Rattle.algebra.specs.Different.{Apart, Differ}
+use Rattle.algebra.specs.Division.{vanishing-roots}
 use Rattle.algebra.specs.Divisors.{vanishing-differs}
 use Rattle.algebra.specs.Laws.{FieldLaws}
 use Rattle.completeness.specs.DecidingAccepts.{Admissible, AdmissibleRound, Foldable}
 use Rattle.completeness.specs.Divisors as completeness
-use Rattle.completeness.specs.Divisors.{FairRest}
+use Rattle.completeness.specs.Divisors.{FairRest, Found}
+use Rattle.completeness.specs.Numbered.{divisors}
 use Rattle.completeness.specs.RoundPolynomials
 use Rattle.inverse_laws.specs.TakenApart.{allFound, andThen, answersFound, correctedPolyFound, correctedValueFound, decideFinalFound, decideFound, decideRestFound, differencesFound, foldAtFound, honestFound, honestRestFound, interpolateFound, nextFunctionFound, nextPolyFound, tableFunctionFound}
 
@@ -34,6 +38,47 @@ all-found o f (x ∷ xs) h = λ i. andThen (h .0 i) (λ y. whereFound (λ ys. y 
 cond-found : {A : Type 0} (b : Bool) (x y : A) → cond b (some x) (some y) ≡ some (cond b x y)
 cond-found true x y = refl
 cond-found false x y = refl
+
+-- what is answered is found only where what it is made of is, and none where the last of two answers is none
+and-then-found : {A B : Type 0} (o : Option A) (f : A → Option B) (y : B) → andThen o f ≡ some y → (x : A) × (o ≡ some x) × (f x ≡ some y)
+unfolding andThen
+and-then-found none f y e = absurd (some≢none y (sym e))
+and-then-found (some x) f y e = (x, refl, e)
+
+and-then-none : {A B : Type 0} (o : Option A) → andThen {A = A} {B = B} o (λ x. none) ≡ none
+unfolding andThen
+and-then-none none = refl
+and-then-none (some x) = refl
+
+-- Without the laws: interpolation is found exactly where each of its divisors has an inverse.
+module _ {A : Type 0} (F : Field A) where
+  infixl 65 _⊖_
+  infixl 70 _⊗_
+  open Field F using (𝟘, _⊖_, _⊗_, inverse)
+
+  there : (samples : List (Sample A)) → All (Found F) (divisors F samples) → (q : List A) × (interpolateFound F samples ≡ some q)
+  unfolding divisors interpolateFound andThen
+  there [] h = ([], refl)
+  there (s ∷ samples) h =
+      let t = there samples (h .1) in (
+        addPoly F (t .0) (scale F ((s .value ⊖ evaluate F (t .0) (s .point)) ⊗ h .0 .0) (vanishing F (points samples))),
+        (λ i. andThen (t .1 i) (λ q. andThen (h .0 .1 i) (λ u. some (addPoly F q (scale F ((s .value ⊖ evaluate F q (s .point)) ⊗ u) (vanishing F (points samples))))))),
+      )
+
+  divided : (samples : List (Sample A)) (q : List A) → interpolateFound F samples ≡ some q → All (Found F) (divisors F samples)
+  unfolding divisors interpolateFound
+  divided [] q e = tt
+  divided (s ∷ samples) q e =
+      let a = and-then-found (interpolateFound F samples) _ q e in
+      let b = and-then-found (inverse (evaluate F (vanishing F (points samples)) (s .point))) _ q (a .2) in
+      ((b .0, b .1), divided samples (a .0) (a .1))
+
+  pub divisors-exactly : (samples : List (Sample A)) → ((q : List A) × (interpolateFound F samples ≡ some q)) ↔
+      ((j : ℕ) → j < length (divisors F samples) → (u : A) × (inverse (getD (divisors F samples) j 𝟘) ≡ some u))
+  divisors-exactly samples = (
+    λ t. at-place (Found F) (divisors F samples) 𝟘 (divided samples (t .0) (t .1)),
+    λ h. there samples (all-places (Found F) (divisors F samples) 𝟘 h),
+  )
 
 module _ {A : Type 0} (F : Field A) (L : FieldLaws F) where
   infixl 65 _⊖_
@@ -55,6 +100,25 @@ module _ {A : Type 0} (F : Field A) (L : FieldLaws F) where
   unfolding correctedValueFound correctedValue andThen
   corrected-value-found g c x y apart off = λ i.
       andThen (interpolate-found g apart i) (λ q. andThen (off-found (points g) x off i) (λ u. some ((y ⊖ evaluate F q x) ⊗ u ⊗ evaluate F (geometric F c (length g)) x)))
+
+  -- at one of its points V has no inverse
+  on-none : (xs : List A) → All (λ x. inverse (evaluate F (vanishing F xs) x) ≡ none) xs
+  on-none xs = all-map xs (vanishing-roots F L xs) (λ x e. ap inverse e ∙ L .inverse-none 𝟘 (L .reduce-zero))
+
+  pub interpolate-none : (samples : List (Sample A)) (y : A) (j : ℕ) → j < length (points samples) →
+      interpolateFound F (record { point = getD (points samples) j 𝟘; value = y } ∷ samples) ≡ none
+  unfolding interpolateFound andThen
+  interpolate-none samples y j l =
+      (λ i. andThen (interpolateFound F samples) (λ q. andThen (at-place _ (points samples) 𝟘 (on-none (points samples)) j l i) (λ u.
+      some (addPoly F q (scale F ((y ⊖ evaluate F q (getD (points samples) j 𝟘)) ⊗ u) (vanishing F (points samples)))))))
+      ∙ and-then-none (interpolateFound F samples)
+
+  pub corrected-value-none : (g : List (Sample A)) (c y : A) (j : ℕ) → j < length (points g) → correctedValueFound F g c (getD (points g) j 𝟘) y ≡ none
+  unfolding correctedValueFound andThen
+  corrected-value-none g c y j l =
+      let x = getD (points g) j 𝟘 in
+      (λ i. andThen (interpolateFound F g) (λ q. andThen (at-place _ (points g) 𝟘 (on-none (points g)) j l i) (λ u. some ((y ⊖ evaluate F q x) ⊗ u ⊗ evaluate F (geometric F c (length g)) x))))
+      ∙ and-then-none (interpolateFound F g)
 
   pub corrected-poly-found : (g : List (Sample A)) (c : A) (f : List A) → Apart F (points g) → correctedPolyFound F g c f ≡ some (correctedPoly F g c f)
   unfolding correctedPolyFound correctedPoly whereFound

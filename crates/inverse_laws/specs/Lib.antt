@@ -4,6 +4,7 @@
 -- the vocabularies, and the page
 pub mod TakenApart
 pub mod Before
+pub mod Statements
 -- each inverse that is asked for is found: in any field with the laws, and in every file and every run
 pub mod Found
 pub mod FoundInFiles
