@@ -229,11 +229,15 @@ module _ {ed : Edition} {w f coins : List ℕ} (ok : Allowed ed w f coins) where
   abbrev file : List ℕ
   file = fileOf (honestStream ed w f coins)
 
-  pub honest-divisors : All (Nonzero (sheetOf ed (streamOf file))) (decidingDivisors ed (streamOf file))
+  -- the file passes reading and refusal 7
+  pub honest-passes : (reading ed file ≡ accepted) × (outTest (sheetOf ed (streamOf file)) (sheetLength ed) (layout (sheetOf ed (streamOf file))) (streamOf file) ≡ accepted)
   unfolding verifyIn deciding outTests
-  honest-divisors =
+  honest-passes =
       let read = verdict-passes (reading ed file) (deciding ed (streamOf file)) (ap (λ (v : Verdict). v .outcome) (completeness ed w f coins ok)) in
-      file-divisors ed file (read .0) (then-passes _ _ (verdict-passes (outTests (sheetOf ed (streamOf file)) (sheetLength ed) (layout (sheetOf ed (streamOf file))) (streamOf file)) _ (read .1) .0) .0)
+      (read .0, then-passes _ _ (verdict-passes (outTests (sheetOf ed (streamOf file)) (sheetLength ed) (layout (sheetOf ed (streamOf file))) (streamOf file)) _ (read .1) .0) .0)
+
+  pub honest-divisors : All (Nonzero (sheetOf ed (streamOf file))) (decidingDivisors ed (streamOf file))
+  honest-divisors = file-divisors ed file (honest-passes .0) (honest-passes .1)
 
   pub prover-divisors : (i : ℕ) → i < roundsOf (sheetOf ed w) → All (Nonzero (sheetOf ed w)) (divisors (sheetField (sheetOf ed w)) (samplesAt (sheetOf ed w) f coins (suc i)))
   prover-divisors i l =
