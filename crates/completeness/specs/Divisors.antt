@@ -10,7 +10,7 @@ use lib.ListN.{length, take, drop, replicate, length-drop, length-replicate, len
 use Rattle.definition.specs.Block.{fileOf, streamOf}
 use Rattle.definition.specs.Deciding.{answers, deciding, nextFunction, outInDomain, outTest, outTests}
 use Rattle.definition.specs.Domain.{domain, point, rootNumbers, shiftPoint}
-use Rattle.definition.specs.Field.{Element, Field, Spelling, begunBy, elementsIn, wordCount}
+use Rattle.definition.specs.Field.{Element, Field, Spelling, begunBy, wordCount}
 use Rattle.definition.specs.Layout.{Kind, coin, index, laterCount, layout, limit, message, outLayout, readRest, readTranscript, restLayout, roundCoins, roundLayout, wordsDue}
 use Rattle.definition.specs.Lists.{range}
 use Rattle.definition.specs.Polynomial.{Sample, distinct, evaluate, pair, points, vanishing}

@@ -1,7 +1,6 @@
--- The fields as they were are those of the definition with 0 for the inverse that is not there; so verify and prove over them are the definition's, for every file and
--- every input.
+-- The fields as they were are those of the definition with 0 for the inverse that is not there; so verify and prove over them are the definition's, for every
+-- file and every input.
 use Prim.Native.Nat.{ℕ, _+_, _-_, _*_, _%_, _<_}
-use mathlib.Core.Bool.{false}
 use mathlib.Core.List.{List, _++_, zipWith}
 use mathlib.Core.Option.{Option, none, some}
 use mathlib.Core.Path.{_≡_, refl, sym, ap, _∙_}
@@ -10,7 +9,7 @@ use lib.ListN.{length, drop, getD}
 use Rattle.definition.specs.Block.{blockCount, fileOf, streamOf}
 use Rattle.definition.specs.Deciding.{counted, decide, deciding, equalTest, outInDomain, outTest, outTests, repeatedOuts}
 use Rattle.definition.specs.Domain.{inDomain}
-use Rattle.definition.specs.Field.{Element, Field, Quad, Spelling, begunBy, elementsIn, embed, fieldIn, fieldOf, foundOr, four, inverseBy, norm, normFirst, normSecond, one, primeField, primeOf, quartic, quarticProduct, reciprocal, spellingOf, whereFound}
+use Rattle.definition.specs.Field.{Element, Field, Quad, Spelling, begunBy, elementsIn, embed, fieldIn, fieldOf, foundOr, inverseBy, norm, normFirst, normSecond, primeField, primeOf, quartic, quarticProduct, reciprocal, spellingOf, whereFound}
 use Rattle.definition.specs.Layout.{Kind, coin, coinKinds, index, layout, message, out, readCoins, readTranscript, wordsDue}
 use Rattle.definition.specs.Lists.{firstTrue}
 use Rattle.definition.specs.Prove.{coefficientsTest, coinDomainTest, coinEqualTest, coinsTest, finish, inputRangeTest, outputTest, proveIn, proveTests, sheetLengthTest}

@@ -1,5 +1,5 @@
--- In any field with the laws: where the points are different, and a point is off them, each inverse that interpolation, quotient and fold ask for is found, and what is
--- made of it is the definition's value; so it is of deciding and of the honest prover, where the coins are fair.
+-- In any field with the laws: where the points are different, and a point is off them, each inverse that interpolation, quotient and fold ask for is found, and
+-- what is made of it is the definition's value; so it is of deciding and of the honest prover, where the coins are fair.
 use Prim.Native.Nat.{ℕ, _<_}
 use mathlib.Core.Bool.{Bool, true, false, cond, not}
 use mathlib.Core.List.{List, [], _∷_, _++_, map, map-map}
@@ -7,7 +7,7 @@ use mathlib.Core.Logic.{_↔_}
 use mathlib.Core.Option.{Option, none, some}
 use mathlib.Core.Path.{_≡_, refl, sym, ap, _∙_, subst}
 use lib.ListN.{getD, length}
-use Rattle.definition.specs.Deciding.{Decision, Function, Place, answers, decide, decideFinal, decideRest, differences, nextFunction, ownPlace, placesOf, tableFunction, treated}
+use Rattle.definition.specs.Deciding.{Decision, Function, Place, answers, decide, decideFinal, decideRest, differences, nextFunction, placesOf, tableFunction, treated}
 use Rattle.definition.specs.Domain.{foldAt, point, rootNumbers, shiftPoint}
 use Rattle.definition.specs.Field.{Field, reciprocal, whereFound}
 use Rattle.definition.specs.Lists.{firstTrue}
@@ -22,7 +22,7 @@ use Rattle.algebra.specs.Different.{Apart, Differ}
 use Rattle.algebra.specs.Division.{vanishing-roots}
 use Rattle.algebra.specs.Divisors.{vanishing-differs}
 use Rattle.algebra.specs.Laws.{FieldLaws}
-use Rattle.completeness.specs.DecidingAccepts.{Admissible, AdmissibleRound, Foldable}
+use Rattle.completeness.specs.DecidingAccepts.{Admissible, Foldable}
 use Rattle.completeness.specs.Divisors as completeness
 use Rattle.completeness.specs.Divisors.{FairRest, Found}
 use Rattle.completeness.specs.Numbered.{divisors}

@@ -1,19 +1,19 @@
--- Verify and prove, with each inverse's answer taken apart, are found and are the definition's, for every file and every input: where a test refuses, no inverse is asked
--- for, and where refusals 1 to 7 are not given, or the coins are allowed, each one is there.
+-- Verify and prove, with each inverse's answer taken apart, are found and are the definition's, for every file and every input: where a test refuses, no inverse
+-- is asked for, and where refusals 1 to 7 are not given, or the coins are allowed, each one is there.
 use Prim.Native.Nat.{ℕ}
 use mathlib.Core.List.{List, _++_}
 use mathlib.Core.Option.{Option, some}
-use mathlib.Core.Path.{_≡_, refl, ap, _∙_}
+use mathlib.Core.Path.{_≡_, refl, ap}
 use lib.ListN.{drop}
 use Rattle.definition.specs.Block.{blockCount, fileOf, streamOf}
-use Rattle.definition.specs.Deciding.{counted, decide, deciding, equalTest, outTest, outTests}
-use Rattle.definition.specs.Field.{Element, elementsIn, whereFound}
+use Rattle.definition.specs.Deciding.{counted, deciding, equalTest, outTest, outTests}
+use Rattle.definition.specs.Field.{elementsIn, whereFound}
 use Rattle.definition.specs.Layout.{layout, readCoins, readTranscript, wordsDue}
-use Rattle.definition.specs.Prove.{done, finish, proveIn, proveTests, sheetLengthTest}
-use Rattle.definition.specs.Prover.{honest, honestStream}
+use Rattle.definition.specs.Prove.{finish, proveIn, proveTests, sheetLengthTest}
+use Rattle.definition.specs.Prover.{honestStream}
 use Rattle.definition.specs.Reading.{reading, sheetTest}
 use Rattle.definition.specs.Sheet.{Edition, firstLevel, sheetLength, sheetOf}
-use Rattle.definition.specs.Transcript.{Transcript, transcriptWords}
+use Rattle.definition.specs.Transcript.{transcriptWords}
 use Rattle.definition.specs.Verdict.{Outcome, Verdict, _then_, accepted, refused, thenVerdict}
 use Rattle.definition.specs.Verify.{verifyIn}
 use Rattle.layouts.specs.Levels.{sheetField, sheetRoot}
@@ -24,7 +24,7 @@ use Rattle.completeness.specs.Divisors.{stream-fair, stream-ready}
 use Rattle.completeness.specs.Numbered.{Allowed}
 use Rattle.completeness.specs.ProveAccepted.{done-allowed}
 use Rattle.inverse_laws.specs.Found.{decide-found, honest-found}
-use Rattle.inverse_laws.specs.TakenApart.{decideFound, decidingFound, finishFound, honestFound, honestStreamFound, proveFound, thenVerdictFound, verifyFound}
+use Rattle.inverse_laws.specs.TakenApart.{decidingFound, finishFound, honestStreamFound, proveFound, thenVerdictFound, verifyFound}
 
 -- a refusal asks for nothing
 verdict-found : (o : Outcome) (x : Option Verdict) (v : Verdict) → (o ≡ accepted → x ≡ some v) → thenVerdictFound o x ≡ some (thenVerdict o v)

@@ -1,5 +1,5 @@
--- All that verify and prove ask of a field, with 0 for the inverse that is not there and without: they ask for no inverse but by `reciprocal`, which is the same. It
--- holds in any field, of every list, transcript and coin; no law is asked for. Each definition is the same in its turn, as those that it names are.
+-- All that verify and prove ask of a field, with 0 for the inverse that is not there and without: they ask for no inverse but by `reciprocal`, which is the same.
+-- It holds in any field, of every list, transcript and coin; no law is asked for. Each definition is the same in its turn, as those that it names are.
 use Prim.Native.Nat.{ℕ, zero, suc, _+_, _*_, _/_, _^_}
 use mathlib.Core.Bool.{cond, not, _&&_, _||_}
 use mathlib.Core.List.{List, [], _∷_, _++_, map, tail}

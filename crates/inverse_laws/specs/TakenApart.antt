@@ -1,6 +1,6 @@
--- THE INVERSE'S ANSWER TAKEN APART (02, CR 3): the definition's text of interpolation, fold, quotient, verify and prove, in which each inverse that is asked for is taken
--- apart where it is answered. Where one inverse is none, so is the whole; there is no other none, and nothing stands for an inverse that is not there. It holds no lemma
--- and no proof.
+-- THE INVERSE'S ANSWER TAKEN APART (02, CR 3): the definition's text of interpolation, fold, quotient, verify and prove, in which each inverse that is asked for
+-- is taken apart where it is answered. Where one inverse is none, so is the whole; there is no other none, and nothing stands for an inverse that is not there.
+-- Each definition has the name of the definition's, with Found behind it. It holds no lemma and no proof.
 use Prim.Native.Nat.{ℕ}
 use mathlib.Core.Bool.{Bool, cond, not}
 use mathlib.Core.List.{List, [], _∷_, _++_, map}
