@@ -49,18 +49,18 @@ unfolding thenVerdict _then_
 then-outcome accepted v = refl
 then-outcome (refused n q) v = refl
 
-then-assoc : (a b c : Outcome) → ((a then b) then c) ≡ (a then (b then c))
+pub then-assoc : (a b c : Outcome) → ((a then b) then c) ≡ (a then (b then c))
 unfolding _then_
 then-assoc accepted b c = refl
 then-assoc (refused n q) b c = refl
 
-then-accepted : (o : Outcome) → o ≡ (o then accepted)
+pub then-accepted : (o : Outcome) → o ≡ (o then accepted)
 unfolding _then_
 then-accepted accepted = refl
 then-accepted (refused n q) = refl
 
 -- the limit of a part is that of its kind, and an out coin's kind alone is tested against a domain
-kind-limit : (h : Sheet) (x : Part) (j : ℕ) → j < partLength h x → limit (h .prime) (partKind h x j) ≡ partLimit h x
+pub kind-limit : (h : Sheet) (x : Part) (j : ℕ) → j < partLength h x → limit (h .prime) (partKind h x j) ≡ partLimit h x
 unfolding limit partKind partLimit partLength
 kind-limit h (words m) j l = refl
 kind-limit h (outs i) j l =
@@ -95,6 +95,27 @@ numbers-in-order = refl
 pub is-true : (b : Bool) → ((b ≡ true → ⊥) → ⊥) → b ≡ true
 is-true true h = refl
 is-true false h = absurd (h (λ e. true≢false (sym e)))
+
+-- 3: what the sheet's test finds, of any words, is a broken rule
+module _ (ed : Edition) (w : List ℕ) where
+  pub rule-sound : (j : ℕ) → j < length (map not (sheetRules ed w)) → getD (map not (sheetRules ed w)) j false ≡ true → RuleFault ed w (getD (testOrder ed) j 0)
+  rule-sound j l e =
+      let u : j < sheetLength ed = omega (arith, rules-length ed w) in
+      (turn-of-word ed j u .1, λ k. true≢false (sym k ∙ not-true _ (sym (rule-of-word ed w j u) ∙ e)))
+
+  pub rule-complete : (q : ℕ) → RuleFault ed w q → (j : ℕ) × (q ≡ getD (testOrder ed) j 0) × (j < length (map not (sheetRules ed w))) × (getD (map not (sheetRules ed w)) j false ≡ true)
+  rule-complete q p =
+      let t = word-of-turn ed q (p .0) in
+      (wordTurn ed q, sym (t .0), omega (arith, t .1, rules-length ed w), rule-at ed w (wordTurn ed q) (t .1) ∙ ap not (is-false _ (p .1)))
+
+  -- the rules are in the order of their words' turns
+  pub rules-rise : (i j : ℕ) → i < length (map not (sheetRules ed w)) → j < length (map not (sheetRules ed w)) →
+      turnOf ed 3 (getD (testOrder ed) i 0) < turnOf ed 3 (getD (testOrder ed) j 0) → i < j
+  unfolding turnOf
+  rules-rise i j li lj l =
+      let a = turn-of-word ed i (omega (arith, rules-length ed w)) in
+      let b = turn-of-word ed j (omega (arith, rules-length ed w)) in
+      omega (arith, a .0, b .0)
 
 module _ (ed : Edition) (file : List ℕ) where
   abbrev w : List ℕ
@@ -163,26 +184,6 @@ module _ (ed : Edition) (file : List ℕ) where
 
   check-complete : (q : ℕ) → CheckFault file q → (j : ℕ) × (q ≡ 0 + j) × (j < length (wrongChecks 0 (fileBlocks file))) × (getD (wrongChecks 0 (fileBlocks file)) j false ≡ true)
   check-complete q p = (q, sym (zero-add q), omega (arith, p .0, checks-length file), check-at file q (p .0) ∙ differs _ _ (p .1))
-
-  -- 3
-  rule-sound : (j : ℕ) → j < length (map not (sheetRules ed w)) → getD (map not (sheetRules ed w)) j false ≡ true → RuleFault ed w (getD (testOrder ed) j 0)
-  rule-sound j l e =
-      let u : j < sheetLength ed = omega (arith, rules-length ed w) in
-      (turn-of-word ed j u .1, λ k. true≢false (sym k ∙ not-true _ (sym (rule-of-word ed w j u) ∙ e)))
-
-  pub rule-complete : (q : ℕ) → RuleFault ed w q → (j : ℕ) × (q ≡ getD (testOrder ed) j 0) × (j < length (map not (sheetRules ed w))) × (getD (map not (sheetRules ed w)) j false ≡ true)
-  rule-complete q p =
-      let t = word-of-turn ed q (p .0) in
-      (wordTurn ed q, sym (t .0), omega (arith, t .1, rules-length ed w), rule-at ed w (wordTurn ed q) (t .1) ∙ ap not (is-false _ (p .1)))
-
-  -- the rules are in the order of their words' turns
-  rules-rise : (i j : ℕ) → i < length (map not (sheetRules ed w)) → j < length (map not (sheetRules ed w)) →
-      turnOf ed 3 (getD (testOrder ed) i 0) < turnOf ed 3 (getD (testOrder ed) j 0) → i < j
-  unfolding turnOf
-  rules-rise i j li lj l =
-      let a = turn-of-word ed i (omega (arith, rules-length ed w)) in
-      let b = turn-of-word ed j (omega (arith, rules-length ed w)) in
-      omega (arith, a .0, b .0)
 
   -- what has passed, for the tests after it
   module _ (whole : (q : ℕ) → LengthFault file q → ⊥) (ruled : (q : ℕ) → RuleFault ed w q → ⊥) where
@@ -431,7 +432,7 @@ module _ (ed : Edition) (file : List ℕ) where
       (exact-if P T numberTurn own-turn 1 0 wrongLength _ length-sound length-complete (λ n₁.
       exact-at P T numberTurn own-turn 2 0 (wrongChecks 0 (fileBlocks file)) _ (λ q. refl) check-sound check-complete (λ n₂.
       exact-places P T numberTurn own-turn 3 (λ j. getD (testOrder ed) j 0) (map not (sheetRules ed w)) (firstOf (testOrder ed) (map not (sheetRules ed w))) _
-      (first-of (testOrder ed) (map not (sheetRules ed w)) (omega (arith, rules-length ed w, rules-counted ed))) rules-rise rule-sound rule-complete (λ n₃.
+      (first-of (testOrder ed) (map not (sheetRules ed w)) (omega (arith, rules-length ed w, rules-counted ed))) (rules-rise ed w) (rule-sound ed w) (rule-complete ed w) (λ n₃.
       exact-if P T numberTurn own-turn 4 (blockCount (wordsDue ed h)) (not (eqb (blocksIn file) (blockCount (wordsDue ed h)))) _ (blocks-sound n₁ n₃) (blocks-complete n₁ n₃) (λ n₄.
       exact-at P T numberTurn own-turn 5 (sheetLength ed) (zipWith (outOfRange h) (layout h) (drop (sheetLength ed) w)) _ (λ q. refl) (range-sound n₁ n₃ n₄) (range-complete n₁ n₃ n₄) (λ n₅.
       exact-at P T numberTurn own-turn 6 (wordsDue ed h) (map (λ (x : ℕ). not (eqb x 0)) (drop (wordsDue ed h) w)) _ (λ q. refl) (fill-sound n₁ n₃ n₄) (fill-complete n₁ n₃ n₄) (λ n₆.
