@@ -1,5 +1,5 @@
 -- The converter's tests in their order: those of reading, whose first fault verify's theorems give, and after them its own.
-use Prim.Native.Nat.{ℕ, zero, suc, _+_, _*_, _≤_, _<_}
+use Prim.Native.Nat.{ℕ, zero, suc, _+_, _*_, _<_}
 use native.Mathlib.Nat.{zero-add}
 use native.Mathlib.Omega.{arith}
 use mathlib.Core.Bool.{Bool, true, false, not}
@@ -21,7 +21,7 @@ use Rattle.layouts.specs.Levels.{levelOf, roundsOf}
 use Rattle.layouts.specs.LevelsByNumber.{Paired}
 use Rattle.completeness.specs.Conversion.{backward-length, forward-length}
 use Rattle.completeness.specs.Converter.{folds-exactly}
-use Rattle.completeness.specs.Faults.{Fault, NoFault, dueOf, numberTurn, sheetIn, turnOf}
+use Rattle.completeness.specs.Faults.{Fault, NoFault, numberTurn, sheetIn, turnOf}
 use Rattle.completeness.specs.FirstFaults.{exact-at, exact-if, exact-none}
 use Rattle.completeness.specs.PartsByNumber.{due-is}
 use Rattle.completeness.specs.SameVerdict.{ordered}

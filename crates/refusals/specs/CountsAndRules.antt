@@ -1,5 +1,5 @@
 -- The tests that prove and encode share: a list's number of words, the sheet's rules and the room in the output.
-use Prim.Native.Nat.{ℕ, _*_, _<_}
+use Prim.Native.Nat.{ℕ, _*_}
 use native.Mathlib.Omega.{arith}
 use mathlib.Core.Bool.{true, not}
 use mathlib.Core.List.{List}
@@ -7,9 +7,7 @@ use mathlib.Core.Path.{_≡_, refl, sym, _∙_}
 use lib.Dec.{eqb, ltb}
 use lib.ListN.{length}
 use borrow.Author.Tests.{eq-eqb, eqb-true, lt-ltb, ltb-true}
-use Rattle.definition.specs.Reading.{sheetTest}
 use Rattle.definition.specs.Sheet.{Edition, sheetLength, sheetOf}
-use Rattle.definition.specs.Verdict.{accepted}
 use Rattle.layouts.specs.Lawful.{Lawful, lawful}
 use Rattle.layouts.specs.RulesByWord.{sheet-exactly}
 use Rattle.completeness.specs.Allowed.{sheet-enough}

@@ -7,6 +7,9 @@ pub mod Statements
 -- tests in a row find the first fault
 pub mod InOrder
 pub mod CountsAndRules
+-- the coins by part
+pub mod CoinParts
 -- the operations
 pub mod EncodeRefused
+pub mod ProveRefused
 pub mod ConverterRefused
