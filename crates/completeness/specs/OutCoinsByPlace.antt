@@ -133,8 +133,7 @@ module _ (h : Sheet) (kinds : List Kind) (start : ℕ → ℕ) (placed : Placed 
       let c = p .2 .0 in
       let u = p .2 .1 in
       let t = p .2 .2 in
-      let m = p .2 .3 in
-      (
+      let m = p .2 .3 in (
         omega (arith, t, domain-length, placed .inside i (wordsFor h c) (p .1) (first-word c u)),
         ap (λ (n : ℕ). getD domainTests n false) t ∙ domain-first i c (p .1) u
             ∙ point-inside F L (sheetRoot h) (levelOf h (suc i)) (m .0) (coinAt i c) (m .1) (ap (elementAt σ v) (sym t) ∙ m .2),
@@ -228,8 +227,7 @@ module _ (h : Sheet) (kinds : List Kind) (start : ℕ → ℕ) (placed : Placed 
       let none-before : a .0 ≡ 0 = omega (arith, a .1, single) in
       let two : 1 < s = omega (arith, r .1, single) in
       let t : j ≡ start i + wordsFor h 1 = r .2 ∙ ap (λ (m : ℕ). start i + wordsFor h m) single in
-      let same : coinAt i 1 ≡ coinAt i 0 = ap (elementAt σ v) (sym t) ∙ a .2 ∙ ap (coinAt i) none-before in
-      (
+      let same : coinAt i 1 ≡ coinAt i 0 = ap (elementAt σ v) (sym t) ∙ a .2 ∙ ap (coinAt i) none-before in (
         omega (arith, t, equal-length, placed .inside i (wordsFor h 1) (p .1) (first-word 1 two)),
         ap (λ (n : ℕ). getD equalTests n false) t ∙ equal-second i (p .1) two ∙ equal-same F L _ _ same,
       )

@@ -124,8 +124,7 @@ module _ (ed : Edition) (h : Sheet) (w : List ℕ) (L : FieldLaws (sheetField h)
       let p = OutCoinsByPlace.equal-sound h kinds start placed L (law .outs) (drop n₀ w) body-full j l e in
       let i = p .0 in
       let r = p .2 in
-      let a = r .3 .0 in
-      (
+      let a = r .3 .0 in (
         i,
         p .1,
         (

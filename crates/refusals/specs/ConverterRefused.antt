@@ -12,13 +12,14 @@ use borrow.Author.Tests.{eq-eqb, eqb-true}
 use Rattle.definition.specs.Block.{blockCount, fileOf, streamOf}
 use Rattle.definition.specs.Convert.{backward, convert, foldsTest, forward, toEdition1, toEdition2}
 use Rattle.definition.specs.Lists.{firstTrue}
-use Rattle.definition.specs.Prove.{outputTest, refusal}
+use Rattle.definition.specs.Prove.{done, outputTest, refusal}
 use Rattle.definition.specs.Reading.{reading}
 use Rattle.definition.specs.Sheet.{Edition, Sheet, edition1, edition2, sheetLength}
 use Rattle.definition.specs.Verdict.{Outcome, _then_, accepted, refuseAt, refuseIf, refused}
 use Rattle.list_laws.specs.Lists.{getD-map}
 use Rattle.layouts.specs.Levels.{levelOf, roundsOf}
 use Rattle.layouts.specs.LevelsByNumber.{Paired}
+use Rattle.layouts.specs.Tests.{then-passes}
 use Rattle.completeness.specs.Conversion.{backward-length, forward-length}
 use Rattle.completeness.specs.Converter.{folds-exactly}
 use Rattle.completeness.specs.Faults.{Fault, NoFault, numberTurn, sheetIn, turnOf}
@@ -29,8 +30,8 @@ use Rattle.completeness.specs.TestsByNumber.{differ, differs}
 use Rattle.completeness.specs.TwoSteps.{reading-accepted-exactly, reading-refused-exactly}
 use Rattle.completeness.specs.VerifyExactly.{is-true, then-accepted, then-assoc}
 use Rattle.refusals.specs.CountsAndRules.{blocks-complete, blocks-sound}
-use Rattle.refusals.specs.InOrder.{ExactRow, FaultOf, answer-refused, named, named-at, named-if, next, numberOf, own, placeTurn, row-refused}
-use Rattle.refusals.specs.InputFaults.{FirstFailure, FoldFault, OutputFault, Test, blocksDue, readingRow, test, testAt, toEdition1Row, toEdition2Row}
+use Rattle.refusals.specs.InOrder.{ExactRow, FaultOf, answer-done, answer-refused, named, named-at, named-if, next, numberOf, own, placeTurn, row-accepted}
+use Rattle.refusals.specs.InputFaults.{FirstFailure, FoldFault, NoFailure, OutputFault, Test, blocksDue, readingRow, test, testAt, toEdition1Row, toEdition2Row}
 
 -- the numbers of reading go up from 1, its turns from 0
 turned : Outcome → Outcome
@@ -159,10 +160,16 @@ module _ (file output : List ℕ) where
 
   pub to-2-refused-exactly : (n q : ℕ) → (toEdition2 file output .answer ≡ refusal n q) ↔ FirstFailure edition1 (toEdition2Row file output) n q
   unfolding toEdition2 convert
-  to-2-refused-exactly n q =
-      let a = answer-refused tests2 due2 (fileOf words2) output n q in
-      let r = row-refused edition1 (toEdition2Row file output) tests2 row2 same-2 exact-2 (sheet-places edition1 file after2 other-2) n q in
-      (λ e. r .0 (a .0 e), λ k. a .1 (r .1 k))
+  to-2-refused-exactly = answer-refused edition1 (toEdition2Row file output) tests2 row2 same-2 exact-2 (sheet-places edition1 file after2 other-2) due2 (fileOf words2) output
+
+  passed-2 : NoFailure (toEdition2Row file output) → reading edition1 file ≡ accepted
+  passed-2 k = then-passes (reading edition1 file) _ (row-accepted edition1 (toEdition2Row file output) tests2 row2 same-2 exact-2 (sheet-places edition1 file after2 other-2) .1 k) .0
+
+  pub to-2-done-exactly : (n : ℕ) → (toEdition2 file output .answer ≡ done n) ↔ ((n ≡ blocksDue edition2 (sheetIn edition1 file)) × NoFailure (toEdition2Row file output))
+  unfolding toEdition2 convert
+  to-2-done-exactly =
+      answer-done edition1 (toEdition2Row file output) tests2 row2 same-2 exact-2 (sheet-places edition1 file after2 other-2) due2 (fileOf words2) output (blocksDue edition2 (sheetIn edition1 file))
+      (λ k. due-2 (passed-2 k))
 
 -- ---- to edition 1
 
@@ -242,7 +249,15 @@ module _ (file output : List ℕ) where
 
   pub to-1-refused-exactly : (n q : ℕ) → (toEdition1 file output .answer ≡ refusal n q) ↔ FirstFailure edition2 (toEdition1Row file output) n q
   unfolding toEdition1 convert
-  to-1-refused-exactly n q =
-      let a = answer-refused tests1 due1 (fileOf words1) output n q in
-      let r = row-refused edition2 (toEdition1Row file output) tests1 row1 same-1 exact-1 (sheet-places edition2 file after1 other-1) n q in
-      (λ e. r .0 (a .0 e), λ k. a .1 (r .1 k))
+  to-1-refused-exactly = answer-refused edition2 (toEdition1Row file output) tests1 row1 same-1 exact-1 (sheet-places edition2 file after1 other-1) due1 (fileOf words1) output
+
+  passed-1 : NoFailure (toEdition1Row file output) → reading edition2 file ≡ accepted
+  passed-1 k =
+      let both = row-accepted edition2 (toEdition1Row file output) tests1 row1 same-1 exact-1 (sheet-places edition2 file after1 other-1) .1 k in
+      then-passes (reading edition2 file) _ (then-passes (reading edition2 file then foldsTest h) _ both .0) .0
+
+  pub to-1-done-exactly : (n : ℕ) → (toEdition1 file output .answer ≡ done n) ↔ ((n ≡ blocksDue edition1 (sheetIn edition2 file)) × NoFailure (toEdition1Row file output))
+  unfolding toEdition1 convert
+  to-1-done-exactly =
+      answer-done edition2 (toEdition1Row file output) tests1 row1 same-1 exact-1 (sheet-places edition2 file after1 other-1) due1 (fileOf words1) output (blocksDue edition1 (sheetIn edition2 file))
+      (λ k. due-1 (passed-1 k) (λ q p. k 6 q p))

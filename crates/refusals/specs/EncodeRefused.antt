@@ -10,7 +10,7 @@ use lib.Dec.{eqb, ltb}
 use lib.ListN.{length, getD, List·getD-eq-default}
 use borrow.Author.Tests.{le-leb, leb-true}
 use Rattle.definition.specs.Lists.{firstOf, firstTrue}
-use Rattle.definition.specs.Prove.{coefficientsTest, encode, encodeTests, inputRangeTest, outputTest, refusal, sheetLengthTest}
+use Rattle.definition.specs.Prove.{coefficientsTest, done, encode, encodeTests, inputRangeTest, outputTest, refusal, sheetLengthTest}
 use Rattle.definition.specs.Prover.{tableWords}
 use Rattle.definition.specs.Reading.{outOfRange, sheetTest}
 use Rattle.definition.specs.Sheet.{Sheet, edition1, sheetOf, sheetRules, testOrder}
@@ -23,8 +23,8 @@ use Rattle.completeness.specs.Faults.{NoFault, turnOf}
 use Rattle.completeness.specs.FirstFaults.{exact-at, exact-if, exact-places}
 use Rattle.completeness.specs.VerifyExactly.{rule-complete, rule-sound, rules-rise, then-accepted}
 use Rattle.refusals.specs.CountsAndRules.{count-complete, count-sound, counted, output-complete, output-sound}
-use Rattle.refusals.specs.InOrder.{ExactRow, FaultOf, answer-refused, named, named-at, named-if, next, numberOf, own, placeTurn, row-refused}
-use Rattle.refusals.specs.InputFaults.{CoefficientFault, CountFault, FirstFailure, Test, encodeRow, test, testAt}
+use Rattle.refusals.specs.InOrder.{ExactRow, FaultOf, answer-done, answer-refused, named, named-at, named-if, next, numberOf, own, placeTurn}
+use Rattle.refusals.specs.InputFaults.{CoefficientFault, CountFault, FirstFailure, NoFailure, Test, encodeRow, test, testAt}
 
 module _ (w f output : List ℕ) where
   abbrev h : Sheet
@@ -99,7 +99,8 @@ module _ (w f output : List ℕ) where
 
   pub encode-refused-exactly : (n q : ℕ) → (encode w f output .answer ≡ refusal n q) ↔ FirstFailure edition1 (encodeRow w f output) n q
   unfolding encode
-  encode-refused-exactly n q =
-      let a = answer-refused tests due (tableWords (sheetOf edition1 w) f) output n q in
-      let r = row-refused edition1 (encodeRow w f output) tests row same exact sheet-places n q in
-      (λ e. r .0 (a .0 e), λ k. a .1 (r .1 k))
+  encode-refused-exactly = answer-refused edition1 (encodeRow w f output) tests row same exact sheet-places due (tableWords (sheetOf edition1 w) f) output
+
+  pub encode-done-exactly : (n : ℕ) → (encode w f output .answer ≡ done n) ↔ ((n ≡ wordsFor (sheetOf edition1 w) (sheetOf edition1 w .size)) × NoFailure (encodeRow w f output))
+  unfolding encode
+  encode-done-exactly = answer-done edition1 (encodeRow w f output) tests row same exact sheet-places due (tableWords (sheetOf edition1 w) f) output due (λ k. refl)

@@ -18,7 +18,7 @@ use Rattle.layouts.specs.RulesByWord.{turns-differ}
 use Rattle.completeness.specs.Faults.{turnOf}
 use Rattle.completeness.specs.FirstFaults.{Exact, accepted-then, first-then, none-then, refused-then}
 use Rattle.completeness.specs.ProveAccepted.{finish-done}
-use Rattle.refusals.specs.InputFaults.{FirstFailure, Test, testAt}
+use Rattle.refusals.specs.InputFaults.{FirstFailure, NoFailure, Test, testAt}
 
 -- an outcome of tests that are called by their turns, with their numbers
 unfoldable pub named : (ℕ → ℕ) → Outcome → Outcome
@@ -54,6 +54,15 @@ module _ (number : ℕ → ℕ) where
   unfolding named
   named-accepted accepted e = refl
   named-accepted (refused t r) e = let z : _≡_ {A = ℕ} 0 1 = cc in absurd (omega arith)
+
+-- an operation refuses as its tests do
+finish-refused : (o : Outcome) (count n q : ℕ) (written output : List ℕ) → (finish o count written output .answer ≡ refusal n q) ↔ (o ≡ refused n q)
+unfolding finish
+finish-refused o count n q written output = (λ e. forth o e, λ e. ap (λ (x : Outcome). finish x count written output .answer) e)
+  where
+    forth : (x : Outcome) → finish x count written output .answer ≡ refusal n q → x ≡ refused n q
+    forth accepted e = let z : _≡_ {A = ℕ} 0 1 = cc in absurd (omega arith)
+    forth (refused m r) e = let number : m ≡ n = cc in let place : r ≡ q = cc in λ i. refused (number i) (place i)
 
 -- no two tests have one turn
 pub own : (m n : ℕ) → suc m ≡ suc n → m ≡ n
@@ -91,7 +100,7 @@ module _ (ed : Edition) (tests : List Test) where
         go true s f = let three = eqb-true (numberOf t) 3 s in turns-differ ed q r (rules t q three p) (rules t r three u) f
         go false s f = f
 
-    pub row-refused : (n q : ℕ) → (o ≡ refused n q) ↔ FirstFailure ed tests n q
+    row-refused : (n q : ℕ) → (o ≡ refused n q) ↔ FirstFailure ed tests n q
     unfolding named
     row-refused n q = (
       λ e. let s = named-refused numberOf row n q (same ∙ e) in
@@ -108,23 +117,23 @@ module _ (ed : Edition) (tests : List Test) where
           ∙ ap (λ (m : ℕ). refused m q) (f .number·is),
     )
 
-    pub row-accepted : (o ≡ accepted) ↔ ((t q : ℕ) → FaultOf t q → ⊥)
+    pub row-accepted : (o ≡ accepted) ↔ NoFailure tests
     unfolding named
     row-accepted = (
       λ e. accepted-then FaultOf placeTurn suc own row exact (λ t q p. omega arith) apart (named-accepted numberOf row (same ∙ e)),
       λ k. sym same ∙ ap (named numberOf) (none-then FaultOf placeTurn suc own row exact (λ t q p. omega arith) apart k),
     )
 
--- what an operation answers after its tests
-module _ (o : Outcome) (count : ℕ) (written output : List ℕ) where
-  pub answer-refused : (n q : ℕ) → (finish o count written output .answer ≡ refusal n q) ↔ (o ≡ refused n q)
-  unfolding finish
-  answer-refused n q = (λ e. forth o e, λ e. ap (λ (x : Outcome). finish x count written output .answer) e)
-    where
-      forth : (x : Outcome) → finish x count written output .answer ≡ refusal n q → x ≡ refused n q
-      forth accepted e = let z : _≡_ {A = ℕ} 0 1 = cc in absurd (omega arith)
-      forth (refused m r) e = let number : m ≡ n = cc in let place : r ≡ q = cc in λ i. refused (number i) (place i)
+    -- what an operation answers after its tests
+    module _ (count : ℕ) (written output : List ℕ) where
+      pub answer-refused : (n q : ℕ) → (finish o count written output .answer ≡ refusal n q) ↔ FirstFailure ed tests n q
+      answer-refused n q = let a = finish-refused o count n q written output in let r = row-refused n q in (λ e. r .0 (a .0 e), λ f. a .1 (r .1 f))
 
-  pub answer-done : (n : ℕ) → (finish o count written output .answer ≡ done n) ↔ ((o ≡ accepted) × (count ≡ n))
-  unfolding finish
-  answer-done n = (finish-done o count n written output, λ e. ap (λ (x : Outcome). finish x count written output .answer) (e .0) ∙ ap done (e .1))
+      pub answer-done : (due : ℕ) → (NoFailure tests → count ≡ due) → (n : ℕ) → (finish o count written output .answer ≡ done n) ↔ ((n ≡ due) × NoFailure tests)
+      unfolding finish
+      answer-done due size n = (
+        λ e. let d = finish-done o count n written output e in
+            let k = row-accepted .0 (d .0) in
+            (sym (d .1) ∙ size k, k),
+        λ k. ap (λ (x : Outcome). finish x count written output .answer) (row-accepted .1 (k .1)) ∙ ap done (size (k .1) ∙ sym (k .0)),
+      )

@@ -32,6 +32,10 @@ pub record FirstFailure (ed : Edition) (tests : List Test) (n q : ℕ) : Type 0 
   pub place·first : (r : ℕ) → turnOf ed n r < turnOf ed n q → testAt tests at .Fault r → ⊥
   pub test·first : (t r : ℕ) → t < at → testAt tests t .Fault r → ⊥
 
+-- no test of a row has a fault
+abbrev pub NoFailure : List Test → Type 0
+NoFailure tests = (t q : ℕ) → testAt tests t .Fault q → ⊥
+
 -- THE COINS BY PART. A part of the stream that is of coins, and the position of its first word in the coin list; the number of words of the coins due.
 abbrev pub CoinPart : Sheet → Part → Type 0
 CoinPart h (words m) = ⊥

@@ -17,7 +17,7 @@ use Rattle.definition.specs.Deciding.{outInDomain, repeatedOuts}
 use Rattle.definition.specs.Field.{begunBy}
 use Rattle.definition.specs.Layout.{Kind, coinKinds, layout, limit, message, wordsDue}
 use Rattle.definition.specs.Lists.{firstOf, firstTrue}
-use Rattle.definition.specs.Prove.{coefficientsTest, coinDomainTest, coinEqualTest, coinsTest, inputRangeTest, outputTest, proveIn, proveTests, refusal, sheetLengthTest}
+use Rattle.definition.specs.Prove.{coefficientsTest, coinDomainTest, coinEqualTest, coinsTest, done, inputRangeTest, outputTest, proveIn, proveTests, refusal, sheetLengthTest}
 use Rattle.definition.specs.Prover.{honestStream}
 use Rattle.definition.specs.Reading.{outOfRange, sheetTest}
 use Rattle.definition.specs.Sheet.{Edition, Sheet, sheetLength, sheetOf, sheetRules, testOrder}
@@ -36,9 +36,9 @@ use Rattle.completeness.specs.TestsByNumber.{zip-at, zip-length}
 use Rattle.completeness.specs.VerifyExactly.{kind-limit, rule-complete, rule-sound, rules-rise, then-accepted}
 use Rattle.refusals.specs.CoinParts.{coin-below, coin-kind, every-coin, kinds-due, placed}
 use Rattle.refusals.specs.CountsAndRules.{blocks-complete, blocks-sound, count-complete, count-sound, counted, ruled-sheet}
-use Rattle.refusals.specs.InOrder.{ExactRow, FaultOf, answer-refused, named, named-at, named-if, next, numberOf, own, placeTurn, row-refused}
+use Rattle.refusals.specs.InOrder.{ExactRow, FaultOf, answer-done, answer-refused, named, named-at, named-if, next, numberOf, own, placeTurn}
 use Rattle.refusals.specs.InputFaults
-use Rattle.refusals.specs.InputFaults.{CoinDomainFault, CoinEqualFault, CoinPart, CountFault, FirstFailure, InputFault, Test, blocksDue, coinStart, coinsDue, proveRow, test, testAt}
+use Rattle.refusals.specs.InputFaults.{CoinDomainFault, CoinEqualFault, CoinPart, CountFault, FirstFailure, InputFault, NoFailure, Test, blocksDue, coinStart, coinsDue, proveRow, test, testAt}
 
 -- ---- 5: coefficients and coins that are as many as are due
 
@@ -223,7 +223,9 @@ module _ (ed : Edition) (w f coins output : List ℕ) where
 
   pub prove-refused-exactly : (n q : ℕ) → (proveIn ed w f coins output .answer ≡ refusal n q) ↔ FirstFailure ed (proveRow ed w f coins output) n q
   unfolding proveIn
-  prove-refused-exactly n q =
-      let a = answer-refused tests place (fileOf (honestStream ed w f coins)) output n q in
-      let r = row-refused ed (proveRow ed w f coins output) tests row same exact sheet-places n q in
-      (λ e. r .0 (a .0 e), λ k. a .1 (r .1 k))
+  prove-refused-exactly = answer-refused ed (proveRow ed w f coins output) tests row same exact sheet-places place (fileOf (honestStream ed w f coins)) output
+
+  pub prove-done-exactly : (n : ℕ) → (proveIn ed w f coins output .answer ≡ done n) ↔ ((n ≡ blocksDue ed (sheetOf ed w)) × NoFailure (proveRow ed w f coins output))
+  unfolding proveIn
+  prove-done-exactly =
+      answer-done ed (proveRow ed w f coins output) tests row same exact sheet-places place (fileOf (honestStream ed w f coins)) output (blocksDue ed (sheetOf ed w)) (λ k. place-is (k 0) (k 1))
