@@ -1,5 +1,5 @@
--- Tests 7 and 14 by place, of a list of kinds with its words, a stream's or a coin list's: given where the out coins of each round begin in it, what the tests find is an out coin that is
--- a point of its domain, and one that is equal to one before it.
+-- Tests 7 and 14 by place, of a list of kinds with its words, a stream's or a coin list's: given where the out coins of each round begin in it,
+-- what the tests find is an out coin that is a point of its domain, and one that is equal to one before it.
 use Prim.Native.Nat.{ℕ, zero, suc, _+_, _-_, _≤_, _<_}
 use native.Mathlib.Omega.{arith}
 use mathlib.Core.Bool.{Bool, true, false, true≢false}
@@ -20,7 +20,7 @@ use Rattle.completeness.specs.EqualOuts.{at-next, outAt, repeated-at, re
 use Rattle.completeness.specs.PartsByNumber.{outs-cases, outs-first, outs-other, outs-start}
 use Rattle.completeness.specs.TestsByNumber.{domain-point, equal-same, point-inside, zip-at, zip-length}
 
--- the out coins of round i + 1 stand from `start i` on, with their kinds; there are no others; and no out coin of an earlier round counts as the one before the first
+-- the out coins of round i + 1 stand from `start i` on, with their kinds; there are no others; and the first of a round has none before it
 pub record Placed (h : Sheet) (kinds : List Kind) (start : ℕ → ℕ) : Type 0 where
   pub inside : (i m : ℕ) → i < roundsOf h → m < wordsFor h (outCoinCount h) → start i + m < length kinds
   pub kind : (i m : ℕ) → i < roundsOf h → m < wordsFor h (outCoinCount h) → getD kinds (start i + m) message ≡ getD (outLayout (h .spelling) (outCoinCount h) (levelOf h (suc i))) m message

@@ -1,4 +1,5 @@
--- The coins by part are all words of a coin list, each with the kind that the layout's coins have there; so the tests on out coins find in it what they find in a stream.
+-- The coins by part are all words of a coin list, each with the kind that the layout's coins have there; so the tests on out coins find in it
+-- what they find in a stream.
 use Prim.Native.Nat.{ℕ, zero, suc, _+_, _-_, _≤_, _<_}
 use native.Mathlib.Decide.{decLt}
 use native.Mathlib.Nat.{add-zero, zero-add}

@@ -1,4 +1,5 @@
--- A row of tests refuses exactly with its first fault: FirstFaults of the crate `completeness`, where tests are told apart by their turns, since two of them may have one number.
+-- A row of tests refuses exactly with its first fault, by FirstFaults of the crate `completeness`. Tests are told apart by their turns, since two
+-- of them may have one number.
 use Prim.Native.Nat.{ℕ, suc, _<_}
 use native.Mathlib.Omega.{arith}
 use mathlib.Core.Bool.{Bool, true, false, cond}

@@ -1,6 +1,7 @@
--- THE VOCABULARY OF THE PAGE ON REFUSALS: the tests of prove, encode and the converter in the order in which they are made, and what a fault of each is, by number. It holds no
--- lemma and no proof. A file's faults, a broken rule, the parts of a stream with their lengths and limits, and the turns of places are verify's, of Faults (crate
--- `completeness`); a sheet h has the levels and rounds of Levels (crate `layouts`). Lengths and positions count words, but those of a file and its blocks, which count bytes.
+-- THE VOCABULARY OF THE PAGE ON REFUSALS: the tests of prove, encode and the converter in the order in which they are made, and what a fault of
+-- each is, by number. It holds no lemma and no proof. A file's faults, a broken rule, the parts of a stream with their lengths and limits, and the
+-- turns of places are verify's, of Faults (crate `completeness`); a sheet h has the levels and rounds of Levels (crate `layouts`). Lengths and
+-- positions count words; files, and outputs that take blocks, are of bytes.
 use Prim.Native.Nat.{ℕ, zero, suc, _+_, _*_, _≤_, _<_}
 use mathlib.Core.List.{List, [], _∷_}
 use mathlib.Core.Path.{_≡_}
@@ -23,8 +24,8 @@ test number Fault = record { number = number; Fault = Fault }
 abbrev pub testAt : List Test → ℕ → Test
 testAt tests t = getD tests t (test 0 NoFault)
 
--- The first fault of a row is of number n and at place q: some test of number n has a fault there, that test has none at a place of an earlier turn, and no test before it has any.
--- (Places go up, but for the words of a sheet, which have turns of their own.)
+-- The first fault of a row is of number n and at place q: some test of number n has a fault there, that test has none at a place of an earlier
+-- turn, and no test before it has any. (Places go up, but for the words of a sheet, which have turns of their own.)
 pub record FirstFailure (ed : Edition) (tests : List Test) (n q : ℕ) : Type 0 where
   pub at : ℕ
   pub number·is : testAt tests at .number ≡ n

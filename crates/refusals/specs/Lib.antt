@@ -1,5 +1,6 @@
--- REFUSED EXACTLY: when prove, encode and the converter refuse, with which number and at which place. Statements is the page, over the vocabulary InputFaults. Beneath it stand Faults
--- and Numbered of the crate `completeness`, and Levels and PlainRules of the crate `layouts`. The other files are proofs.
+-- REFUSED EXACTLY: when prove, encode and the converter refuse, with which number and at which place. Statements is the page, over the vocabulary
+-- InputFaults. Beneath it stand Faults and Numbered of the crate `completeness`, and Levels and PlainRules of the crate `layouts`. The other files
+-- are proofs.
 
 -- the vocabulary, and the page
 pub mod InputFaults

@@ -1,8 +1,11 @@
--- THE PAGE ON REFUSALS. Document 01: "Every operation makes its tests in the order given here and stops at the first that fails; within one test the first faulty place counts." Of
--- verify this is `refused-exactly` of the page Verdicts (crate `completeness`); here it is of the operations that write. It holds theorems and nothing else; each proof is one citation.
--- To read it: the definition (crate `definition`) and the vocabulary InputFaults.antt, which has the tests of each operation as a row and says by number what a fault of each is, with
--- Faults.antt and Numbered.antt of the crate `completeness` and Levels.antt and PlainRules.antt of the crate `layouts` beneath it.
--- All theorems are of every list of words or bytes, of any length and content, and of both spellings; prove's are of both editions, encode's of edition 1, whose sheets it takes.
+-- THE PAGE ON REFUSALS. Document 01: "Every operation makes its tests in the order given here and stops at the first that fails; within one test the
+-- first faulty place counts." Of verify this is `refused-exactly` of the page Verdicts (crate `completeness`); here it is of the operations that
+-- write. It holds theorems and nothing else; each proof is one citation.
+-- To read it: the definition (crate `definition`) and the vocabulary InputFaults.antt, which has the tests of each operation as a row and says by
+-- number what a fault of each is, with Faults.antt and Numbered.antt of the crate `completeness` and Levels.antt and PlainRules.antt of the crate
+-- `layouts` beneath it.
+-- All theorems are of every list of words or bytes, of any length and content, and of both spellings; prove's are of both editions, encode's of
+-- edition 1, whose sheets it takes.
 use Prim.Native.Nat.{ℕ, _+_, _<_}
 use mathlib.Core.List.{List}
 use mathlib.Core.Logic.{_↔_}
@@ -41,7 +44,8 @@ to-1-refused-exactly = ConverterRefused.to-1-refused-exactly
 pub of-row : (ed : Edition) (tests : List Test) (n q : ℕ) → FirstFailure ed tests n q → (t : ℕ) × (t < length tests) × (testAt tests t .number ≡ n)
 of-row = InOrder.of-row
 
--- 2. DONE EXACTLY (document 01: "Done: number of blocks", and of encode "the number n0"). An operation is done exactly when no test of its row has a fault, and then with the size due.
+-- 2. DONE EXACTLY (document 01: "Done: number of blocks", and of encode "the number n0"). An operation is done exactly when no test of its row has
+-- a fault, and then with the size due.
 pub prove-done-exactly : (ed : Edition) (w f coins output : List ℕ) (n : ℕ) →
     (proveIn ed w f coins output .answer ≡ done n) ↔ ((n ≡ blocksDue ed (sheetOf ed w)) × NoFailure (proveRow ed w f coins output))
 prove-done-exactly = ProveRefused.prove-done-exactly
@@ -58,7 +62,8 @@ pub to-1-done-exactly : (file output : List ℕ) (n : ℕ) →
     (toEdition1 file output .answer ≡ done n) ↔ ((n ≡ blocksDue edition1 (sheetIn edition2 file)) × NoFailure (toEdition1Row file output))
 to-1-done-exactly = ConverterRefused.to-1-done-exactly
 
--- 3. WHAT STANDS IN A COIN LIST (document 01: "A coin list has them in this order"). Every position of a full one is that of a word of a part, and every word of a part has one.
+-- 3. WHAT STANDS IN A COIN LIST (document 01: "A coin list has them in this order"). Every position of a full one is that of a word of a part, and
+-- every word of a part has one.
 pub every-coin-in-part : (h : Sheet) (n : ℕ) → n < coinsDue h → (x : Part) × CoinPart h x × ((j : ℕ) × (j < partLength h x) × (n ≡ coinStart h x + j))
 every-coin-in-part = CoinParts.every-coin
 
