@@ -71,10 +71,10 @@ module _ (w f output : List ℕ) where
     range-sound : (j : ℕ) → j < length ranges → getD ranges j false ≡ true → CoefficientFault h f (0 + j)
     range-sound j l e =
         let u : j < length f = omega (arith, tested-length w f output n) in
-        subst (CoefficientFault h f) (sym (zero-add j)) (u, leb-true _ _ (sym (coefficient-at w f output j n u) ∙ e))
+        subst (CoefficientFault h f) (sym (zero-add j)) (u, leb-true (h .prime) (getD f j 0) (sym (coefficient-at w f output j n u) ∙ e))
 
     range-complete : (q : ℕ) → CoefficientFault h f q → (j : ℕ) × (q ≡ 0 + j) × (j < length ranges) × (getD ranges j false ≡ true)
-    range-complete q p = (q, sym (zero-add q), omega (arith, p .0, tested-length w f output n), coefficient-at w f output q n (p .0) ∙ le-leb _ _ (p .1))
+    range-complete q p = (q, sym (zero-add q), omega (arith, p .0, tested-length w f output n), coefficient-at w f output q n (p .0) ∙ le-leb (h .prime) (getD f q 0) (p .1))
 
   none-past : (t q : ℕ) → 6 ≤ suc t → P t q → ⊥
   none-past t q l p = subst (λ (x : Test). x .Fault q) (List·getD-eq-default (encodeRow w f output) (test 0 NoFault) {n = t} (omega arith)) p

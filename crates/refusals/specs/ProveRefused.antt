@@ -84,7 +84,7 @@ module _ (h : Sheet) (law : Lawful h) (f coins : List ℕ) (many : length f ≡ 
   range-sound j l e = subst (InputFault h f coins) (sym (zero-add j)) (go (decLt j (length f)))
     where
       go : Dec (j < length f) → InputFault h f coins j
-      go (yes u) = InputFaults.InputFault.coefficient (u, leb-true _ _ (sym (coefficient-range j u) ∙ e))
+      go (yes u) = InputFaults.InputFault.coefficient (u, leb-true (h .prime) (getD f j 0) (sym (coefficient-range j u) ∙ e))
       go (no u) =
           let p = every-coin h (j - length f) (omega (arith, ranges-length, due)) in
           let s : j ≡ length f + (coinStart h (p .0) + p .2 .0) = omega (arith, p .2 .2) in
@@ -92,7 +92,7 @@ module _ (h : Sheet) (law : Lawful h) (f coins : List ℕ) (many : length f ≡ 
           (leb-true _ _ (sym (part-range (p .0) (p .1) (p .2 .0) (p .2 .1)) ∙ ap (λ (n : ℕ). getD ranges n false) (sym s) ∙ e))
 
   range-complete : (q : ℕ) → InputFault h f coins q → (j : ℕ) × (q ≡ 0 + j) × (j < length ranges) × (getD ranges j false ≡ true)
-  range-complete q (InputFaults.InputFault.coefficient p) = (q, sym (zero-add q), omega (arith, p .0, ranges-length), coefficient-range q (p .0) ∙ le-leb _ _ (p .1))
+  range-complete q (InputFaults.InputFault.coefficient p) = (q, sym (zero-add q), omega (arith, p .0, ranges-length), coefficient-range q (p .0) ∙ le-leb (h .prime) (getD f q 0) (p .1))
   range-complete q (InputFaults.InputFault.coin x d j l s o) = (
     q,
     sym (zero-add q),
