@@ -1,0 +1,4 @@
+pub mod WordRules
+pub mod EachRule
+pub mod SheetExactly
+pub mod RootsWhole
