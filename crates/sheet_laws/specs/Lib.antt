@@ -2,3 +2,6 @@ pub mod WordRules
 pub mod EachRule
 pub mod SheetExactly
 pub mod RootsWhole
+pub mod DomainPoints
+pub mod Cosets
+pub mod SheetDomains
