@@ -5,3 +5,4 @@ pub mod RootsWhole
 pub mod DomainPoints
 pub mod Cosets
 pub mod SheetDomains
+pub mod Refusal3

@@ -22,7 +22,7 @@ use Rattle.sheet_laws.specs.WordRules.{FirstBroken, PlainRule}
 
 module _ (ed : Edition) (w : List ℕ) where
   -- what a place found says: of a word, that it is the first by its turn that breaks its rule; of none, that each word keeps its own
-  abbrev Found : Option ℕ → Type 0
+  abbrev pub Found : Option ℕ → Type 0
   Found none = (i : ℕ) → i < sheetLength ed → KeepsRule ed w i
   Found (some p) = (p < sheetLength ed) × (KeepsRule ed w p → ⊥) × ((i : ℕ) → i < sheetLength ed → wordTurn ed i < wordTurn ed p → KeepsRule ed w i)
 
@@ -78,6 +78,17 @@ module _ (ed : Edition) (w : List ℕ) where
       go (yes l) d = absurd (e .broken (f .kept·before q (e .word) l))
       go (no l) (yes m) = absurd (f .broken (e .kept·before p (f .word) m))
       go (no l) (no m) = turns-differ ed q p (e .word) (f .word) (omega arith)
+
+  -- the first word that breaks the definition's rule is the first that breaks the plain one
+  pub first-exactly : (p : ℕ) → Found (some p) ↔ FirstBroken ed w p
+  first-exactly p = (
+    first-plain p,
+    λ f. (
+      f .word,
+      λ k. f .broken (rule-exactly ed w p (f .word) (f .kept·before) .0 k),
+      λ i l b. rule-exactly ed w i l (λ j m c. f .kept·before j m (omega arith)) .1 (f .kept·before i l b),
+    ),
+  )
 
   -- what the outcome says of the place found
   place-of : (o : Option ℕ) (n p : ℕ) → refuseAt 3 o ≡ refused n p → (n ≡ 3) × (o ≡ some p)
