@@ -4,10 +4,9 @@ use native.Mathlib.Nat
 use native.Mathlib.Nat.{div-add-mod', mod-lt, pow-suc, pow-zero}
 use native.Mathlib.Omega.{arith}
 use mathlib.Core.Bool.{true}
-use mathlib.Core.List.{map}
 use mathlib.Core.Logic.{_↔_}
-use mathlib.Core.Path.{_≡_, refl, sym, ap, _∙_, subst}
-use lib.ListN.{length, length-map}
+use mathlib.Core.Path.{_≡_, sym, ap, _∙_}
+use lib.ListN.{length-map}
 use lib.Pow.{pow-pos}
 use Rattle.definition.specs.Domain.{domain, inDomain, point}
 use Rattle.definition.specs.Field.{Field, power}
@@ -80,6 +79,9 @@ module _ {A : Type 0} (F : Field A) (L : FieldLaws F) (ω : A) where
           (h .0 % l .size, mod-lt (h .0) (some-points l r), h .1 ∙ ap (λ (y : A). ω ⊗ y) (around (power F ω t) (l .size) (h .0) whole) ∙ sym (coset-point l (h .0 % l .size))),
     )
 
+    twice : 2 ^ e + 2 ^ e ≡ 2 ^ suc e
+    twice = omega (arith, pow-suc 2 e)
+
     pub whole-exactly : (l : Level) → Sized (suc e) l → l .number ≡ 0 → (x : A) → ((reduce x ≡ x) × (power F x (2 ^ suc e) ≡ 𝟙)) ↔ IsPoint F ω l x
     unfolding point domain inDomain
     whole-exactly l r first x = (
@@ -92,8 +94,13 @@ module _ {A : Type 0} (F : Field A) (L : FieldLaws F) (ω : A) where
       ),
     )
       where
-        twice : 2 ^ e + 2 ^ e ≡ 2 ^ suc e
-        twice = omega (arith, pow-suc 2 e)
-
         size : l .size ≡ 2 ^ e + 2 ^ e
         size = sym (Nat.one-mul (l .size)) ∙ ap (λ (t : ℕ). t * l .size) (sym (ap (λ (i : ℕ). 2 ^ i) first ∙ pow-zero 2)) ∙ sizes l r
+
+    -- and these are the powers of ω
+    pub powers-exactly : (l : Level) → Sized (suc e) l → l .number ≡ 0 → (x : A) → IsPoint F ω l x ↔ ((j : ℕ) × (x ≡ power F ω j))
+    unfolding point
+    powers-exactly l r first x = (
+      λ h. (_, h .2),
+      λ h. whole-exactly l r first x .0 (ap reduce (h .1) ∙ reduce-power F L ω (h .0) ∙ sym (h .1), ap (power F x) (sym twice) ∙ ap (λ (y : A). power F y n) (h .1) ∙ order (h .0)),
+    )

@@ -1,6 +1,5 @@
 -- Each sheet word's rule of the definition, in plain numbers: where the words before it keep theirs, it holds exactly when the plain rule does.
 use Prim.Native.Nat.{ℕ, zero, suc, _+_, _-_, _*_, _/_, _%_, _^_, _≤_, _<_}
-use native.Mathlib.Decide.{decLt}
 use native.Mathlib.Nat.{add-zero, div-add-mod', mul-mod-left, mul-one}
 use native.Mathlib.Omega.{arith}
 use mathlib.Core.Bool.{Bool, true, false, cond, _&&_, true≢false}
@@ -19,7 +18,7 @@ use Rattle.layouts.specs.PlainSheet.{is-power, later-word, product-one}
 use Rattle.layouts.specs.RulesByWord.{rules-count, word-of-turn}
 use Rattle.layouts.specs.SheetRules.{fold-count, power-of-two}
 use Rattle.list_laws.specs.Booleans.{and-true}
-use Rattle.sheet_laws.specs.WordRules.{DegreeRule, Divides, FoldingNumber, LaterFoldRule, NoRule, PlainRule, PowerOfTwo, RepetitionsRule, RoundsRule, SizeRule, foldProduct, laterWordRules, nextDegree, wordRules}
+use Rattle.sheet_laws.specs.WordRules.{DegreeRule, Divides, FoldingNumber, LaterFoldRule, PlainRule, PowerOfTwo, RepetitionsRule, RoundsRule, SizeRule, foldProduct, nextDegree}
 
 -- tests joined, and tests on numbers
 both : {P Q : Type 0} (a b : Bool) → (a ≡ true) ↔ P → (b ≡ true) ↔ Q → ((a && b) ≡ true) ↔ (P × Q)
@@ -137,8 +136,7 @@ repetitions-rule ed w i l = go (ltb i M) refl (eqb i M) refl
     go true a y b =
         let u : i < M = ltb-true i M a in
         let e = both (between 1 48 t) (ltb (t + getD w 5 0) d) (in-range 1 48 t) (below (t + getD w 5 0) d) in
-        let n = next-degree ed w i l in
-        (
+        let n = next-degree ed w i l in (
           λ k. (λ v. e .0 k .0, λ v. subst (λ (x : ℕ). t + getD w 5 0 < x) n (e .0 k .1), λ v. absurd (omega arith)),
           λ h. e .1 (h .0 (omega arith), subst (λ (x : ℕ). t + getD w 5 0 < x) (sym n) (h .1 u)),
         )
@@ -168,8 +166,7 @@ later-fold-rule w i l = go (leb i M) refl
     go true a =
         let u : i ≤ M = leb-true i M a in
         let e = both (foldingNumber w k) (leb d (getD w 2 0)) (folding-number w k) (most d (getD w 2 0)) in
-        let n = product-two w i l in
-        (
+        let n = product-two w i l in (
           λ q. (λ v. (e .0 q .0, subst (λ (x : ℕ). x ≤ getD w 2 0) n (e .0 q .1)), λ v. absurd (omega arith)),
           λ h. let r = h .0 u in e .1 (r .0, subst (λ (x : ℕ). x ≤ getD w 2 0) (sym n) (r .1)),
         )

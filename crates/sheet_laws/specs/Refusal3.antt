@@ -2,13 +2,13 @@
 use Prim.Native.Nat.{ℕ, zero, suc, _%_, _≤_, _<_}
 use native.Mathlib.Decide.{decLt}
 use native.Mathlib.Omega.{arith}
-use mathlib.Core.Bool.{Bool, true, false, cond, not, true≢false}
+use mathlib.Core.Bool.{true, false, not}
 use mathlib.Core.List.{List, [], _++_}
 use mathlib.Core.Logic.{_↔_}
 use mathlib.Core.Path.{_≡_, refl, sym, ap, _∙_, subst}
 use lib.Dec.{eqb}
 use lib.ListN.{length, getD}
-use borrow.Author.Tests.{eq-eqb, eqb-false, eqb-true}
+use borrow.Author.Tests.{eq-eqb, eqb-true}
 use Rattle.definition.specs.Block.{blockCount, fileOf, streamOf}
 use Rattle.definition.specs.Field.{wordCount}
 use Rattle.definition.specs.Layout.{Kind, coinKinds, layout, wordsDue}
@@ -16,13 +16,13 @@ use Rattle.definition.specs.Prove.{coefficientsTest, coinDomainTest, coinEqualT
 use Rattle.definition.specs.Prover.{honestStream, tableWords}
 use Rattle.definition.specs.Reading.{sheetTest}
 use Rattle.definition.specs.Sheet.{Edition, Sheet, edition1, sheetLength, sheetOf}
-use Rattle.definition.specs.Verdict.{Outcome, _then_, accepted, refuseIf, refused}
+use Rattle.definition.specs.Verdict.{Outcome, _then_, accepted, refused}
 use Rattle.definition.specs.Verify.{verifyIn}
 use Rattle.layouts.specs.Tests.{if-false}
 use Rattle.completeness.specs.AcceptedExactly
 use Rattle.completeness.specs.Allowed.{sheet-long}
 use Rattle.completeness.specs.Answers.{Refuses, at-refuses, if-refuses, then-refuses}
-use Rattle.completeness.specs.Faults.{Fault, FirstFault, NoFault, RightCheck, blocksIn, faultsOf, numberTurn, turnOf}
+use Rattle.completeness.specs.Faults.{Fault, NoFault, RightCheck, blocksIn, faultsOf, numberTurn, turnOf}
 use Rattle.completeness.specs.VerifyExactly.{is-true}
 use Rattle.sheet_laws.specs.SheetExactly
 use Rattle.sheet_laws.specs.WordRules.{FirstBroken}
@@ -153,8 +153,7 @@ module _ (ed : Edition) (file : List ℕ) where
   unfolding turnOf
   verify-refuses p =
       let a = AcceptedExactly.refused-exactly ed file 3 p in
-      let b = SheetExactly.first-exactly ed (streamOf file) p in
-      (
+      let b = SheetExactly.first-exactly ed (streamOf file) p in (
         λ e. let f = a .0 e in
             let g = whole-exactly .0 (f .number·first) in
             (g .0, g .1, g .2, b .0 (f .there .0, f .there .1, λ i l u. is-true _ (λ k. f .place·first i u (l, k)))),

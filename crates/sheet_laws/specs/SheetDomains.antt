@@ -9,7 +9,6 @@ use mathlib.Core.Path.{_≡_, refl, sym, ap, _∙_, subst}
 use lib.ListN.{length}
 use Rattle.definition.specs.Domain.{inDomain, point}
 use Rattle.definition.specs.Field.{Element, Field, Spelling, embed, fieldIn, four, numberIn, one, power, primeField}
-use Rattle.definition.specs.Prove.{sheetLengthTest}
 use Rattle.definition.specs.Reading.{sheetTest}
 use Rattle.definition.specs.Sheet.{Edition, sheetLength, sheetOf}
 use Rattle.definition.specs.Verdict.{accepted}
@@ -18,7 +17,6 @@ use Rattle.algebra.specs.Laws.{FieldLaws}
 use Rattle.algebra.specs.Quartic.{embed-power}
 use Rattle.layouts.specs.Levels.{levelOf, roundsOf, sheetField, sheetRoot}
 use Rattle.layouts.specs.LevelsByNumber.{undivided}
-use Rattle.completeness.specs.Allowed.{sheet-enough, sheet-long}
 use Rattle.completeness.specs.Ready.{Ready, ready, ready-sized, sheet-laws}
 use Rattle.sheet_laws.specs.Cosets
 use Rattle.sheet_laws.specs.DomainPoints.{PointOf, RootOfOne}
@@ -39,10 +37,7 @@ pub tested-exactly : (ed : Edition) (w : List ℕ) (i : ℕ) (x : Element (sheet
     (inDomain (sheetField (sheetOf ed w)) (sheetRoot (sheetOf ed w)) (levelOf (sheetOf ed w) i) x ≡ true) ↔ PointOf (sheetOf ed w) i x
 tested-exactly ed w i x = Cosets.tested-exactly (sheetField (sheetOf ed w)) (sheet-laws ed w) (sheetRoot (sheetOf ed w)) (levelOf (sheetOf ed w) i) x
 
-module _ (ed : Edition) (w : List ℕ) (words : sheetLengthTest ed w ≡ accepted) (passed : sheetTest ed w ≡ accepted) where
-  long : sheetLength ed ≤ length w
-  long = sheet-enough ed w (sheet-long ed w words)
-
+module _ (ed : Edition) (w : List ℕ) (long : sheetLength ed ≤ length w) (passed : sheetTest ed w ≡ accepted) where
   abbrev q : Ready (sheetOf ed w)
   q = ready ed w long passed
 
@@ -65,11 +60,13 @@ module _ (ed : Edition) (w : List ℕ) (words : sheetLengthTest ed w ≡ accepte
   whole-exactly x =
       let t = Cosets.whole-exactly F (q .laws) ω (q .signs) (q .e) (q .root) (levelOf (sheetOf ed w) 0) (ready-sized ed w long passed 0 (omega arith)) refl x in
       let σ = sheetOf ed w .spelling in
-      let p = sheetOf ed w .prime in
-      (
+      let p = sheetOf ed w .prime in (
         λ h. t .0 (reduced-in σ p (q .laws) x (h .0), ap (power F x) (sym size-is) ∙ h .1),
         λ h. let r = t .1 h in (below-in σ p (q .laws) (omega (arith, q .large)) x (r .0), ap (power F x) size-is ∙ r .1),
       )
+
+  pub powers-exactly : (x : Element (sheetOf ed w .spelling)) → PointOf (sheetOf ed w) 0 x ↔ ((j : ℕ) × (x ≡ power (sheetField (sheetOf ed w)) (sheetRoot (sheetOf ed w)) j))
+  powers-exactly x = Cosets.powers-exactly F (q .laws) ω (q .signs) (q .e) (q .root) (levelOf (sheetOf ed w) 0) (ready-sized ed w long passed 0 (omega arith)) refl x
 
   -- in field 3 too these roots are numbers of the prime field
   pub roots-numbers : (x : Element (sheetOf ed w .spelling)) → RootOfOne (sheetOf ed w) x → (a : ℕ) × (a < sheetOf ed w .prime) × (x ≡ numberIn (sheetOf ed w .spelling) a)

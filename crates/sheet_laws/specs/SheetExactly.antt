@@ -2,18 +2,20 @@
 use Prim.Native.Nat.{ℕ, zero, suc, _<_}
 use native.Mathlib.Decide.{decLt}
 use native.Mathlib.Omega.{arith}
-use mathlib.Core.Bool.{Bool, true, false, not, true≢false}
-use mathlib.Core.List.{List, [], _∷_, map}
+use mathlib.Core.Bool.{true, false, not, true≢false}
+use mathlib.Core.List.{List, [], _∷_, _++_, map}
 use mathlib.Core.Logic.{_↔_}
 use mathlib.Core.Option.{Option, none, some}
 use mathlib.Core.Path.{_≡_, refl, sym, ap, _∙_, subst}
-use lib.ListN.{length, getD}
+use lib.ListN.{getD, replicate, take}
+use lib.Seq.{getD-take}
 use borrow.Author.Tests.{not-false}
 use Rattle.definition.specs.Lists.{firstOf, productOf, range}
 use Rattle.definition.specs.Reading.{sheetTest}
 use Rattle.definition.specs.Sheet.{Edition, degreeRule, edition1, edition2, editionRule, fieldRule, foldPlaces, foldRule, foldWords, foldingNumber, laterFoldRule, laterRules, outCoinsRule, repetitionsRule, roundsRule, sheetLength, sheetRules, sizeRule, testOrder}
-use Rattle.definition.specs.Verdict.{Outcome, accepted, refuseAt, refused}
+use Rattle.definition.specs.Verdict.{accepted, refuseAt, refused}
 use Rattle.list_laws.specs.First.{FirstAt, first-of}
+use Rattle.list_laws.specs.Zeros.{zeros}
 use Rattle.layouts.specs.PlainRules.{KeepsRule, wordTurn}
 use Rattle.layouts.specs.RulesByWord.{rule-at, rules-counted, rules-length, turn-of-word, turns-differ, word-of-turn}
 use Rattle.layouts.specs.Tests.{at-passes}
@@ -41,8 +43,7 @@ module _ (ed : Edition) (w : List ℕ) where
       go (some p) h =
           let u : h .0 < sheetLength ed = omega (arith, h .2, rules-length ed w) in
           let t = turn-of-word ed (h .0) u in
-          let turn : wordTurn ed p ≡ h .0 = ap (wordTurn ed) (h .1) ∙ t .0 in
-          (
+          let turn : wordTurn ed p ≡ h .0 = ap (wordTurn ed) (h .1) ∙ t .0 in (
             subst (λ (x : ℕ). x < sheetLength ed) (sym (h .1)) (t .1),
             λ k. true≢false (sym (h .3) ∙ rule-at ed w (h .0) u ∙ ap not (subst (λ (j : ℕ). getD (sheetRules ed w) j false ≡ true) turn k)),
             λ i l b. kept i l (h .4 (wordTurn ed i) (omega (arith, turn))),
@@ -127,3 +128,29 @@ same-words edition2 v w s = λ t. sheetTest edition2
     (s 0 (omega arith) t ∷ s 1 (omega arith) t ∷ s 2 (omega arith) t ∷ s 3 (omega arith) t ∷ s 4 (omega arith) t ∷ s 5 (omega arith) t
     ∷ s 6 (omega arith) t ∷ s 7 (omega arith) t ∷ s 8 (omega arith) t ∷ s 9 (omega arith) t ∷ s 10 (omega arith) t ∷ s 11 (omega arith) t
     ∷ s 12 (omega arith) t ∷ s 13 (omega arith) t ∷ s 14 (omega arith) t ∷ s 15 (omega arith) t ∷ s 16 (omega arith) t ∷ s 17 (omega arith) t ∷ [])
+
+-- so zeros after the words, and other words after the sheet, change nothing
+zero-after : (n i : ℕ) → getD (zeros n) i 0 ≡ 0
+zero-after zero i = refl
+zero-after (suc n) zero = refl
+zero-after (suc n) (suc i) = zero-after n i
+
+zeros-after : (w : List ℕ) (n i : ℕ) → getD (w ++ replicate n 0) i 0 ≡ getD w i 0
+zeros-after [] n i = zero-after n i
+zeros-after (x ∷ w) n zero = refl
+zeros-after (x ∷ w) n (suc i) = zeros-after w n i
+
+pub missing-words : (ed : Edition) (w : List ℕ) (n : ℕ) → sheetTest ed (w ++ replicate n 0) ≡ sheetTest ed w
+missing-words ed w n = same-words ed (w ++ replicate n 0) w (λ i l. zeros-after w n i)
+
+pub later-words : (ed : Edition) (w : List ℕ) → sheetTest ed (take (sheetLength ed) w) ≡ sheetTest ed w
+later-words ed w = same-words ed (take (sheetLength ed) w) w (λ i l. getD-take (sheetLength ed) w i 0 l)
+
+-- the words in the order of their turns
+pub order-1 : (i : ℕ) → wordTurn edition1 i ≡ i
+unfolding wordTurn
+order-1 i = refl
+
+pub order-2 : map (wordTurn edition2) (0 ∷ 1 ∷ 2 ∷ 3 ∷ 4 ∷ 5 ∷ 12 ∷ 13 ∷ 14 ∷ 15 ∷ 16 ∷ 17 ∷ 6 ∷ 7 ∷ 8 ∷ 9 ∷ 10 ∷ 11 ∷ []) ≡ range 0 18
+unfolding wordTurn range
+order-2 = refl

@@ -1,7 +1,7 @@
 -- THE RULE OF EACH SHEET WORD in plain numbers (01, Fields and the sheet; 02, CR 1, 5 and 11), and the first word that breaks its own. It holds no lemma and no proof.
 -- Word i of a list w is `getD w i 0`: a word that is not there counts as 0.
 use Prim.Native.Nat.{ℕ, zero, suc, _+_, _-_, _*_, _/_, _^_, _≤_, _<_}
-use mathlib.Core.List.{List, [], _∷_, _++_}
+use mathlib.Core.List.{List, [], _∷_}
 use mathlib.Core.Path.{_≡_}
 use lib.ListN.{getD}
 use Rattle.definition.specs.Field.{primeOf}
