@@ -49,56 +49,56 @@ powers x e = let p = power-of-two x e in (p .0, p .2)
 -- the largest n0, by the field
 size-limit : (field n : ℕ) → (n ≤ largestSize (spellingOf field)) ↔ ((n ≤ 4096) × (field ≡ 3 → n ≤ 1024))
 unfolding largestSize spellingOf
-size-limit field n = go (eqb field 3) refl
+size-limit field n = by-spelling (eqb field 3) refl
   where
-    go : (b : Bool) → eqb field 3 ≡ b → (n ≤ largestSize (cond b four one)) ↔ ((n ≤ 4096) × (field ≡ 3 → n ≤ 1024))
-    go true e = (λ l. (omega arith, λ q. l), λ h. h .1 (eqb-true field 3 e))
-    go false e = (λ l. (l, λ q. absurd (true≢false (sym (eq-eqb field 3 q) ∙ e))), λ h. h .0)
+    by-spelling : (b : Bool) → eqb field 3 ≡ b → (n ≤ largestSize (cond b four one)) ↔ ((n ≤ 4096) × (field ≡ 3 → n ≤ 1024))
+    by-spelling true e = (λ l. (omega arith, λ q. l), λ h. h .1 (eqb-true field 3 e))
+    by-spelling false e = (λ l. (l, λ q. absurd (true≢false (sym (eq-eqb field 3 q) ∙ e))), λ h. h .0)
 
 size-rule : (w : List ℕ) → (sizeRule w ≡ true) ↔ SizeRule w
 unfolding sizeRule
 size-rule w = (
-  λ e. let t = tests .0 e in
-      let l = size-limit (getD w 0 0) n .0 (t .0 .1 .1) in
-      (powers n (t .0 .0), t .0 .1 .0, l .0, l .1, t .1),
-  λ h. tests .1 ((is-power n (h .0 .0) (h .0 .1) (h .2), (h .1, size-limit (getD w 0 0) n .1 (h .2, h .3))), h .4),
+  λ e. let t = size-tests .0 e in
+      let l = size-limit (getD w 0 0) n0 .0 (t .0 .1 .1) in
+      (powers n0 (t .0 .0), t .0 .1 .0, l .0, l .1, t .1),
+  λ h. size-tests .1 ((is-power n0 (h .0 .0) (h .0 .1) (h .2), (h .1, size-limit (getD w 0 0) n0 .1 (h .2, h .3))), h .4),
 )
   where
-    n : ℕ
-    n = getD w 1 0
+    n0 : ℕ
+    n0 = getD w 1 0
 
-    u : ℕ
-    u = largestSize (spellingOf (getD w 0 0))
+    largest : ℕ
+    largest = largestSize (spellingOf (getD w 0 0))
 
-    tests : ((powerOfTwo n && between 4 u n && eqb ((primeOf (getD w 0 0) - 1) % n) 0) ≡ true) ↔ (((powerOfTwo n ≡ true) × ((4 ≤ n) × (n ≤ u))) × Divides n (primeOf (getD w 0 0) - 1))
-    tests =
-        let d = divides n (primeOf (getD w 0 0) - 1) in
-        let q = same ((primeOf (getD w 0 0) - 1) % n) 0 in
-        both (powerOfTwo n && between 4 u n) (eqb ((primeOf (getD w 0 0) - 1) % n) 0) (both (powerOfTwo n) (between 4 u n) (λ e. e, λ e. e) (in-range 4 u n)) (λ e. d .0 (q .0 e), λ e. q .1 (d .1 e))
+    size-tests : ((powerOfTwo n0 && between 4 largest n0 && eqb ((primeOf (getD w 0 0) - 1) % n0) 0) ≡ true) ↔ (((powerOfTwo n0 ≡ true) × ((4 ≤ n0) × (n0 ≤ largest))) × Divides n0 (primeOf (getD w 0 0) - 1))
+    size-tests =
+        let d = divides n0 (primeOf (getD w 0 0) - 1) in
+        let q = same ((primeOf (getD w 0 0) - 1) % n0) 0 in
+        both (powerOfTwo n0 && between 4 largest n0) (eqb ((primeOf (getD w 0 0) - 1) % n0) 0) (both (powerOfTwo n0) (between 4 largest n0) (λ e. e, λ e. e) (in-range 4 largest n0)) (λ e. d .0 (q .0 e), λ e. q .1 (d .1 e))
 
 -- d0 is at most n0/2, and so among the powers that the definition lists
 degree-rule : (w : List ℕ) → getD w 1 0 ≤ 4096 → (degreeRule w ≡ true) ↔ DegreeRule w
 unfolding degreeRule
 degree-rule w small = (
-  λ e. let t = tests .0 e in (powers d (t .0), t .1 .0, t .1 .1),
-  λ h. tests .1 (is-power d (h .0 .0) (h .0 .1) (omega (arith, h .2)), (h .1, h .2)),
+  λ e. let t = degree-tests .0 e in (powers d0 (t .0), t .1 .0, t .1 .1),
+  λ h. degree-tests .1 (is-power d0 (h .0 .0) (h .0 .1) (omega (arith, h .2)), (h .1, h .2)),
 )
   where
-    d : ℕ
-    d = getD w 2 0
+    d0 : ℕ
+    d0 = getD w 2 0
 
-    tests : ((powerOfTwo d && between 2 (getD w 1 0 / 2) d) ≡ true) ↔ ((powerOfTwo d ≡ true) × ((2 ≤ d) × (d ≤ getD w 1 0 / 2)))
-    tests = both (powerOfTwo d) (between 2 (getD w 1 0 / 2) d) (λ e. e, λ e. e) (in-range 2 (getD w 1 0 / 2) d)
+    degree-tests : ((powerOfTwo d0 && between 2 (getD w 1 0 / 2) d0) ≡ true) ↔ ((powerOfTwo d0 ≡ true) × ((2 ≤ d0) × (d0 ≤ getD w 1 0 / 2)))
+    degree-tests = both (powerOfTwo d0) (between 2 (getD w 1 0 / 2) d0) (λ e. e, λ e. e) (in-range 2 (getD w 1 0 / 2) d0)
 
 folding-number : (w : List ℕ) (k : ℕ) → (foldingNumber w k ≡ true) ↔ FoldingNumber w k
 unfolding foldingNumber
 folding-number w k = (
-  λ e. let t = tests .0 e in (powers k (t .0 .0), t .0 .1 .0, t .0 .1 .1, t .1),
-  λ h. tests .1 ((is-power k (h .0 .0) (h .0 .1) (omega (arith, h .2)), (h .1, h .2)), h .3),
+  λ e. let t = fold-tests .0 e in (powers k (t .0 .0), t .0 .1 .0, t .0 .1 .1, t .1),
+  λ h. fold-tests .1 ((is-power k (h .0 .0) (h .0 .1) (omega (arith, h .2)), (h .1, h .2)), h .3),
 )
   where
-    tests : ((powerOfTwo k && between 2 16 k && leb k (getD w 2 0)) ≡ true) ↔ (((powerOfTwo k ≡ true) × ((2 ≤ k) × (k ≤ 16))) × (k ≤ getD w 2 0))
-    tests = both (powerOfTwo k && between 2 16 k) (leb k (getD w 2 0)) (both (powerOfTwo k) (between 2 16 k) (λ e. e, λ e. e) (in-range 2 16 k)) (most k (getD w 2 0))
+    fold-tests : ((powerOfTwo k && between 2 16 k && leb k (getD w 2 0)) ≡ true) ↔ (((powerOfTwo k ≡ true) × ((2 ≤ k) × (k ≤ 16))) × (k ≤ getD w 2 0))
+    fold-tests = both (powerOfTwo k && between 2 16 k) (leb k (getD w 2 0)) (both (powerOfTwo k) (between 2 16 k) (λ e. e, λ e. e) (in-range 2 16 k)) (most k (getD w 2 0))
 
 rounds-rule : (ed : Edition) (w : List ℕ) → (roundsRule ed w ≡ true) ↔ RoundsRule ed w
 unfolding roundsRule
@@ -120,7 +120,7 @@ next-degree edition2 w i l = ap (λ (x : ℕ). getD w 2 0 / x) (product-two w i 
 
 repetitions-rule : (ed : Edition) (w : List ℕ) (i : ℕ) → i < 6 → (repetitionsRule ed w i ≡ true) ↔ RepetitionsRule ed i w
 unfolding repetitionsRule
-repetitions-rule ed w i l = go (ltb i M) refl (eqb i M) refl
+repetitions-rule ed w i l = by-place (ltb i M) refl (eqb i M) refl
   where
     M : ℕ
     M = getD w 4 0
@@ -131,19 +131,19 @@ repetitions-rule ed w i l = go (ltb i M) refl (eqb i M) refl
     d : ℕ
     d = getD w 2 0 / productOf (take (suc i) (foldWords ed w))
 
-    go : (x : Bool) → ltb i M ≡ x → (y : Bool) → eqb i M ≡ y →
+    by-place : (x : Bool) → ltb i M ≡ x → (y : Bool) → eqb i M ≡ y →
         (cond x (between 1 48 t && ltb (t + getD w 5 0) d) (cond y (between 1 48 t) (eqb t 0)) ≡ true) ↔ RepetitionsRule ed i w
-    go true a y b =
+    by-place true a y b =
         let u : i < M = ltb-true i M a in
         let e = both (between 1 48 t) (ltb (t + getD w 5 0) d) (in-range 1 48 t) (below (t + getD w 5 0) d) in
         let n = next-degree ed w i l in (
           λ k. (λ v. e .0 k .0, λ v. subst (λ (x : ℕ). t + getD w 5 0 < x) n (e .0 k .1), λ v. absurd (omega arith)),
           λ h. e .1 (h .0 (omega arith), subst (λ (x : ℕ). t + getD w 5 0 < x) (sym n) (h .1 u)),
         )
-    go false a true b =
+    by-place false a true b =
         let u : i ≡ M = eqb-true i M b in
         (λ k. (λ v. in-range 1 48 t .0 k, λ v. absurd (omega arith), λ v. absurd (omega arith)), λ h. in-range 1 48 t .1 (h .0 (omega arith)))
-    go false a false b =
+    by-place false a false b =
         let u : M ≤ i = ltb-false i M a in
         let v : i ≡ M → ⊥ = eqb-false i M b in
         let m : M < i = omega arith in
@@ -151,10 +151,10 @@ repetitions-rule ed w i l = go (ltb i M) refl (eqb i M) refl
 
 later-fold-rule : (w : List ℕ) (i : ℕ) → i < 6 → (laterFoldRule w i ≡ true) ↔ LaterFoldRule i w
 unfolding laterFoldRule
-later-fold-rule w i l = go (leb i M) refl
+later-fold-rule w i l = by-rounds (leb i rounds) refl
   where
-    M : ℕ
-    M = getD w 4 0
+    rounds : ℕ
+    rounds = getD w 4 0
 
     k : ℕ
     k = getD w (11 + i) 0
@@ -162,16 +162,16 @@ later-fold-rule w i l = go (leb i M) refl
     d : ℕ
     d = productOf (take (suc i) (foldWords edition2 w))
 
-    go : (x : Bool) → leb i M ≡ x → (cond x (foldingNumber w k && leb d (getD w 2 0)) (eqb k 0) ≡ true) ↔ LaterFoldRule i w
-    go true a =
-        let u : i ≤ M = leb-true i M a in
+    by-rounds : (x : Bool) → leb i rounds ≡ x → (cond x (foldingNumber w k && leb d (getD w 2 0)) (eqb k 0) ≡ true) ↔ LaterFoldRule i w
+    by-rounds true a =
+        let u : i ≤ rounds = leb-true i rounds a in
         let e = both (foldingNumber w k) (leb d (getD w 2 0)) (folding-number w k) (most d (getD w 2 0)) in
         let n = product-two w i l in (
           λ q. (λ v. (e .0 q .0, subst (λ (x : ℕ). x ≤ getD w 2 0) n (e .0 q .1)), λ v. absurd (omega arith)),
           λ h. let r = h .0 u in e .1 (r .0, subst (λ (x : ℕ). x ≤ getD w 2 0) (sym n) (r .1)),
         )
-    go false a =
-        let u : M < i = leb-false i M a in
+    by-rounds false a =
+        let u : rounds < i = leb-false i rounds a in
         (λ q. (λ v. absurd (omega arith), λ v. eqb-true k 0 q), λ h. eq-eqb k 0 (h .1 u))
 
 module _ (ed : Edition) (w : List ℕ) where
