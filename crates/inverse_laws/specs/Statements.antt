@@ -73,7 +73,7 @@ pub divisors-exactly : {A : Type 0} (F : Field A) (samples : List (Sample A)) �
 divisors-exactly = Found.divisors-exactly
 
 -- VERIFY asks for no inverse that is not there, of any file, whatever its words are: with each answer taken apart it is found, and is the definition's. A file
--- that fails reading, or refusals 7 and 14, is refused before one is asked for; in every other each fold, interpolation and quotient finds its own.
+-- that fails reading, or that 7 or 14 refuses, is refused before one is asked for; in every other each fold, interpolation and quotient finds its own.
 pub verify-found : (ed : Edition) (bytes : List ℕ) → verifyFound ed bytes ≡ some (verifyIn ed bytes)
 verify-found = FoundInFiles.verify-found
 
