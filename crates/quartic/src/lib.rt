@@ -55,7 +55,10 @@ fn word_of(x: Four, a: u32, b: u32, c: u32, d: u32) -> u32
     requires { ⌜ (a < 2013265921) × ((b < 2013265921) × ((c < 2013265921) × (d < 2013265921))) ⌝ }
     ensures { λ r. ⌜ r ≡ base ._⊕_ (base ._⊕_ (base ._⊕_ (base ._⊗_ (x .a) a) (base ._⊗_ (x .b) b)) (base ._⊗_ (x .c) c)) (base ._⊗_ (x .d) d) ⌝ }
 {
-    field::reduce(2, times(x.a, a) + times(x.b, b) + times(x.c, c) + times(x.d, d))
+    field::reduce(
+        2,
+        times(x.a, a) + times(x.b, b) + times(x.c, c) + times(x.d, d),
+    )
 }
 
 // A word below p. Words of elements are such, so that there is mostly nothing to divide; but none is asked for.
