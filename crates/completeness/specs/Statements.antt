@@ -372,12 +372,13 @@ pub inverse-3-found : (x : Quad ℕ) → (((x .a % primeOf 3 ≡ 0) × (x .b % p
     (u : Quad ℕ) × (inverse3 x ≡ some u) × (product3 x u ≡ numberIn four 1)
 inverse-3-found = PublicField3.inverse-there
 
--- 14. POWERS (document 01: an exponent is any word as it is; document 02, CR 4). The public power is x^e modulo p, for all words x and e,
-pub power-exactly : (field x e : ℕ) → powerOf field x e ≡ inField field (x ^ e % primeOf field)
+-- 14. POWERS (document 01: an exponent is any word as it is; document 02, CR 4). The public power is a^e modulo p, for all words a and e,
+pub power-exactly : (field base exponent : ℕ) → powerOf field base exponent ≡ inField field (base ^ exponent % primeOf field)
 power-exactly = PublicPower.power-exactly
 
 -- the one with its turns answers as many as e has binary digits, which are at most d exactly where e < 2^d;
-pub power-turns-exactly : (field x e : ℕ) → powerTurnsOf field x e ≡ cond (knownField field) (powered (x ^ e % primeOf field) (binaryDigits e)) inNoField
+pub power-turns-exactly : (field base exponent : ℕ) →
+    powerTurnsOf field base exponent ≡ cond (knownField field) (powered (base ^ exponent % primeOf field) (binaryDigits exponent)) inNoField
 power-turns-exactly = PublicPower.turns-exactly
 
 pub digits-exactly : (e d : ℕ) → (binaryDigits e ≤ d) ↔ (e < 2 ^ d)
@@ -387,12 +388,12 @@ digits-exactly = PublicPower.digits-exactly
 pub power-largest : powerOf 0 3 4294967295 ≡ element 6
 power-largest = PublicPower.power-largest
 
--- In field 3 it is 1 for the exponent 0, of any four words, and for each next exponent the product of x with the power before; the turns are the same.
-pub power-3-none : (x : Quad ℕ) → power3 x 0 ≡ numberIn four 1
+-- In field 3 it is 1 for the exponent 0, of any four words, and for each next exponent the product of a with the power before; the turns are the same.
+pub power-3-none : (base : Quad ℕ) → power3 base 0 ≡ numberIn four 1
 power-3-none = PublicField3.power-none
 
-pub power-3-next : (x : Quad ℕ) (e : ℕ) → power3 x (suc e) ≡ product3 x (power3 x e)
+pub power-3-next : (base : Quad ℕ) (e : ℕ) → power3 base (suc e) ≡ product3 base (power3 base e)
 power-3-next = PublicField3.power-next
 
-pub power-3-turns : (x : Quad ℕ) (e : ℕ) → powerTurns3 x e ≡ record { power = power3 x e; turns = binaryDigits e }
+pub power-3-turns : (base : Quad ℕ) (e : ℕ) → powerTurns3 base e ≡ record { power = power3 base e; turns = binaryDigits e }
 power-3-turns = PublicField3.power-turns
