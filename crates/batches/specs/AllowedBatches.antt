@@ -1,31 +1,28 @@
 -- What the premises say, word by word: a sheet of 12 words, bounds from 1 to d0, the coefficients cut by them, and coins each of which passes refusals 5, 7 and 14.
 use Prim.Native.Nat.{ℕ, zero, suc, _+_, _*_, _≤_, _<_}
 use native.Mathlib.Omega.{arith}
-use mathlib.Core.Bool.{Bool, true, false, not}
 use mathlib.Core.List.{List, [], _∷_, _++_, append-assoc, map, zipWith}
 use mathlib.Core.Option.{none}
 use mathlib.Core.Path.{_≡_, refl, sym, ap, _∙_, subst}
 use lib.ListN.{length, take, drop, replicate, length-append, length-drop, length-replicate}
 use lib.Seq.{drop-at, length-take-le, take-all}
-use borrow.Author.Tests.{leb-true, not-false}
-use Rattle.batch_definition.specs.Batch.{batchCoefficientsTest, batchCoinsTest, batchLayout, batchOutTests, batchRangeTest, batchRules, batchTest, cutBy, mostEntries, sumOf}
+use Rattle.batch_definition.specs.Batch.{batchCoefficientsTest, batchCoinsTest, batchLayout, batchOutTests, batchRangeTest, cutBy, mostEntries, sumOf}
 use Rattle.definition.specs.Deciding.{outInDomain, repeatedOuts}
 use Rattle.definition.specs.Field.{Spelling, begunBy, elementsIn}
 use Rattle.definition.specs.Layout.{Kind, coin, coinKinds, layout, message, restLayout}
 use Rattle.definition.specs.Reading.{outOfRange}
-use Rattle.definition.specs.Sheet.{Sheet, between, edition1, firstLevel, laterLevels, sheetOf}
+use Rattle.definition.specs.Sheet.{Sheet, edition1, firstLevel, laterLevels, sheetOf}
 use Rattle.definition.specs.Verdict.{accepted, refuseAt}
 use Rattle.definition.specs.Lists.{firstTrue}
-use Rattle.list_laws.specs.All.{All, all-in-map, all-map}
-use Rattle.list_laws.specs.Booleans.{and-true}
+use Rattle.list_laws.specs.All.{All, all-in-map}
 use Rattle.layouts.specs.EachWord.{Each, InRange, Outside, each-append-at, each-false}
 use Rattle.layouts.specs.LayoutFacts.{CoinRuns, coin-runs, coins-alone, coins-append, coins-messages, layout-coins}
 use Rattle.layouts.specs.Levels.{sheetField, wordsFor}
 use Rattle.layouts.specs.Spellings.{begun-drop, begun-length, count-add, read-length}
-use Rattle.layouts.specs.SheetRules.{between-true}
 use Rattle.layouts.specs.Tests.{all-false, at-passes, equal-passes, then-passes}
 use Rattle.completeness.specs.Allowed.{sheet-enough, sheet-long}
 use Rattle.completeness.specs.EqualOuts.{NoRepeat}
+use Rattle.batches.specs.BatchRules.{bounds-within, entries-few, tables-few}
 use Rattle.batches.specs.Batched.{AllowedBatch}
 
 pub runs : {A : Type 0} (m n : ℕ) (k : A) → replicate (m + n) k ≡ replicate m k ++ replicate n k
@@ -71,23 +68,14 @@ module _ {w bounds f coins : List ℕ} (ok : AllowedBatch w bounds f coins) wher
   pub batch-enough : 12 ≤ length w
   batch-enough = sheet-enough edition1 w batch-long
 
-  all-rules : All (λ (b : Bool). b ≡ true) (batchRules h N bounds)
-  unfolding batchTest
-  all-rules = all-map (batchRules h N bounds) (all-in-map (λ (b : Bool). b ≡ false) not (batchRules h N bounds) (all-false 15 0 (map not (batchRules h N bounds)) (ok .bounded))) (λ b e. not-false b e)
-
   pub batch-number : (1 ≤ length bounds) × (length bounds ≤ 8)
-  unfolding batchRules
-  batch-number = between-true 1 8 N (and-true (between 1 8 N) _ (all-rules .0) .0)
+  batch-number = tables-few h N bounds (ok .bounded)
 
   pub batch-entries : length bounds * sheetOf edition1 w .size ≤ mostEntries (sheetOf edition1 w .spelling)
-  unfolding batchRules
-  batch-entries = leb-true (N * h .size) (mostEntries (h .spelling)) (and-true (between 1 8 N) _ (all-rules .0) .1)
+  batch-entries = entries-few h N bounds (ok .bounded)
 
   pub batch-bounds : All (λ b. (1 ≤ b) × (b ≤ sheetOf edition1 w .degree)) bounds
-  unfolding batchRules
-  batch-bounds =
-      all-map bounds (all-in-map (λ (t : Bool). t ≡ true) (between 1 (h .degree)) bounds (subst (λ (l : List ℕ). All (λ (t : Bool). t ≡ true) (map (between 1 (h .degree)) l)) (take-all N bounds (omega arith)) (all-rules .1)))
-      (λ b e. between-true 1 (h .degree) b e)
+  batch-bounds = subst (All (λ b. (1 ≤ b) × (b ≤ h .degree))) (take-all N bounds (omega arith)) (bounds-within h N bounds (ok .bounded))
 
   abbrev σ : Spelling
   σ = sheetOf edition1 w .spelling

@@ -3,30 +3,27 @@
 use Prim.Native.Nat.{ℕ, _+_, _-_, _*_, _/_, _≤_, _<_}
 use native.Mathlib.Nat.{zero-add}
 use native.Mathlib.Omega.{arith}
-use mathlib.Core.Bool.{Bool, true, false, not, cond, _||_}
-use mathlib.Core.List.{List, [], map, zipWith}
+use mathlib.Core.Bool.{Bool, true, false, cond, _||_}
+use mathlib.Core.List.{List, [], zipWith}
 use mathlib.Core.Logic.{_↔_}
 use mathlib.Core.Path.{_≡_, refl, sym, ap, _∙_, subst}
 use lib.Dec.{eqb}
 use lib.ListN.{length, getD, drop, length-drop}
 use lib.Seq.{getD-drop}
-use borrow.Author.Tests.{not-false}
-use Rattle.batch_definition.specs.Batch.{batchDeciding, batchLayout, batchReading, batchRules, batchStart, batchTest, batchTests, batchWords, decideBatch, readBatch, verifyBatch}
+use Rattle.batch_definition.specs.Batch.{batchDeciding, batchLayout, batchReading, batchStart, batchTest, batchTests, batchWords, decideBatch, readBatch, verifyBatch}
 use Rattle.definition.specs.Block.{blockCount, streamOf}
 use Rattle.definition.specs.Deciding.{counted, decide, deciding, equalTest, outTest, outTests, ownPlace, placesOf, readsOf}
 use Rattle.definition.specs.Layout.{Kind, index, layout, limit, message, readTranscript, wordsDue}
 use Rattle.definition.specs.Lists.{different}
 use Rattle.definition.specs.Reading.{blocksTest, bodyTests, checkTest, lengthTest, outOfRange, rangeTest, sheetTest}
-use Rattle.definition.specs.Sheet.{Sheet, between, edition1, firstLevel, sheetOf, shiftCount}
+use Rattle.definition.specs.Sheet.{Sheet, edition1, firstLevel, sheetOf, shiftCount}
 use Rattle.definition.specs.Verdict.{Outcome, Verdict, accepted, refused, thenVerdict}
-use Rattle.list_laws.specs.All.{All, all-in-map, all-map, all-places, at-place}
-use Rattle.list_laws.specs.Booleans.{and-true}
+use Rattle.list_laws.specs.All.{All, all-places, at-place}
 use Rattle.layouts.specs.FileWords.{stream-length}
 use Rattle.layouts.specs.Lawful.{lawful}
 use Rattle.layouts.specs.EachWord.{in-range}
 use Rattle.layouts.specs.Levels.{levelOf, roundsOf, sheetField, sheetRoot}
 use Rattle.layouts.specs.LevelsByNumber.{Paired}
-use Rattle.layouts.specs.SheetRules.{between-true}
 use Rattle.layouts.specs.Tests.{all-false, equal-passes, then-passes}
 use Rattle.completeness.specs.Answers.{Refuses, at-refuses, then-refuses}
 use Rattle.completeness.specs.Faults.{dueOf, partLength, partStart, partWords, shifts}
@@ -37,6 +34,7 @@ use Rattle.completeness.specs.Reads.{level-reads, shift-points}
 use Rattle.completeness.specs.Ready.{ready-sized}
 use Rattle.completeness.specs.TestsByNumber.{zip-at, zip-length}
 use Rattle.batches.specs.BatchAnswers.{batch-refuses}
+use Rattle.batches.specs.BatchRules.{tables-few}
 use Rattle.batches.specs.Batched.{higher, higherBy, placed, plainWords}
 use Rattle.batches.specs.PlainStream as plain
 
@@ -87,10 +85,7 @@ module _ (file : List ℕ) (read : batchReading file ≡ accepted) where
       (b .0, c .0, d .0, e .0)
 
   some : 1 ≤ getD (streamOf file) 12 0
-  unfolding batchTest batchRules
-  some =
-      let rules = all-map (batchRules h N (drop 13 w)) (all-in-map (λ (b : Bool). b ≡ false) not (batchRules h N (drop 13 w)) (all-false 15 0 (map not (batchRules h N (drop 13 w))) (tests .1))) (λ b e. not-false b e) in
-      between-true 1 8 N (and-true (between 1 8 N) _ (rules .0) .0) .0
+  some = tables-few h N (drop 13 w) (tests .1) .0
 
   full : batchWords (sheetOf edition1 (streamOf file)) (getD (streamOf file) 12 0) ≤ length (streamOf file)
   unfolding blocksTest blockCount
