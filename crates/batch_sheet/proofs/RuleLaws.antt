@@ -32,7 +32,8 @@ numberRule h count = between 1 8 count && leb (count * h .size) (mostEntries (h 
 pub other-number : (h : Sheet) (count : ℕ) {b : Bool} → b ≡ between 1 8 count → not b ≡ true → false ≡ numberRule h count
 other-number h count {b} e n = ap (λ (t : Bool). t && leb (count * h .size) (mostEntries (h .spelling))) (sym (not-true b n) ∙ e)
 
-pub right-number : (w : List ℕ) (count : ℕ) {b : Bool} {m : ℕ} → b ≡ between 1 8 count → not b ≡ false → m ≡ mostEntries (spellingOf (getD w 0 0)) → leb (count * getD w 1 0) m ≡ numberRule (sheetOf edition1 w) count
+pub right-number : (w : List ℕ) (count : ℕ) {b : Bool} {m : ℕ} → b ≡ between 1 8 count → not b ≡ false → m ≡ mostEntries (spellingOf (getD w 0 0)) →
+    leb (count * getD w 1 0) m ≡ numberRule (sheetOf edition1 w) count
 unfolding sheetOf
 right-number w count {b} e n q =
     ap (leb (count * getD w 1 0)) q ∙ ap (λ (t : Bool). t && leb (count * getD w 1 0) (mostEntries (spellingOf (getD w 0 0)))) (sym (not-false b n) ∙ e)

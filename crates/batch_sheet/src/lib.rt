@@ -67,7 +67,7 @@ pub fn broken(w: &[u32], count: usize, bounds: &[u32]) -> Found
 
 // By how much word numbers are higher in a batch than in a plain stream, from fold coin 0 on: the number of tables, the bounds, the other tables and r.
 pub fn shift(w: &[u32], count: usize) -> usize
-    requires { ⌜ (12 ≤ length (now w)) × (sheetTest edition1 (now w) ≡ accepted) ⌝ }
+    requires { ⌜ 12 ≤ length (now w) ⌝ }
     requires { ⌜ (1 ≤ count) × ((count ≤ 8) × (count * sheetOf edition1 (now w) .size ≤ mostEntries (sheetOf edition1 (now w) .spelling))) ⌝ }
     ensures { λ r. ⌜ (r ≡ higherBy (sheetOf edition1 (now (w .entry))) count) × (r ≤ 7181) ⌝ }
 {

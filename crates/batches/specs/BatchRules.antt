@@ -31,7 +31,9 @@ sum-most d (b ∷ bs) h = omega (arith, h .0 .1, sum-most d bs (h .1), suc-mul (
 module _ (h : Sheet) (count : ℕ) (bounds : List ℕ) (passed : batchTest h count bounds ≡ accepted) where
   all-rules : All (λ (b : Bool). b ≡ true) (batchRules h count bounds)
   unfolding batchTest
-  all-rules = all-map (batchRules h count bounds) (all-in-map (λ (b : Bool). b ≡ false) not (batchRules h count bounds) (all-false 15 0 (map not (batchRules h count bounds)) passed)) (λ b e. not-false b e)
+  all-rules =
+      let rules = batchRules h count bounds in
+      all-map rules (all-in-map (λ (b : Bool). b ≡ false) not rules (all-false 15 0 (map not rules) passed)) (λ b e. not-false b e)
 
   pub tables-few : (1 ≤ count) × (count ≤ 8)
   unfolding batchRules

@@ -31,8 +31,9 @@ cast-sum c = omega (arith, c .shared-slice-known3 .given (c .before .before .loo
 
 add-sum : tie.Need-add-sum Inv-loop μ-loop
 add-sum c =
-    let a = c .before .before .before .before .before .args in
-    omega (arith, sum-small (a .w .now) (a .bounds .now) (c .before .before .before .before .before .pre .0 .1) (c .before .before .before .before .before .pre .1), sum-next (a .bounds .now) (c .before .before .loop .m) (omega arith), c .before .before .loop .inv .1)
+    let s = c .before .before .before .before .before in
+    let l = c .before .before .loop in
+    omega (arith, sum-small (s .args .w .now) (s .args .bounds .now) (s .pre .0 .1) (s .pre .1), sum-next (s .args .bounds .now) (l .m) (omega arith), l .inv .1)
 
 add-m : tie.Need-add-m Inv-loop μ-loop
 add-m c = omega arith
@@ -42,24 +43,25 @@ loop-less c = omega arith
 
 loop-again : tie.Need-loop-again Inv-loop μ-loop
 loop-again c =
-    let a = c .before .before .before .before .before .args in
-    (omega arith, omega (arith, sum-next (a .bounds .now) (c .before .before .loop .m) (omega arith), c .before .before .loop .inv .1))
+    let s = c .before .before .before .before .before in
+    (omega arith, omega (arith, sum-next (s .args .bounds .now) (c .before .before .loop .m) (omega arith), c .before .before .loop .inv .1))
 
 shared-slice-read-words : tie.Need-shared-slice-read-words Inv-loop μ-loop
 shared-slice-read-words c = omega (arith, c .before .before .before .before .before .pre .0 .0)
 
 words-requires : tie.Need-words-requires Inv-loop μ-loop
 words-requires c κs =
-    let a = c .before .before .before .before .before .args in
-    omega (arith, sum-small (a .w .now) (a .bounds .now) (c .before .before .before .before .before .pre .0 .1) (c .before .before .before .before .before .pre .1), c .before .before .loop .inv .1)
+    let s = c .before .before .before .before .before in
+    omega (arith, sum-small (s .args .w .now) (s .args .bounds .now) (s .pre .0 .1) (s .pre .1), c .before .before .loop .inv .1)
 
 returns : tie.Need-returns Inv-loop μ-loop
 unfolding sheetOf
 returns c =
-    let a = c .before .before .before .before .before .before .args in
-    let whole : c .before .before .before .loop .sum ≡ sumOf (a .bounds .now) = omega (arith, c .before .before .before .loop .inv .1, sum-end (a .bounds .now) (c .before .before .before .loop .m) (omega arith)) in
-    let e = c .words .ensures .0 ∙ ap (wordCount (spellingOf (getD (a .w .now) 0 0))) whole in
-    (e, omega (arith, e, coefficients-small (a .w .now) (a .bounds .now) (c .before .before .before .before .before .before .pre .0 .1) (c .before .before .before .before .before .before .pre .1)))
+    let s = c .before .before .before .before .before .before in
+    let l = c .before .before .before .loop in
+    let whole : l .sum ≡ sumOf (s .args .bounds .now) = omega (arith, l .inv .1, sum-end (s .args .bounds .now) (l .m) (omega arith)) in
+    let e = c .words .ensures .0 ∙ ap (wordCount (spellingOf (getD (s .args .w .now) 0 0))) whole in
+    (e, omega (arith, e, coefficients-small (s .args .w .now) (s .args .bounds .now) (s .pre .0 .1) (s .pre .1)))
 
 pub coefficients-due-spec : {M : Type 1} → statement M
 coefficients-due-spec =

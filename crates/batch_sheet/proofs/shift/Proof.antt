@@ -24,33 +24,34 @@ sub-words c = search needs
 mul-words : tie.Need-mul-words
 unfolding sheetOf
 mul-words c =
-    let a = c .before .before .before .args in
-    omega (arith, shift-small (sheetOf edition1 (a .w .now)) (a .count) (c .before .before .before .pre .1 .0) (c .before .before .before .pre .1 .1 .0) (c .before .before .before .pre .1 .1 .1) .0)
+    let s = c .before .before .before in
+    omega (arith, shift-small (sheetOf edition1 (s .args .w .now)) (s .args .count) (s .pre .1 .0) (s .pre .1 .1 .0) (s .pre .1 .1 .1) .0)
 
 add-words : tie.Need-add-words
 unfolding sheetOf
 add-words c =
-    let a = c .before .before .before .args in
-    omega (arith, shift-small (sheetOf edition1 (a .w .now)) (a .count) (c .before .before .before .pre .1 .0) (c .before .before .before .pre .1 .1 .0) (c .before .before .before .pre .1 .1 .1) .0)
+    let s = c .before .before .before in
+    omega (arith, shift-small (sheetOf edition1 (s .args .w .now)) (s .args .count) (s .pre .1 .0) (s .pre .1 .1 .0) (s .pre .1 .1 .1) .0)
 
 words-requires : tie.Need-words-requires
 unfolding sheetOf
 words-requires c κs =
-    let a = c .before .before .before .args in
-    omega (arith, shift-small (sheetOf edition1 (a .w .now)) (a .count) (c .before .before .before .pre .1 .0) (c .before .before .before .pre .1 .1 .0) (c .before .before .before .pre .1 .1 .1) .0)
+    let s = c .before .before .before in
+    omega (arith, shift-small (sheetOf edition1 (s .args .w .now)) (s .args .count) (s .pre .1 .0) (s .pre .1 .1 .0) (s .pre .1 .1 .1) .0)
 
 add-result-2 : tie.Need-add-result-2
 unfolding sheetOf
 add-result-2 c =
-    let a = c .before .before .before .before .args in
-    omega (arith, c .words .ensures .0, c .before .before .before .before .pre .1 .1 .0, shift-small (sheetOf edition1 (a .w .now)) (a .count) (c .before .before .before .before .pre .1 .0) (c .before .before .before .before .pre .1 .1 .0) (c .before .before .before .before .pre .1 .1 .1) .1)
+    let s = c .before .before .before .before in
+    omega (arith, c .words .ensures .0, s .pre .1 .1 .0, shift-small (sheetOf edition1 (s .args .w .now)) (s .args .count) (s .pre .1 .0) (s .pre .1 .1 .0) (s .pre .1 .1 .1) .1)
 
 returns : tie.Need-returns
 unfolding sheetOf
 returns c =
-    let a = c .before .before .before .before .args in
-    let h = sheetOf edition1 (a .w .now) in
-    (shift-is h (a .count) (c .before .before .before .before .pre .1 .0) (c .words .ensures .0), omega (arith, c .words .ensures .0, c .before .before .before .before .pre .1 .1 .0, shift-small h (a .count) (c .before .before .before .before .pre .1 .0) (c .before .before .before .before .pre .1 .1 .0) (c .before .before .before .before .pre .1 .1 .1) .1))
+    let s = c .before .before .before .before in
+    let h = sheetOf edition1 (s .args .w .now) in
+    let small = shift-small h (s .args .count) (s .pre .1 .0) (s .pre .1 .1 .0) (s .pre .1 .1 .1) in
+    (shift-is h (s .args .count) (s .pre .1 .0) (c .words .ensures .0), omega (arith, c .words .ensures .0, s .pre .1 .1 .0, small .1))
 
 pub shift-spec : {M : Type 1} → statement M
 shift-spec =
