@@ -8,7 +8,7 @@ use mathlib.Core.Path.{_≡_, sym, ap, _∙_}
 use lib.Dec.{leb}
 use lib.ListN.{length, getD, take, drop, drop-of-length-le}
 use lib.Seq.{drop-cons, getD-take, length-take-le}
-use borrow.Author.Tests.{not-false, not-true}
+use borrow.Author.Tests.{le-leb, lt-leb, not-false, not-true}
 use Rattle.batch_definition.specs.Batch.{batchRules, mostEntries}
 use Rattle.definition.specs.Field.{spellingOf}
 use Rattle.definition.specs.Lists.{firstTrue}
@@ -16,6 +16,15 @@ use Rattle.definition.specs.Sheet.{Sheet, between, edition1, sheetOf}
 use Rattle.list_laws.specs.Booleans.{and-true}
 use Rattle.layouts.specs.SheetRules.{between-true}
 use Rattle.widths.specs.ByField.{spelling-other, spelling-three}
+
+-- 1 to most: below 1, and from 1 on
+pub below-one : (most x : ℕ) → x < 1 → false ≡ between 1 most x
+unfolding between
+below-one most x l = simp (lt-leb 1 x l)
+
+pub from-one-on : (most x : ℕ) → 1 ≤ x → leb x most ≡ between 1 most x
+unfolding between
+from-one-on most x l = simp (le-leb 1 x l)
 
 pub most-of-three : (field : ℕ) → field ≡ 3 → 2048 ≡ mostEntries (spellingOf field)
 unfolding mostEntries
