@@ -160,12 +160,12 @@ module _ {A : Type 0} (F : Field A) (L : FieldLaws F) where
       ∙ ap (combinePoly F d 0 r) (sym none)
 
   -- one part more, of number m, which begins with coefficient number `at`
-  pub poly-turn : (d : ℕ) (r : A) (at m : ℕ) (bs : List ℕ) (f part old new : List A) → m < length bs → at + getD bs m 0 ≤ length f → length old ≡ d → getD bs m 0 ≤ d → 0 < getD bs m 0 →
+  pub poly-turn : (d : ℕ) (r : A) (at m : ℕ) (bs : List ℕ) (f part old new : List A) → m < length bs → at + getD bs m 0 ≤ length f → length old ≡ d →
       old ≡ combinePoly F d 0 r (cutBy (drop (m + 1) bs) (drop (at + getD bs m 0) f)) → part ≡ mulPoly F (take (getD bs m 0) (drop at f)) (geometric F r (d - getD bs m 0)) → length part ≡ d →
       FilledOver 𝟘 (λ j. getD part j 𝟘 ⊕ power F r (suc (d - getD bs m 0)) ⊗ getD old j 𝟘) old new d →
       new ≡ combinePoly F d 0 r (cutBy (drop m bs) (drop at f))
   unfolding cutBy
-  poly-turn d r at m bs f part old new inside there long few some before is size filled =
+  poly-turn d r at m bs f part old new inside there long before is size filled =
       sum-filled (power F r (suc (d - b))) part old new d size long filled
       ∙ (λ i. addPoly F (is i) (scale F (power F r (suc (d - b))) (before i)))
       ∙ (λ i. addPoly F (mulPoly F g (geometric F r (d - sym width i))) (scale F (power F r (suc (d - sym width i))) (combinePoly F d 0 r (cutBy (drop (add-one m i) bs) (sym (drop-drop b at f) i)))))

@@ -7,12 +7,12 @@ ghost use Prim.Native.Nat.{suc, _+_, _*_, _≤_, _<_};
 ghost use lib.ListN.{length, getD};
 ghost use Rattle.definition.specs.Field.{Field, numberIn, power, spellingOf};
 ghost use Rattle.definition.specs.Lists.{chunks, range};
-ghost use Rattle.definition.specs.Polynomial.{evaluate, geometric};
-ghost use Rattle.batch_definition.specs.Batch.{combineAt};
+ghost use Rattle.definition.specs.Polynomial.{evaluate, geometric, mulPoly};
+ghost use Rattle.batch_definition.specs.Batch.{combineAt, combinePoly, cutBy};
 ghost use Rattle.list_laws.specs.Filled.{FilledOver};
 ghost use Rattle.spelling.specs.ByField.{ElementOf, fieldAt, elementsAt};
 ghost use Rattle.elements.specs.Meaning.{valueAt};
-ghost use Rattle.combination.specs.Asked.{Bounded, Tabled, TablesFit};
+ghost use Rattle.combination.specs.Asked.{Bounded, Parted, Tabled, TablesFit};
 
 // The power x^e.
 fn power(field: u32, x: Four, e: usize) -> Four
@@ -100,5 +100,66 @@ pub fn values(
         let e = d - bounds[m] as usize;
         let table = elements::part(field, tables, n * m, n);
         add_table(field, r, e, pw, table, list, multipliers, out);
+    }
+}
+
+// Each coefficient of out becomes s times itself, and that of f in its place is added.
+fn add_polynomial(field: u32, s: Four, f: &[u32], out: &mut [u32])
+    requires { ⌜ length (elementsAt field (now out)) ≤ length (elementsAt field (now f)) ⌝ }
+    ensures { λ _. ⌜ FilledOver (fieldAt field .𝟘) (λ j. fieldAt field ._⊕_ (getD (elementsAt field (now (f .entry))) j (fieldAt field .𝟘)) (fieldAt field ._⊗_ (valueAt field s) (getD (elementsAt field (now (out .entry))) j (fieldAt field .𝟘)))) (elementsAt field (now (out .entry))) (elementsAt field (now (out .exit))) (length (elementsAt field (now (out .entry)))) ⌝ }
+{
+    let n = elements::count(field, out);
+    let mut j = 0;
+    while j < n {
+        let before = elements::mul(field, s, elements::get(field, out, j));
+        elements::put(
+            field,
+            out,
+            j,
+            elements::add(field, elements::get(field, f, j), before),
+        );
+        j += 1;
+    }
+}
+
+// One part more in the combined polynomial: it becomes r^(1+e) times itself, and the part f, times 1 + rX + .. + (rX)^e, is added.
+fn add_part(field: u32, r: Four, e: usize, f: &[u32], scratch: &mut [u32], out: &mut [u32])
+    requires { ⌜ (0 < length (elementsAt field (now f))) × ((length (elementsAt field (now scratch)) ≡ length (elementsAt field (now f)) + e) × (e < 65536)) ⌝ }
+    requires { ⌜ length (elementsAt field (now out)) ≡ length (elementsAt field (now scratch)) ⌝ }
+    ensures { λ _. ⌜ FilledOver (fieldAt field .𝟘) (λ j. fieldAt field ._⊕_ (getD (mulPoly (fieldAt field) (elementsAt field (now (f .entry))) (geometric (fieldAt field) (valueAt field r) e)) j (fieldAt field .𝟘)) (fieldAt field ._⊗_ (power (fieldAt field) (valueAt field r) (suc e)) (getD (elementsAt field (now (out .entry))) j (fieldAt field .𝟘)))) (elementsAt field (now (out .entry))) (elementsAt field (now (out .exit))) (length (elementsAt field (now (out .entry)))) ⌝ }
+{
+    correction::multiplied(field, r, e, f, scratch);
+    add_polynomial(field, power(field, r, e + 1), scratch, out);
+}
+
+// The combined polynomial, with d coefficients, of parts whose coefficients stand in f one part after the other, as many of each as its bound says. The caller lends places for
+// d coefficients.
+pub fn polynomial(
+    field: u32,
+    d: usize,
+    r: Four,
+    bounds: &[u32],
+    f: &[u32],
+    scratch: &mut [u32],
+    out: &mut [u32],
+)
+    requires { ⌜ Parted field d (now bounds) (now f) (now scratch) (now out) ⌝ }
+    ensures { λ _. ⌜ elementsAt field (now (out .exit)) ≡ combinePoly (fieldAt field) d 0 (valueAt field r) (cutBy (now (bounds .entry)) (elementsAt field (now (f .entry)))) ⌝ }
+{
+    differences::fill(0, out);
+    let mut at = elements::count(field, f);
+    let mut m = bounds.len();
+    while 0 < m {
+        m -= 1;
+        let count = bounds[m] as usize;
+        at -= count;
+        add_part(
+            field,
+            r,
+            d - count,
+            elements::part(field, f, at, count),
+            scratch,
+            out,
+        );
     }
 }
