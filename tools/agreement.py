@@ -2,8 +2,10 @@
 """Writes theorems that hold by computation, from what the model says. Files of either edition: for each line `HEX outcome number place reads` the definition's
 verdict of these bytes. Steps: for each line `EDITION STEP HEX outcome number place reads` what the definition's reading or deciding says of these bytes.
 Conversions: for each line `EDITION HEX LENGTH answer number place HEX` what the definition's converter makes of these bytes and an output of so many bytes 165.
-Inputs of the prover: for each line `v | next | sheet | coefficients | coins` what the definition draws in one run of the load from the state v. Arguments: the
-folder with the lines, in the files one, two, steps, convert and inputs, and the folder to write to."""
+Inputs of the prover: for each line `v | next | sheet | coefficients | coins` what the definition draws in one run of the load from the state v. Batches: for each
+line as of files the verdict on a batch; and for each line `sheet | bounds | coefficients | coins | LENGTH answer number place HEX` what the prover of batches makes
+of these words and an output of so many bytes 165. Arguments: the folder with the lines, in the files one, two, steps, convert, inputs, batches and orders, and the
+folder to write to."""
 import sys
 
 HEAD = """use Prim.Native.Nat.{ℕ}
@@ -24,6 +26,15 @@ CONVERSIONS = """use lib.ListN.{replicate}
 use Rattle.definition.specs.Prove.{done, refusal}
 use Rattle.definition.specs.Convert.{toEdition1, toEdition2}
 """
+BATCHES = """use Rattle.definition.specs.Verdict.{accepted, refused}
+use Rattle.batch_definition.specs.Batch.{verifyBatch}
+use Rattle.batch_definition.specs.BatchCases.{batchDefinitions}
+"""
+ORDERS = """use lib.ListN.{replicate}
+use Rattle.definition.specs.Prove.{done, refusal}
+use Rattle.batch_definition.specs.Batch.{proveBatch}
+use Rattle.batch_definition.specs.BatchCases.{batchDefinitions}
+"""
 DRAWS = """use Rattle.definition.specs.Load.{drawInput}
 use Rattle.definition.specs.LoadCases.{loadDefinitions}
 """
@@ -41,10 +52,10 @@ def said(outcome, fault, place):
     return "accepted" if outcome == "accepted" else f"refused {fault} {place}"
 
 
-def verdict(edition):
+def verdict(verify):
     def theorem(line):
         file, *outcome, reads = line.split()
-        return f"verifyIn {edition} ({data(file)})", f"record {{ outcome = {said(*outcome)}; reads = {reads} }}"
+        return f"{verify} ({data(file)})", f"record {{ outcome = {said(*outcome)}; reads = {reads} }}"
 
     return theorem
 
@@ -56,12 +67,25 @@ def step(line):
     return f"decideFile edition{edition} ({data(file)})", f"record {{ outcome = {said(*outcome)}; reads = {reads} }}"
 
 
-def conversion(line):
-    edition, file, length, answer, number, place, output = line.split()
+def written(length, answer, number, place, output):
+    """An output before, and what is answered and written."""
     before = f"replicate {length} 165"
     after = before if output == int(length) * "a5" else data(output)
     answered = f"done {place}" if answer == "done" else f"refusal {number} {place}"
-    return f"toEdition{edition} ({data(file)}) ({before})", f"record {{ answer = {answered}; output = {after} }}"
+    return before, f"record {{ answer = {answered}; output = {after} }}"
+
+
+def conversion(line):
+    edition, file, *rest = line.split()
+    before, result = written(*rest)
+    return f"toEdition{edition} ({data(file)}) ({before})", result
+
+
+def order(line):
+    *lists, rest = line.split("|")
+    before, result = written(*rest.split())
+    words = " ".join(f"({listed(words.split())})" for words in lists)
+    return f"proveBatch {words} ({before})", result
 
 
 def drawn_input(line):
@@ -74,11 +98,13 @@ def drawn_input(line):
 def main():
     lines, folder = sys.argv[1:]
     modules = [
-        ("one", "One", VERDICTS + WORKED, "definitions", verdict("edition1")),
-        ("two", "Two", VERDICTS + WORKED, "definitions", verdict("edition2")),
+        ("one", "One", VERDICTS + WORKED, "definitions", verdict("verifyIn edition1")),
+        ("two", "Two", VERDICTS + WORKED, "definitions", verdict("verifyIn edition2")),
         ("steps", "Steps", STEPS + WORKED, "definitions decideFile", step),
         ("convert", "Conversions", CONVERSIONS + WORKED, "definitions", conversion),
         ("inputs", "Inputs", DRAWS, "loadDefinitions", drawn_input),
+        ("batches", "Batches", BATCHES + WORKED, "definitions batchDefinitions", verdict("verifyBatch")),
+        ("orders", "Orders", ORDERS + WORKED, "definitions batchDefinitions", order),
     ]
     for name, module, head, unfolded, theorem in modules:
         with open(f"{lines}/{name}") as f, open(f"{folder}/{module}.antt", "w") as out:

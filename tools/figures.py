@@ -88,7 +88,6 @@ HELD = [
     (r"bytes, or ([\d,]+) in edition 2", lambda: 4 * 18 + number("crates/prove_bytes/specs/Length.antt", r"done-short .* 4 \* sheetLength ed \+ (\d+)")),
     (r"n0 ends at (\d+)", lambda: number("crates/definition/specs/Sheet.antt", r"largestSize four = (\d+)")),
     (r"so long as ([\d,]+) bytes", lambda: number("crates/completeness/specs/Statements.antt", r"accepted-short .* length bytes < (\d+)")),
-    (r"up to (\d+) blocks", lambda: number("crates/stream/specs/Loaded.antt", r"loaded-all : length file / 512 ≤ (\d+)")),
     (r"(\d+) where the number names no\s+field", lambda: number("include/tevrolig.h", r"TEVROLIG_NO_FIELD = (\d+)")),
     (r"(\d+) where there is no inverse", lambda: number("include/tevrolig.h", r"TEVROLIG_NO_INVERSE = (\d+)")),
     (r"answers (\d+) where there is none", lambda: number("include/tevrolig.h", r"TEVROLIG_NO_WORD = (\d+)")),

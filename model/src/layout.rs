@@ -6,9 +6,12 @@ use crate::sheet::Sheet;
 use crate::stream::BLOCK_WORDS;
 use std::ops::Range;
 
-/// The parts of the stream after the sheet, with the round they belong to.
+/// The parts of the stream after the sheet, with the round they belong to; those of a
+/// batch that a plain file does not have, with the number of the table, from 1.
 #[derive(Debug, Clone, Copy, PartialEq, Eq)]
 pub enum Part {
+    BatchTable(usize),
+    BatchCoin,
     Table(usize),
     FoldCoin(usize),
     OutCoins(usize),
@@ -24,7 +27,7 @@ impl Part {
     pub fn is_coin(self) -> bool {
         !matches!(
             self,
-            Part::Table(_) | Part::Replies(_) | Part::FinalCoefficients
+            Part::BatchTable(_) | Part::Table(_) | Part::Replies(_) | Part::FinalCoefficients
         )
     }
 }
@@ -57,32 +60,57 @@ pub struct Layout {
     pub sections: Vec<Section>,
 }
 
-impl Layout {
-    pub fn new(sheet: &Sheet) -> Self {
-        let elements = |part: Part, count: usize| (part, count, sheet.width, sheet.field.p);
-        let indices = |part: Part, i: usize| (part, sheet.t[i], 1, sheet.indices(i) as u64);
+/// A part before it has its place: how many elements or indices it has, the words of
+/// each, and their limit.
+type Planned = (Part, usize, usize, u64);
 
-        let mut plan = vec![
-            elements(Part::Table(0), sheet.n0),
-            elements(Part::FoldCoin(0), 1),
-        ];
-        for i in 1..=sheet.rounds {
-            plan.extend([
-                elements(Part::Table(i), sheet.n(i)),
-                elements(Part::OutCoins(i), sheet.outs),
-                elements(Part::Replies(i), sheet.outs),
-                elements(Part::Combination(i), 1),
-                elements(Part::FoldCoin(i), 1),
-                indices(Part::ShiftIndices(i), i - 1),
-            ]);
-        }
-        let last = sheet.rounds;
+fn elements(sheet: &Sheet, part: Part, count: usize) -> Planned {
+    (part, count, sheet.width, sheet.field.p)
+}
+
+/// What plain files and batches have in common: all from fold coin 0 on.
+fn from_fold_coin(sheet: &Sheet) -> Vec<Planned> {
+    let elements = |part: Part, count: usize| elements(sheet, part, count);
+    let indices = |part: Part, i: usize| (part, sheet.t[i], 1, sheet.indices(i) as u64);
+
+    let mut plan = vec![elements(Part::FoldCoin(0), 1)];
+    for i in 1..=sheet.rounds {
         plan.extend([
-            elements(Part::FinalCoefficients, sheet.d[last + 1]),
-            indices(Part::FinalIndices, last),
+            elements(Part::Table(i), sheet.n(i)),
+            elements(Part::OutCoins(i), sheet.outs),
+            elements(Part::Replies(i), sheet.outs),
+            elements(Part::Combination(i), 1),
+            elements(Part::FoldCoin(i), 1),
+            indices(Part::ShiftIndices(i), i - 1),
         ]);
+    }
+    let last = sheet.rounds;
+    plan.extend([
+        elements(Part::FinalCoefficients, sheet.d[last + 1]),
+        indices(Part::FinalIndices, last),
+    ]);
+    plan
+}
 
-        let mut start = sheet.edition.sheet_words();
+impl Layout {
+    /// That of a plain file: table 0 stands after the sheet.
+    pub fn new(sheet: &Sheet) -> Self {
+        let front = vec![elements(sheet, Part::Table(0), sheet.n0)];
+        Layout::placed(sheet.edition.sheet_words(), front, sheet)
+    }
+
+    /// That of a batch: after the sheet stand the number of tables and their bounds,
+    /// which are no section, then the tables and the coin r (document 02, CR 9).
+    pub fn of_batch(sheet: &Sheet, count: usize) -> Self {
+        let mut front: Vec<Planned> = (1..=count)
+            .map(|m| elements(sheet, Part::BatchTable(m), sheet.n0))
+            .collect();
+        front.push(elements(sheet, Part::BatchCoin, 1));
+        Layout::placed(sheet.edition.sheet_words() + 1 + count, front, sheet)
+    }
+
+    fn placed(mut start: usize, front: Vec<Planned>, sheet: &Sheet) -> Self {
+        let plan = front.into_iter().chain(from_fold_coin(sheet));
         let place = |(part, count, width, limit)| {
             let words = start..start + width * count;
             start = words.end;
@@ -94,7 +122,7 @@ impl Layout {
             }
         };
         Layout {
-            sections: plan.into_iter().map(place).collect(),
+            sections: plan.map(place).collect(),
         }
     }
 

@@ -50,15 +50,21 @@ pub fn prove_in(
 ) -> Answer {
     let tested = sheet_and_polynomial(edition, sheet, coefficients);
     let written = tested.and_then(|known| {
-        let (bytes, field) = (output.len(), known.field);
+        let order = Order {
+            layout: Layout::new(&known),
+            front: sheet,
+            coefficients,
+            coins,
+            bytes: output.len(),
+        };
         let stream = match known.width {
             Quartic::WIDTH => {
-                let mut request = request(QUARTIC, known, sheet, coefficients, coins, bytes)?;
+                let mut request = order.request(QUARTIC, known)?;
                 request.run(coefficients);
                 request.stream
             }
             _ => {
-                let mut request = request(field, known, sheet, coefficients, coins, bytes)?;
+                let mut request = order.request(known.field, known)?;
                 request.run(coefficients);
                 request.stream
             }
@@ -112,14 +118,14 @@ fn table_words<F: Elements>(field: F, sheet: &Sheet, coefficients: &[u32]) -> Ve
     table.into_iter().flat_map(|x| field.words(x)).collect()
 }
 
-/// What prove has when no test failed: the stream holds sheet and coins, the
-/// messages are still to be filled in.
-struct Request<F> {
-    field: F,
-    sheet: Sheet,
-    subgroup: Subgroup,
-    layout: Layout,
-    stream: Vec<u32>,
+/// What prove has when no test failed: the stream holds what stands before its sections,
+/// and the coins; the messages are still to be filled in.
+pub(crate) struct Request<F> {
+    pub field: F,
+    pub sheet: Sheet,
+    pub subgroup: Subgroup,
+    pub layout: Layout,
+    pub stream: Vec<u32>,
 }
 
 /// The first tests of prove and encode: sheet, then number of coefficients.
@@ -136,50 +142,61 @@ fn sheet_and_polynomial(
     Ok(sheet)
 }
 
-/// The other tests of prove in order.
-fn request<F: Elements>(
-    field: F,
-    sheet: Sheet,
-    words: &[u32],
-    coefficients: &[u32],
-    coins: &[u32],
-    output_bytes: usize,
-) -> Result<Request<F>, Fault> {
-    let layout = Layout::new(&sheet);
-    if coins.len() != layout.coins() {
-        return Err(Fault::new(10, 2));
-    }
+/// An order whose sheet and coefficients have passed their first tests: the layout, the
+/// words that stand before its sections, and what is to be tested.
+pub(crate) struct Order<'a> {
+    pub layout: Layout,
+    pub front: &'a [u32],
+    pub coefficients: &'a [u32],
+    pub coins: &'a [u32],
+    pub bytes: usize,
+}
 
-    // The coins at their places in the stream; `due` has their word numbers.
-    let mut stream = words.to_vec();
-    stream.resize(layout.words(), 0);
-    let due: Vec<(usize, u64)> = layout
-        .coin_sections()
-        .flat_map(|section| section.words.clone().map(|word| (word, section.limit)))
-        .collect();
-    if let Some(at) = first_above(coefficients, sheet.field.p) {
-        return Err(Fault::new(5, at));
-    }
-    for (at, (&coin, (word, limit))) in coins.iter().zip(due).enumerate() {
-        if u64::from(coin) >= limit {
-            return Err(Fault::new(5, coefficients.len() + at));
+impl Order<'_> {
+    /// The other tests of prove in order.
+    pub fn request<F: Elements>(self, field: F, sheet: Sheet) -> Result<Request<F>, Fault> {
+        let Order {
+            layout,
+            front,
+            coefficients,
+            coins,
+            bytes,
+        } = self;
+        if coins.len() != layout.coins() {
+            return Err(Fault::new(10, 2));
         }
-        stream[word] = coin;
-    }
 
-    let subgroup = Subgroup::of(&sheet);
-    test_out_coins(field, &subgroup, &layout, &stream).map_err(|fault| Fault {
-        place: layout.coin_position(fault.place as usize) as u64,
-        ..fault
-    })?;
-    test_room(stream.len(), output_bytes)?;
-    Ok(Request {
-        field,
-        sheet,
-        subgroup,
-        layout,
-        stream,
-    })
+        // The coins at their places in the stream; `due` has their word numbers.
+        let mut stream = front.to_vec();
+        stream.resize(layout.words(), 0);
+        let due: Vec<(usize, u64)> = layout
+            .coin_sections()
+            .flat_map(|section| section.words.clone().map(|word| (word, section.limit)))
+            .collect();
+        if let Some(at) = first_above(coefficients, sheet.field.p) {
+            return Err(Fault::new(5, at));
+        }
+        for (at, (&coin, (word, limit))) in coins.iter().zip(due).enumerate() {
+            if u64::from(coin) >= limit {
+                return Err(Fault::new(5, coefficients.len() + at));
+            }
+            stream[word] = coin;
+        }
+
+        let subgroup = Subgroup::of(&sheet);
+        test_out_coins(field, &subgroup, &layout, &stream).map_err(|fault| Fault {
+            place: layout.coin_position(fault.place as usize) as u64,
+            ..fault
+        })?;
+        test_room(stream.len(), bytes)?;
+        Ok(Request {
+            field,
+            sheet,
+            subgroup,
+            layout,
+            stream,
+        })
+    }
 }
 
 /// The position of the first word that is no element.
@@ -205,29 +222,40 @@ pub struct Round<E = u64> {
 pub fn rounds(sheet: &[u32], coefficients: &[u32], coins: &[u32]) -> Result<Vec<Round>, Fault> {
     let known = sheet_and_polynomial(Edition::One, sheet, coefficients)?;
     assert_eq!(known.width, Field::WIDTH);
-    request(known.field, known, sheet, coefficients, coins, usize::MAX)
-        .map(|mut request| request.run(coefficients))
+    let order = Order {
+        layout: Layout::new(&known),
+        front: sheet,
+        coefficients,
+        coins,
+        bytes: usize::MAX,
+    };
+    let request = order.request(known.field, known);
+    request.map(|mut request| request.run(coefficients))
 }
 
 impl<F: Elements> Request<F> {
     /// The elements of a part.
-    fn read(&self, part: Part) -> Vec<F::Element> {
+    pub fn read(&self, part: Part) -> Vec<F::Element> {
         self.field.list(&self.stream[self.layout.range(part)])
     }
 
     /// Fills a message into the stream.
-    fn send(&mut self, part: Part, message: &[F::Element]) {
+    pub fn send(&mut self, part: Part, message: &[F::Element]) {
         let words = message.iter().flat_map(|&x| self.field.words(x));
         let words: Vec<u32> = words.collect();
         self.stream[self.layout.range(part)].copy_from_slice(&words);
     }
 
-    /// Sends all messages, each worked out from the coins before it.
+    /// Sends all messages of a plain run.
     fn run(&mut self, coefficients: &[u32]) -> Vec<Round<F::Element>> {
-        let field = self.field;
-        let mut f = field.list(coefficients);
-        self.send(Part::Table(0), &self.subgroup.table(field, 0, &f));
+        let f = self.field.list(coefficients);
+        self.send(Part::Table(0), &self.subgroup.table(self.field, 0, &f));
+        self.run_from(f)
+    }
 
+    /// Sends all messages after fold coin 0, each worked out from the coins before it.
+    pub fn run_from(&mut self, mut f: Vec<F::Element>) -> Vec<Round<F::Element>> {
+        let field = self.field;
         let mut rounds = Vec::new();
         for i in 1..=self.sheet.rounds {
             let g = self.folded(i - 1, &f);

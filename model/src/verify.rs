@@ -1,13 +1,15 @@
 //! The verifier (document 01, "Verify, prove, encode"), of both editions, with the test
 //! for equal out coins, in two steps, with reads as openings, and for elements of one
-//! word and of four (document 02, CR 5 to CR 8 and CR 11).
+//! word and of four (document 02, CR 5 to CR 8 and CR 11). What it decides of batches is
+//! here too (CR 9); their reading is in `batch`.
 
+use crate::batch;
 use crate::domain::Subgroup;
 use crate::elements::{Elements, Quartic};
 use crate::field::QUARTIC;
 use crate::layout::{Layout, Part};
 use crate::polynomial::{correction_at, evaluate, interpolate, interpolate_at, Pairs};
-use crate::sheet::{Edition, Sheet};
+use crate::sheet::{Edition, Sheet, SHEET_WORDS};
 use crate::stream::{first_wrong_check, read_word, BLOCK_BYTES, BLOCK_WORDS};
 use crate::Fault;
 use std::collections::BTreeSet;
@@ -42,7 +44,12 @@ pub fn verify_in(edition: Edition, file: &[u8]) -> Verdict {
 
 /// The verdict, and the places that the count of reads is of.
 pub fn opened_in(edition: Edition, file: &[u8]) -> (Verdict, Places) {
-    match read(edition, file) {
+    decide_read(read(edition, file))
+}
+
+/// The verdict on a file that reading refused or passed, and its places.
+pub(crate) fn decide_read(read: Result<Reading, Fault>) -> (Verdict, Places) {
+    match read {
         Ok(reading) => decide(reading),
         Err(fault) => {
             let verdict = Verdict {
@@ -112,6 +119,13 @@ pub(crate) struct Reading {
 
 /// Tests 1 to 6 in order.
 pub(crate) fn read(edition: Edition, file: &[u8]) -> Result<Reading, Fault> {
+    let sheet = read_sheet(edition, file)?;
+    let layout = Layout::new(&sheet);
+    read_body(sheet, layout, file)
+}
+
+/// Tests 1 to 3.
+pub(crate) fn read_sheet(edition: Edition, file: &[u8]) -> Result<Sheet, Fault> {
     if file.is_empty() || !file.len().is_multiple_of(BLOCK_BYTES) {
         return Err(Fault::new(1, 0));
     }
@@ -123,8 +137,11 @@ pub(crate) fn read(edition: Edition, file: &[u8]) -> Result<Reading, Fault> {
         .map(|word| read_word(file, word))
         .collect();
     let sheet = Sheet::read_in(edition, &words).expect("as many words as the edition has");
-    let sheet = sheet.map_err(|place| Fault::new(3, place))?;
-    let layout = Layout::new(&sheet);
+    sheet.map_err(|place| Fault::new(3, place))
+}
+
+/// Tests 4 to 6, by the layout of a plain file or of a batch.
+pub(crate) fn read_body(sheet: Sheet, layout: Layout, file: &[u8]) -> Result<Reading, Fault> {
     if file.len() / BLOCK_BYTES != layout.blocks() {
         return Err(Fault::new(4, layout.blocks()));
     }
@@ -229,6 +246,9 @@ fn join<E: Ord>(pairs: impl Iterator<Item = (E, E)>) -> Option<Pairs<E>> {
 /// coins lead to it.
 pub type Places = BTreeSet<(usize, usize)>;
 
+/// The tables of a batch are numbered from here on, apart from those of the rounds.
+const BATCH_TABLES: usize = 100;
+
 /// A file that passed the tests 1 to 7 and 14, which use no table word.
 struct Transcript<F> {
     field: F,
@@ -281,8 +301,12 @@ impl<F: Elements> Transcript<F> {
 
     /// Tests 8 and 9. The places that a coin leads to are opened when it is treated.
     fn decide(&self, opened: &mut Places) -> Result<(), Fault> {
-        // f_i over the whole of domain i, beginning with table 0.
-        let mut f = self.elements(Part::Table(0));
+        // f_i over the whole of domain i, beginning with table 0 or with what a batch
+        // has for it.
+        let mut f = match self.tables() {
+            0 => self.elements(Part::Table(0)),
+            count => self.combined(count),
+        };
         for i in 1..=self.sheet.rounds {
             // The shift coins of round i fold f_(i-1), which has its own k.
             let folds = self.folds(i - 1, &f);
@@ -312,10 +336,43 @@ impl<F: Elements> Transcript<F> {
         Ok(())
     }
 
-    /// The places that a coin with index j over domain i leads to: its roots, in table i.
+    /// The places that a coin with index j over domain i leads to: its roots, in table i;
+    /// over domain 0 of a batch in each of its tables.
     fn places(&self, i: usize, j: usize) -> impl Iterator<Item = (usize, usize)> {
         let roots = self.subgroup.root_places(i, self.sheet.k[i], j);
-        roots.map(move |point| (i, point))
+        let tables = match (i, self.tables()) {
+            (0, count) if count > 0 => (1..=count).map(|m| BATCH_TABLES + m).collect(),
+            _ => vec![i],
+        };
+        roots.flat_map(move |point| tables.clone().into_iter().map(move |table| (table, point)))
+    }
+
+    /// The number of tables of a batch; none in a plain file.
+    fn tables(&self) -> usize {
+        let sections = self.layout.sections.iter();
+        sections
+            .filter(|section| matches!(section.part, Part::BatchTable(_)))
+            .count()
+    }
+
+    /// The combination of a batch's tables over domain 0.
+    fn combined(&self, count: usize) -> Vec<F::Element> {
+        let bounds = &self.stream[SHEET_WORDS + 1..SHEET_WORDS + 1 + count];
+        let terms = batch::terms(
+            self.field,
+            self.sheet.d0,
+            bounds,
+            self.coin(Part::BatchCoin),
+        );
+        let mut sums = vec![self.field.number(0); self.sheet.n0];
+        for (m, term) in (1..).zip(terms) {
+            let table = self.elements(Part::BatchTable(m));
+            for ((sum, y), x) in sums.iter_mut().zip(table).zip(self.subgroup.domain(0)) {
+                let times = evaluate(self.field, &term, self.field.number(x));
+                *sum = self.field.add(*sum, self.field.mul(y, times));
+            }
+        }
+        sums
     }
 
     /// The folds of f_i by fold coin i.

@@ -26,6 +26,7 @@ pub mod PrimeField
 pub mod PowerLoop
 pub mod Divisors
 pub mod PublicInverse
+pub mod PublicPower
 -- elements of four words
 pub mod Quadratic
 pub mod Quartic

@@ -1,5 +1,6 @@
--- The public inverse of field 3: none exactly where all four words are multiples of p, and where it is found, an element whose product with x is 1.
-use Prim.Native.Nat.{ℕ, _%_}
+-- The public inverse of field 3: none exactly where all four words are multiples of p, and where it is found, an element whose product with x is 1. And the public
+-- power: 1 for the exponent 0, and for each next one the product of x with the power before.
+use Prim.Native.Nat.{ℕ, suc, _%_}
 use native.Mathlib.Nat.{mod-mod}
 use mathlib.Core.Bool.{Bool, true, false, true≢false}
 use mathlib.Core.Logic.{_↔_}
@@ -7,12 +8,13 @@ use mathlib.Core.Option.{none, some}
 use mathlib.Core.Path.{_≡_, refl, sym, ap, _∙_}
 use lib.Dec.{eqb}
 use borrow.Author.Tests.{eq-eqb, eqb-true}
-use Rattle.definition.specs.Field.{Quad, embed, fieldIn, field3, four, inverse3, numberIn, primeField, primeOf, product3, quartic, reciprocal, reduced}
+use Rattle.definition.specs.Field.{Quad, binaryDigits, embed, fieldIn, field3, four, inverse3, numberIn, power, power3, powerTurns3, primeField, primeOf, product3, quartic, reciprocal, reduced}
 use Rattle.list_laws.specs.Booleans.{some≢none}
 use Rattle.algebra.specs.Field3.{laws₃, reduce₃}
 use Rattle.algebra.specs.FieldIn
 use Rattle.algebra.specs.Laws.{FieldLaws}
 use Rattle.algebra.specs.Quartic.{quad-path}
+use Rattle.algebra.specs.RingLaws.{reduce-power}
 
 -- all four words are multiples of p
 abbrev pub IsZero3 : Quad ℕ → Type 0
@@ -64,3 +66,15 @@ module _ (x : Quad ℕ) where
 
       words : ((IsZero3 x → ⊥) → ⊥) → IsZero3 x
       words h = (stable _ (λ k. h (λ z. k (z .0))), stable _ (λ k. h (λ z. k (z .1))), stable _ (λ k. h (λ z. k (z .2))), stable _ (λ k. h (λ z. k (z .3))))
+
+pub power-none : (x : Quad ℕ) → power3 x 0 ≡ numberIn four 1
+unfolding power3 power
+power-none x = FieldIn.one-in four (primeOf 3)
+
+pub power-next : (x : Quad ℕ) (e : ℕ) → power3 x (suc e) ≡ product3 x (power3 x e)
+unfolding power3 power product3
+power-next x e = ap (λ (y : Quad ℕ). field3 ._⊗_ (reduced x) y) (sym (sym (reduce-is (power field3 (reduced x) e)) ∙ reduce-power field3 laws (reduced x) e))
+
+pub power-turns : (x : Quad ℕ) (e : ℕ) → powerTurns3 x e ≡ record { power = power3 x e; turns = binaryDigits e }
+unfolding powerTurns3
+power-turns x e = refl

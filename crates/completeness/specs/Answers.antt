@@ -60,7 +60,7 @@ module _ (Q : ℕ → ℕ → Type 0) where
       go (some q) k = subst (Q 3) (sym (k .1)) (h _ (turn-of-word ed (k .0) (omega (arith, k .2, rules-length ed w)) .1))
 
 -- the refusal of an answer is that of its tests
-finish-refusal : (Q : ℕ → ℕ → Type 0) (o : Outcome) (count n q : ℕ) (written output : List ℕ) → Refuses Q o → finish o count written output .answer ≡ refusal n q → Q n q
+pub finish-refusal : (Q : ℕ → ℕ → Type 0) (o : Outcome) (count n q : ℕ) (written output : List ℕ) → Refuses Q o → finish o count written output .answer ≡ refusal n q → Q n q
 unfolding finish
 finish-refusal Q accepted count n q written output h e = let z : _≡_ {A = ℕ} 0 1 = cc in absurd (omega arith)
 finish-refusal Q (refused m r) count n q written output h e =

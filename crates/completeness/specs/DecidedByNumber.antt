@@ -127,20 +127,27 @@ module _ (ed : Edition) (h : Sheet) (w : List ℕ) where
       go d now bs z true g = refl
       go d now bs z false g = g
 
+  -- what follows fold coin 0 is read from the words after round 0
+  pub first-rest : Paired h → readTranscript (h .spelling) h (drop (sheetLength ed) w) .rest ≡ restAfter 0 M
+  unfolding readTranscript firstLevel roundStart roundCount
+  first-rest long =
+      let n = wordsFor h (levelOf h 0 .size) in
+      let size : ℕ → ℕ = λ (m : ℕ). wordsFor h m in
+      (λ x. readRest σ (outCoinCount h) (level-first h x) (levels-later h long x) (drop (wordsFor h 1) (drop (size (level-first h x .size)) (drop (sheetLength ed) w))))
+      ∙ (λ x. readRest σ (outCoinCount h) (levelOf h 0) (map (levelOf h) (range 1 M))
+      ((ap (drop (wordsFor h 1)) (drop-drop n (sheetLength ed) w) ∙ drop-drop (wordsFor h 1) (sheetLength ed + n) w ∙ ap (λ (m : ℕ). drop m w) (add-assoc (sheetLength ed) n (wordsFor h 1))) x))
+
   -- deciding the words after the sheet
   pub decide-rounds : Paired h → decide F ω (firstLevel h) (readTranscript (h .spelling) h (drop (sheetLength ed) w))
       ≡ decideRest F ω (levelOf h 0) (functionIn ed h w 0) (partElement ed h w (fold 0) 0) [] (restAfter 0 M)
-  unfolding decide readTranscript firstLevel functionIn partWords partStart partLength startOf countOf roundStart roundCount
+  unfolding decide readTranscript firstLevel functionIn partWords partStart partLength startOf countOf roundStart
   decide-rounds long =
       let n = wordsFor h (levelOf h 0 .size) in
       let size : ℕ → ℕ = λ (m : ℕ). wordsFor h m in
       (λ x. decideRest F ω (level-first h x) (tableFunction F ω (level-first h x) (elementsIn σ (take (size (level-first h x .size)) (drop (sheetLength ed) w))))
-      (getD (elementsIn σ (drop (size (level-first h x .size)) (drop (sheetLength ed) w))) 0 (numberIn σ 0)) []
-      (readRest σ (outCoinCount h) (level-first h x) (levels-later h long x) (drop (wordsFor h 1) (drop (size (level-first h x .size)) (drop (sheetLength ed) w)))))
+      (getD (elementsIn σ (drop (size (level-first h x .size)) (drop (sheetLength ed) w))) 0 (numberIn σ 0)) [] (first-rest long x))
       ∙ (λ x. decideRest F ω (levelOf h 0) (functionIn ed h w 0)
-      ((ap (λ (l : List ℕ). getD (elementsIn σ l) 0 (numberIn σ 0)) (drop-drop n (sheetLength ed) w) ∙ read-drop σ w (sheetLength ed + n) 0) x) []
-      (readRest σ (outCoinCount h) (levelOf h 0) (map (levelOf h) (range 1 M))
-      ((ap (drop (wordsFor h 1)) (drop-drop n (sheetLength ed) w) ∙ drop-drop (wordsFor h 1) (sheetLength ed + n) w ∙ ap (λ (m : ℕ). drop m w) (add-assoc (sheetLength ed) n (wordsFor h 1))) x)))
+      ((ap (λ (l : List ℕ). getD (elementsIn σ l) 0 (numberIn σ 0)) (drop-drop n (sheetLength ed) w) ∙ read-drop σ w (sheetLength ed + n) 0) x) [] (restAfter 0 M))
 
   pub decided : Paired h → decide F ω (firstLevel h) (readTranscript (h .spelling) h (drop (sheetLength ed) w)) .outcome
       ≡ (refuseAt 8 (firstTrue 1 (clashes 0 M)) then refuseAt 9 (firstTrue 0 finalTests))

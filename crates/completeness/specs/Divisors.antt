@@ -10,14 +10,14 @@ use lib.ListN.{length, take, drop, replicate, length-drop, length-replicate, len
 use Rattle.definition.specs.Block.{fileOf, streamOf}
 use Rattle.definition.specs.Deciding.{answers, deciding, nextFunction, outInDomain, outTest, outTests}
 use Rattle.definition.specs.Domain.{domain, point, rootNumbers, shiftPoint}
-use Rattle.definition.specs.Field.{Element, Field, Spelling, begunBy, elementsIn, wordCount}
+use Rattle.definition.specs.Field.{Element, Field, Spelling, begunBy, wordCount}
 use Rattle.definition.specs.Layout.{Kind, coin, index, laterCount, layout, limit, message, outLayout, readRest, readTranscript, restLayout, roundCoins, roundLayout, wordsDue}
 use Rattle.definition.specs.Lists.{range}
 use Rattle.definition.specs.Polynomial.{Sample, distinct, evaluate, pair, points, vanishing}
 use Rattle.definition.specs.Prover.{honestStream}
 use Rattle.definition.specs.Reading.{outOfRange, rangeTest, reading, sheetTest}
 use Rattle.definition.specs.Sheet.{Edition, Level, Sheet, finalCount, firstLevel, laterLevels, sheetLength, sheetOf, shiftCount}
-use Rattle.definition.specs.Transcript.{Rest, Round, round}
+use Rattle.definition.specs.Transcript.{Rest, Round, final, round}
 use Rattle.definition.specs.Verdict.{Verdict, accepted}
 use Rattle.definition.specs.Verify.{verifyIn}
 use Rattle.list_laws.specs.All.{All, all-append, all-flat, all-in-map, all-left, all-map, all-of-map, all-range, all-right, everywhere}
@@ -115,6 +115,17 @@ module _ {A : Type 0} (F : Field A) (L : FieldLaws F) (ω : A) where
         (all-append (Found F) (divisors F g) (values ++ others) (divisors-found g (samples-apart (admissible .elements)))
         (all-append (Found F) values others (quotient-found admissible) h))
 
+  -- What follows a fold coin is fair, whatever its messages are: a function folds at each level, the coins of each round are fair, and the final indices are in range.
+  abbrev pub FairRest : Level → Rest A → Type 0
+  FairRest b (final coefficients js) = Foldable F ω b × All (λ j. j < shiftCount b) js
+  FairRest b (round ρ rest) = Foldable F ω b × AdmissibleRound F L ω b (ρ .coins) × FairRest (ρ .coins .level) rest
+
+  rest-found : (b : Level) (rest : Rest A) → FairRest b rest → (f : ℕ → A) (r : A) → All (Found F) (restDivisors F ω b f r rest)
+  unfolding restDivisors
+  rest-found b (final coefficients js) fair f r = folds-found b (fair .0) f js (fair .1)
+  rest-found b (round ρ rest) fair f r =
+      round-found b f r ρ (fair .1) (fair .0) rest (rest-found (ρ .coins .level) rest (fair .2) (nextFunction F ω (distinct F (answers F ω b f r ρ)) ρ .value) (ρ .coins .fold))
+
 -- ---- the words of a stream
 
 -- the first words of a layout in range, and what they begin off the domains
@@ -131,16 +142,15 @@ module _ (h : Sheet) (q : Ready h) where
   level-folds : (b : Level) (ls : List Level) → Chain (suc (q .e)) b ls → Foldable F ω b
   level-folds b ls ch = foldable F (q .laws) ω (q .signs) (q .e) (q .root) b (chain-head (suc (q .e)) b ls ch)
 
-  rest-found : (s : ℕ) (b : Level) (ls : List Level) (w : List ℕ) → Chain (suc (q .e)) b ls → Steps s b ls → Front (InRange h) (restLayout (h .spelling) s b ls) w →
-      Front (Outside h) (restLayout (h .spelling) s b ls) (begunBy (h .spelling) w) →
-      (f : ℕ → Element (h .spelling)) (r : Element (h .spelling)) → All (Found F) (restDivisors F ω b f r (readRest (h .spelling) s b ls w))
-  unfolding restLayout roundLayout roundCoins restDivisors readRest limit
-  rest-found s b [] w ch st p o f r =
+  rest-fair : (s : ℕ) (b : Level) (ls : List Level) (w : List ℕ) → Chain (suc (q .e)) b ls → Steps s b ls → Front (InRange h) (restLayout (h .spelling) s b ls) w →
+      Front (Outside h) (restLayout (h .spelling) s b ls) (begunBy (h .spelling) w) → FairRest F (q .laws) ω b (readRest (h .spelling) s b ls w)
+  unfolding restLayout roundLayout roundCoins readRest limit
+  rest-fair s b [] w ch st p o =
       let n = wordCount σ (finalCount b) in
       let js = take (b .repetitions) (drop n w) in
       let indices = front-run (InRange h) (b .repetitions) (index (shiftCount b)) (drop n w) (front-at (InRange h) n (replicate n message) _ w (length-replicate n message) p .1) in
-      folds-found F (q .laws) ω b (level-folds b [] ch) f js (all-map js indices (λ j k. in-range h (index (shiftCount b)) j k))
-  rest-found s b (l ∷ ls) w ch st p o f r =
+      (level-folds b [] ch, all-map js indices (λ j k. in-range h (index (shiftCount b)) j k))
+  rest-fair s b (l ∷ ls) w ch st p o =
       let later = laterLayout σ b in
       let n = wordCount σ (l .size) in
       let m = wordCount σ s in
@@ -165,34 +175,42 @@ module _ (h : Sheet) (q : Ready h) where
       let e₃ = ap (drop m) e₂ ∙ begun-drop σ m w₂ in
       let e₄ = ap (drop k) e₃ ∙ begun-drop σ k w₃ in
       let long : m ≤ length w₁ = omega (arith, each-length (InRange h) (outLayout σ s l) (take m w₁) (outs .0), outs-length σ s l, length-take m w₁, Nat.min-le-right m (length w₁)) in
-      let away = outs-begun σ (Outside h) s l w₁ long (subst (λ (xs : List (Element (h .spelling))). Each (Outside h) (outLayout σ s l) (take m xs)) e₁ (outs′ .0)) in
-      let admissible = admissible-round h (q .laws) (q .signs) (q .e) (q .root) s b l (take m w₁) (take k w₃) (ch .1) (chain-head (suc (q .e)) l ls (ch .2)) (st .0) (outs .0) away (rest .0) in
-      let ρ : Round (Element (h .spelling)) = record { table = elementsIn σ (take n w); coins = roundCoins σ l (take m w₁) (take k w₃); replies = elementsIn σ (take m w₂) } in
-      let next = nextFunction F ω (distinct F (answers F ω b f r ρ)) ρ .value in
-      round-found F (q .laws) ω b f r ρ admissible (level-folds b (l ∷ ls) ch) (readRest σ s l ls (drop k w₃))
-      (rest-found s l ls (drop k w₃) (ch .2) (st .1) (rest .1) (subst (Front (Outside h) (restLayout σ s l ls)) e₄ (rest′ .1)) next (ρ .coins .fold))
+      let away = outs-begun σ (Outside h) s l w₁ long (subst (λ (xs : List (Element (h .spelling))). Each (Outside h) (outLayout σ s l) (take m xs)) e₁ (outs′ .0)) in (
+        level-folds b (l ∷ ls) ch,
+        admissible-round h (q .laws) (q .signs) (q .e) (q .root) s b l (take m w₁) (take k w₃) (ch .1) (chain-head (suc (q .e)) l ls (ch .2)) (st .0) (outs .0) away (rest .0),
+        rest-fair s l ls (drop k w₃) (ch .2) (st .1) (rest .1) (subst (Front (Outside h) (restLayout σ s l ls)) e₄ (rest′ .1)),
+      )
 
 -- a stream that passes refusals 3, 5 and 7, with all words due
-stream-found : (ed : Edition) (w : List ℕ) → sheetTest ed w ≡ accepted → wordsDue ed (sheetOf ed w) ≤ length w →
-    rangeTest (sheetOf ed w) (sheetLength ed) (layout (sheetOf ed w)) w ≡ accepted → outTest (sheetOf ed w) (sheetLength ed) (layout (sheetOf ed w)) w ≡ accepted →
-    All (Found (sheetField (sheetOf ed w))) (decidingDivisors ed w)
-unfolding wordsDue rangeTest outTest layout readTranscript decidingDivisors
-stream-found ed w sheet due range outside =
-    let h = sheetOf ed w in
-    let σ = h .spelling in
-    let n = sheetLength ed in
-    let q = ready ed w (omega (arith, due)) sheet in
-    let rest = restLayout σ (h .outCoins) (firstLevel h) (laterLevels h) in
-    let a = wordsFor h (h .size) in
-    let c = wordsFor h 1 in
-    let v = drop n w in
-    let words = front-false (outOfRange h) n (layout h) v (omega (arith, due, length-drop n w)) (at-passes 5 _ range) in
-    let begun = front-false (outInDomain σ h) n (layout h) (begunBy σ v) (omega (arith, due, length-drop n w, begun-length σ v)) (at-passes 7 _ outside) in
-    let after = front-at (InRange h) c (replicate c coin) rest (drop a v) (length-replicate c coin) (front-at (InRange h) a (replicate a message) (replicate c coin ++ rest) v (length-replicate a message) words .1) .1 in
-    let after′ = front-at (Outside h) c (replicate c coin) rest (drop a (begunBy σ v)) (length-replicate c coin)
-    (front-at (Outside h) a (replicate a message) (replicate c coin ++ rest) (begunBy σ v) (length-replicate a message) begun .1) .1 in
-    rest-found h q (h .outCoins) (firstLevel h) (laterLevels h) (drop c (drop a v)) (q .chain) (q .steps) after
-    (subst (Front (Outside h) rest) (ap (drop c) (begun-drop σ a v) ∙ begun-drop σ c (drop a v)) after′) _ _
+module _ (ed : Edition) (w : List ℕ) (sheet : sheetTest ed w ≡ accepted) (due : wordsDue ed (sheetOf ed w) ≤ length w)
+    (range : rangeTest (sheetOf ed w) (sheetLength ed) (layout (sheetOf ed w)) w ≡ accepted) (outside : outTest (sheetOf ed w) (sheetLength ed) (layout (sheetOf ed w)) w ≡ accepted) where
+  pub stream-ready : Ready (sheetOf ed w)
+  unfolding wordsDue
+  stream-ready = ready ed w (omega (arith, due)) sheet
+
+  pub stream-fair : FairRest (sheetField (sheetOf ed w)) (stream-ready .laws) (sheetRoot (sheetOf ed w)) (firstLevel (sheetOf ed w))
+      (readTranscript (sheetOf ed w .spelling) (sheetOf ed w) (drop (sheetLength ed) w) .rest)
+  unfolding wordsDue rangeTest outTest layout readTranscript
+  stream-fair =
+      let h = sheetOf ed w in
+      let σ = h .spelling in
+      let n = sheetLength ed in
+      let q = stream-ready in
+      let rest = restLayout σ (h .outCoins) (firstLevel h) (laterLevels h) in
+      let a = wordsFor h (h .size) in
+      let c = wordsFor h 1 in
+      let v = drop n w in
+      let words = front-false (outOfRange h) n (layout h) v (omega (arith, due, length-drop n w)) (at-passes 5 _ range) in
+      let begun = front-false (outInDomain σ h) n (layout h) (begunBy σ v) (omega (arith, due, length-drop n w, begun-length σ v)) (at-passes 7 _ outside) in
+      let after = front-at (InRange h) c (replicate c coin) rest (drop a v) (length-replicate c coin) (front-at (InRange h) a (replicate a message) (replicate c coin ++ rest) v (length-replicate a message) words .1) .1 in
+      let after′ = front-at (Outside h) c (replicate c coin) rest (drop a (begunBy σ v)) (length-replicate c coin)
+      (front-at (Outside h) a (replicate a message) (replicate c coin ++ rest) (begunBy σ v) (length-replicate a message) begun .1) .1 in
+      rest-fair h q (h .outCoins) (firstLevel h) (laterLevels h) (drop c (drop a v)) (q .chain) (q .steps) after
+      (subst (Front (Outside h) rest) (ap (drop c) (begun-drop σ a v) ∙ begun-drop σ c (drop a v)) after′)
+
+  stream-found : All (Found (sheetField (sheetOf ed w))) (decidingDivisors ed w)
+  unfolding decidingDivisors
+  stream-found = rest-found (sheetField (sheetOf ed w)) (stream-ready .laws) (sheetRoot (sheetOf ed w)) (firstLevel (sheetOf ed w)) _ stream-fair _ _
 
 -- what has an inverse differs from 0
 found-nonzero : {A : Type 0} (F : Field A) (L : FieldLaws F) (x : A) → Found F x → F ._⊕_ x (F .𝟘) ≡ F .𝟘 → ⊥
@@ -211,11 +229,15 @@ module _ {ed : Edition} {w f coins : List ℕ} (ok : Allowed ed w f coins) where
   abbrev file : List ℕ
   file = fileOf (honestStream ed w f coins)
 
-  pub honest-divisors : All (Nonzero (sheetOf ed (streamOf file))) (decidingDivisors ed (streamOf file))
+  -- the file passes reading and refusal 7
+  pub honest-passes : (reading ed file ≡ accepted) × (outTest (sheetOf ed (streamOf file)) (sheetLength ed) (layout (sheetOf ed (streamOf file))) (streamOf file) ≡ accepted)
   unfolding verifyIn deciding outTests
-  honest-divisors =
+  honest-passes =
       let read = verdict-passes (reading ed file) (deciding ed (streamOf file)) (ap (λ (v : Verdict). v .outcome) (completeness ed w f coins ok)) in
-      file-divisors ed file (read .0) (then-passes _ _ (verdict-passes (outTests (sheetOf ed (streamOf file)) (sheetLength ed) (layout (sheetOf ed (streamOf file))) (streamOf file)) _ (read .1) .0) .0)
+      (read .0, then-passes _ _ (verdict-passes (outTests (sheetOf ed (streamOf file)) (sheetLength ed) (layout (sheetOf ed (streamOf file))) (streamOf file)) _ (read .1) .0) .0)
+
+  pub honest-divisors : All (Nonzero (sheetOf ed (streamOf file))) (decidingDivisors ed (streamOf file))
+  honest-divisors = file-divisors ed file (honest-passes .0) (honest-passes .1)
 
   pub prover-divisors : (i : ℕ) → i < roundsOf (sheetOf ed w) → All (Nonzero (sheetOf ed w)) (divisors (sheetField (sheetOf ed w)) (samplesAt (sheetOf ed w) f coins (suc i)))
   prover-divisors i l =

@@ -45,21 +45,21 @@ module _ (w f output : List ℕ) where
   due = wordsFor (sheetOf edition1 w) (getD w 1 0)
 
   -- the kinds that the coefficients are tested against
-  abbrev kinds : List Kind
+  abbrev pub kinds : List Kind
   kinds = replicate (wordsFor (sheetOf edition1 w) (sheetOf edition1 w .degree)) message ++ []
 
   kinds-length : length kinds ≡ given
   unfolding sheetOf
   kinds-length = ap length (append-nil (replicate given message)) ∙ length-replicate given message
 
-  coefficient-at : (j : ℕ) → length f ≡ given → j < length f → getD (zipWith (outOfRange (sheetOf edition1 w)) kinds f) j false ≡ leb (sheetOf edition1 w .prime) (getD f j 0)
+  pub coefficient-at : (j : ℕ) → length f ≡ given → j < length f → getD (zipWith (outOfRange (sheetOf edition1 w)) kinds f) j false ≡ leb (sheetOf edition1 w .prime) (getD f j 0)
   unfolding outOfRange limit sheetOf
   coefficient-at j n l =
       zip-at (outOfRange (sheetOf edition1 w)) message 0 kinds f j (omega (arith, kinds-length)) (omega (arith, kinds-length))
       ∙ ap (λ (k : Kind). leb (limit (sheetOf edition1 w .prime) k) (getD f j 0)) (List·getD-append (replicate given message) [] message j
       (omega (arith, length-replicate given message)) ∙ getD-replicate given j message message (omega arith))
 
-  tested-length : length f ≡ given → length (zipWith (outOfRange (sheetOf edition1 w)) kinds f) ≡ length f
+  pub tested-length : length f ≡ given → length (zipWith (outOfRange (sheetOf edition1 w)) kinds f) ≡ length f
   tested-length n = zip-length (outOfRange (sheetOf edition1 w)) message 0 kinds f (omega (arith, kinds-length)) ∙ kinds-length ∙ sym n
 
   tests-pass : tests ≡ accepted → Encodable w f × (due ≤ length output)

@@ -23,13 +23,13 @@ use Rattle.layouts.specs.SheetLevels.{rules-front, sheet-front}
 use Rattle.layouts.specs.SheetRules.{sheet-words}
 use Rattle.layouts.specs.Tests.{at-none, if-false, none-true}
 
-no-fill : (from n : ℕ) → firstTrue from (map (λ (x : ℕ). not (eqb x 0)) (replicate n 0)) ≡ none
+pub no-fill : (from n : ℕ) → firstTrue from (map (λ (x : ℕ). not (eqb x 0)) (replicate n 0)) ≡ none
 unfolding firstTrue
 no-fill from zero = refl
 no-fill from (suc n) = no-fill (suc from) n
 
 -- words in range are words
-words-of-kinds : (h : Sheet) (ks : List Kind) (w : List ℕ) → All (λ k. limit (h .prime) k ≤ 4294967296) ks → Each (InRange h) ks w → All Word w
+pub words-of-kinds : (h : Sheet) (ks : List Kind) (w : List ℕ) → All (λ k. limit (h .prime) k ≤ 4294967296) ks → Each (InRange h) ks w → All Word w
 unfolding outOfRange
 words-of-kinds h [] [] l e = tt
 words-of-kinds h [] (x ∷ w) l e = absurd e

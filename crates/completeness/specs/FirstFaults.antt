@@ -19,7 +19,7 @@ module _ (P : ℕ → (ℕ → Type 0)) (turn : ℕ → ℕ → ℕ) (order : �
   Exact from (refused n q) = (from ≤ order n) × P n q × ((r : ℕ) → turn n r < turn n q → P n r → ⊥) × ((m r : ℕ) → from ≤ order m → order m < order n → P m r → ⊥)
 
   -- no fault of one number, and what the tests after it say
-  exact-none : (number : ℕ) (o : Outcome) → ((q : ℕ) → P number q → ⊥) → Exact (suc (order number)) o → Exact (order number) o
+  pub exact-none : (number : ℕ) (o : Outcome) → ((q : ℕ) → P number q → ⊥) → Exact (suc (order number)) o → Exact (order number) o
   exact-none number o clear h = go o h
     where
       from : ℕ

@@ -65,7 +65,7 @@ module _ (h : Sheet) (positive : 0 < h .prime) where
   values-each : (n : ℕ) (xs : List (Element (h .spelling))) → length xs ≡ n → All (Below (h .spelling) (h .prime)) xs → Each (InRange h) (replicate (wordCount σ n) message) (wordsOf σ xs)
   values-each n xs e b = each-same (InRange h) (wordCount σ n) message (wordsOf σ xs) (words-length σ xs ∙ ap (wordCount σ) e) (values-pass xs b)
 
-  table-each : (l : Level) (f : List (Element (h .spelling))) → Each (InRange h) (replicate (wordCount σ (l .size)) message) (wordsOf σ (tableOf F ω l f))
+  pub table-each : (l : Level) (f : List (Element (h .spelling))) → Each (InRange h) (replicate (wordCount σ (l .size)) message) (wordsOf σ (tableOf F ω l f))
   unfolding tableOf
   table-each l f = values-each (l .size) (tableOf F ω l f) (table-length F ω l f) (values-below (λ x. f) (λ x. x) (domain F ω l))
 
@@ -123,7 +123,7 @@ module _ (h : Sheet) (positive : 0 < h .prime) where
         (rest-each s l ls (nextPoly F ω b g c) (c .fold) (drop (laterCount σ b) (drop (wordCount σ s) w)) (DecidingAccepts.next-fits F L ω b f r c len (admissible .0)) (d .2) (admissible .1))
 
     -- the honest messages have the lengths due
-    rest-shaped : (s : ℕ) (b : Level) (ls : List Level) (f : List (Element (h .spelling))) (r : Element (h .spelling)) (w : List ℕ) → length f ≡ b .degree → CoinRuns (InRange h) (h .spelling) s b ls w →
+    pub rest-shaped : (s : ℕ) (b : Level) (ls : List Level) (f : List (Element (h .spelling))) (r : Element (h .spelling)) (w : List ℕ) → length f ≡ b .degree → CoinRuns (InRange h) (h .spelling) s b ls w →
         Admissible F L ω b (readRounds (h .spelling) s b ls w) (readFinals (h .spelling) s b ls w) →
         Shaped (h .spelling) s b ls (honestRest F ω b f r (readRounds (h .spelling) s b ls w) (readFinals (h .spelling) s b ls w))
     unfolding honestRest readRounds readFinals roundCoins honestRound

@@ -50,7 +50,8 @@ pub mod PartsByNumber
 pub mod PairsByNumber
 pub mod DecidedByNumber
 pub mod TestsByNumber
-pub mod EqualByNumber
+pub mod OutCoinsByPlace
+pub mod OutsByNumber
 pub mod VerifyExactly
 pub mod AcceptedExactly
 -- the answers that exist; encode; and what a verdict depends on

@@ -231,6 +231,34 @@ unfolding loadLines
 load-accepted seed h =
     rw (ne-eqb seed 0 h) (length-map (drawnInputs loadRuns seed) (λ o. lineOf (verdictOn o)) ∙ inputs-length loadRuns seed, lines-accepted loadRuns seed)
 
+-- the generator as run i begins
+unfoldable generatorAt : ℕ → ℕ → ℕ
+generatorAt seed zero = seed
+generatorAt seed (suc i) = drawInput (generatorAt seed i) .next
+
+after-one : (seed i : ℕ) → generatorAt (drawInput seed .next) i ≡ drawInput (generatorAt seed i) .next
+unfolding generatorAt
+after-one seed zero = refl
+after-one seed (suc i) = ap (λ (v : ℕ). drawInput v .next) (after-one seed i)
+
+line-at : (count seed i : ℕ) → i < count →
+    getD (map (λ o. lineOf (verdictOn o)) (drawnInputs count seed)) i [] ≡ lineOf (verdictOn (drawInput (generatorAt seed i) .value))
+unfolding drawnInputs generatorAt
+line-at zero seed i l = absurd (omega arith)
+line-at (suc count) seed zero l = refl
+line-at (suc count) seed (suc i) l =
+    line-at count (drawInput seed .next) i (omega arith) ∙ ap (λ (v : ℕ). lineOf (verdictOn (drawInput v .value))) (after-one seed i)
+
+line-of-run : (seed : ℕ) → (seed ≡ 0 → ⊥) → (i : ℕ) → i < loadRuns → getD (loadLines seed) i [] ≡ lineOf (verdictOn (drawInput (generatorAt seed i) .value))
+unfolding loadLines
+line-of-run seed h i l = rw (ne-eqb seed 0 h) (line-at loadRuns seed i l)
+
+-- Line i is that of run i; the first run begins with the seed, each next one with the generator as the run before leaves it.
+pub load-runs : (seed : ℕ) → (seed ≡ 0 → ⊥) → (v : ℕ → ℕ) × (v 0 ≡ seed) × ((i : ℕ) → v (suc i) ≡ drawInput (v i) .next)
+    × ((i : ℕ) → i < loadRuns → getD (loadLines seed) i [] ≡ lineOf (verdictOn (drawInput (v i) .value)))
+unfolding generatorAt
+load-runs seed h = (generatorAt seed, refl, λ i. refl, line-of-run seed h)
+
 -- Seed 0 gives one line, `refused 12 0 0`.
 pub load-refused : loadLines 0 ≡ (114 ∷ 101 ∷ 102 ∷ 117 ∷ 115 ∷ 101 ∷ 100 ∷ 32 ∷ 49 ∷ 50 ∷ 32 ∷ 48 ∷ 32 ∷ 48 ∷ 10 ∷ []) ∷ []
 unfolding loadLines lineOf outcomeText decimal decimalWithin

@@ -52,10 +52,10 @@ unfolding member samePlace
 member-place [] t x z = refl
 member-place (u ∷ ts) t x z = ap (λ (b : Bool). (eqb t u && eqb x z) || b) (member-place ts t x z) ∙ sym (and-or-distrib-right (eqb t u) (member eqb t ts) (eqb x z))
 
-places-shared : (ts : List ℕ) (x z : ℕ) → All (λ p. member samePlace p (inTables ts z) ≡ eqb x z) (inTables ts x)
+pub places-shared : (ts : List ℕ) (x z : ℕ) → All (λ p. member samePlace p (inTables ts z) ≡ eqb x z) (inTables ts x)
 places-shared ts x z = all-of-map _ _ ts (all-map ts (all-members ts) (λ t e. member-place ts t x z ∙ ap (λ (b : Bool). b && eqb x z) e))
 
-places-different : (ts : List ℕ) (x : ℕ) → length (different samePlace (inTables ts x)) ≡ length (different eqb ts)
+pub places-different : (ts : List ℕ) (x : ℕ) → length (different samePlace (inTables ts x)) ≡ length (different eqb ts)
 unfolding different
 places-different [] x = refl
 places-different (t ∷ ts) x =
@@ -69,7 +69,7 @@ places-different (t ∷ ts) x =
 -- ---- the reads
 
 -- the places of coins are those of all their roots
-places-flat : (b : Level) (places : ℕ → List Place) (js : List ℕ) → placesOf b places js ≡ flatMap places (flatMap (rootNumbers b) js)
+pub places-flat : (b : Level) (places : ℕ → List Place) (js : List ℕ) → placesOf b places js ≡ flatMap places (flatMap (rootNumbers b) js)
 unfolding placesOf coinPlaces flatMap
 places-flat b places [] = refl
 places-flat b places (j ∷ js) = ap (λ (ps : List Place). flatMap places (rootNumbers b j) ++ ps) (places-flat b places js) ∙ sym (flatMap-append places (rootNumbers b j) (flatMap (rootNumbers b) js))

@@ -71,6 +71,16 @@ outs-other four (suc s) l (suc zero) u v = refl
 outs-other four (suc s) l (suc (suc zero)) u v = refl
 outs-other four (suc s) l (suc (suc (suc m))) u v = absurd (omega arith)
 
+-- the part that a number is in, of parts one after the other
+pub located : (start count : ℕ → ℕ) → ((i : ℕ) → start (suc i) ≡ start i + count i) → (m n : ℕ) → start 0 ≤ n → n < start m →
+    (i : ℕ) × (i < m) × ((y : ℕ) × (y < count i) × (n ≡ start i + y))
+located start count step zero n l u = absurd (omega arith)
+located start count step (suc m) n l u = go (decLt n (start m)) (located start count step m n l)
+  where
+    go : Dec (n < start m) → (n < start m → (i : ℕ) × (i < m) × ((y : ℕ) × (y < count i) × (n ≡ start i + y))) → (i : ℕ) × (i < suc m) × ((y : ℕ) × (y < count i) × (n ≡ start i + y))
+    go (yes v) before = let r = before v in (r .0, omega (arith, r .1), r .2)
+    go (no v) before = (m, omega arith, (n - start m, omega (arith, step m), omega arith))
+
 -- a word number that is in a due part
 abbrev pub InPart : Edition → Sheet → ℕ → Type 0
 InPart ed h n = (x : Part) × PartDue h x × ((j : ℕ) × (j < partLength h x) × (n ≡ partStart ed h x + j))
@@ -91,12 +101,7 @@ module _ (ed : Edition) (h : Sheet) where
   -- the round that a word number is in
   locate : (m n : ℕ) → sheetLength ed ≤ n → n < roundStart ed h m → (i : ℕ) × (i < m) × ((y : ℕ) × (y < roundCount h i) × (n ≡ roundStart ed h i + y))
   unfolding roundStart
-  locate zero n l u = absurd (omega arith)
-  locate (suc m) n l u = go (decLt n (roundStart ed h m)) (locate m n l)
-    where
-      go : Dec (n < roundStart ed h m) → (n < roundStart ed h m → (i : ℕ) × (i < m) × ((y : ℕ) × (y < roundCount h i) × (n ≡ roundStart ed h i + y))) → (i : ℕ) × (i < suc m) × ((y : ℕ) × (y < roundCount h i) × (n ≡ roundStart ed h i + y))
-      go (yes v) before = let r = before v in (r .0, omega (arith, r .1), r .2)
-      go (no v) before = (m, omega arith, (n - roundStart ed h m, omega arith, omega arith))
+  locate m n l u = located (roundStart ed h) (roundCount h) (λ i. refl) m n l u
 
   -- and its part in the round
   in-round : (i y : ℕ) → i ≤ roundsOf h → y < roundCount h i → InPart ed h (roundStart ed h i + y)

@@ -58,7 +58,7 @@ module _ (ed : Edition) (file : List ℕ) (passed : reading ed file ≡ accepted
   ruled : (q : ℕ) → RuleFault ed (streamOf file) q → ⊥
   unfolding sheetTest
   ruled q p =
-      let c = VerifyExactly.rule-complete ed file q p in
+      let c = VerifyExactly.rule-complete ed (streamOf file) q p in
       let bs = map not (sheetRules ed (streamOf file)) in
       true≢false (sym (c .3) ∙ at-place (λ (b : Bool). b ≡ false) bs false (none-of 3 (testOrder ed) bs (omega (arith, rules-length ed (streamOf file), rules-counted ed)) (sheet-passed .0)) (c .0) (c .2))
 

@@ -16,8 +16,9 @@ use lib.ListN.{length, getD, take, drop, replicate}
 use Rattle.definition.specs.Block.{blockCount, fileOf, streamOf}
 use Rattle.definition.specs.Deciding.{answers, outTest}
 use Rattle.definition.specs.Domain.{foldAt, inDomain, point, rootNumbers, shiftPoint}
-use Rattle.definition.specs.Field.{Element, Field, Quad, element, elementsIn, field3, fieldIn, found, four, inverse3, inverseOf, noInverse, numberIn, one, power, primeField, primeOf, product, product3, reciprocal, spellingOf, unknownField}
+use Rattle.definition.specs.Field.{Element, Field, Quad, binaryDigits, element, elementsIn, field3, fieldIn, found, four, inField, inNoField, inverse3, inverseOf, knownField, noInverse, numberIn, one, power, power3, powerOf, powerTurns3, powerTurnsOf, powered, primeField, primeOf, product, product3, reciprocal, spellingOf, unknownField}
 use Rattle.definition.specs.Layout.{coinKinds, layout, message, out, readTranscript, wordsDue}
+use Rattle.definition.specs.Line.{lineOf}
 use Rattle.definition.specs.Lists.{member, range}
 use Rattle.definition.specs.Load.{candidates, drawInput, loadLines, permits, smallestAllowed, verdictOn}
 use Rattle.definition.specs.Polynomial.{addPoly, evaluate, foldPoly, geometric, mulPoly, points}
@@ -34,6 +35,7 @@ use Rattle.algebra.specs.FieldIn
 use Rattle.algebra.specs.Laws.{FieldLaws}
 use Rattle.algebra.specs.PublicField3
 use Rattle.algebra.specs.PublicInverse
+use Rattle.algebra.specs.PublicPower
 use Rattle.layouts.specs.FileSize
 use Rattle.layouts.specs.FileTrip
 use Rattle.layouts.specs.Levels.{degreeOf, elementAt, levelOf, outCoinCount, roundsOf, sheetField, sheetRoot, total, wordsFor, zeroOf}
@@ -293,6 +295,12 @@ load-lines seed h = LoadAllowed.load-accepted seed h .0
 pub load-accepted : (seed : ℕ) → (seed ≡ 0 → ⊥) → (i : ℕ) → i < length (loadLines seed) → take 8 (getD (loadLines seed) i []) ≡ 97 ∷ 99 ∷ 99 ∷ 101 ∷ 112 ∷ 116 ∷ 101 ∷ 100 ∷ []
 load-accepted seed h = at-place LoadAllowed.BeginsAccepted (loadLines seed) [] (LoadAllowed.load-accepted seed h .1)
 
+-- Line i is the verdict line of the honest file of run i (document 02: a thousand runs on one generator). The first run begins with v 0, the seed, and each next one with the
+-- generator as the run before leaves it.
+pub load-runs : (seed : ℕ) → (seed ≡ 0 → ⊥) → (v : ℕ → ℕ) × (v 0 ≡ seed) × ((i : ℕ) → v (suc i) ≡ drawInput (v i) .next)
+    × ((i : ℕ) → i < 1000 → getD (loadLines seed) i [] ≡ lineOf (verdictOn (drawInput (v i) .value)))
+load-runs = LoadAllowed.load-runs
+
 -- Seed 0 gives one line, `refused 12 0 0`.
 pub load-refused : loadLines 0 ≡ (114 ∷ 101 ∷ 102 ∷ 117 ∷ 115 ∷ 101 ∷ 100 ∷ 32 ∷ 49 ∷ 50 ∷ 32 ∷ 48 ∷ 32 ∷ 48 ∷ 10 ∷ []) ∷ []
 load-refused = LoadAllowed.load-refused
@@ -363,3 +371,29 @@ inverse-3-none-exactly = PublicField3.none-exactly
 pub inverse-3-found : (x : Quad ℕ) → (((x .a % primeOf 3 ≡ 0) × (x .b % primeOf 3 ≡ 0) × (x .c % primeOf 3 ≡ 0) × (x .d % primeOf 3 ≡ 0)) → ⊥) →
     (u : Quad ℕ) × (inverse3 x ≡ some u) × (product3 x u ≡ numberIn four 1)
 inverse-3-found = PublicField3.inverse-there
+
+-- 14. POWERS (document 01: an exponent is any word as it is; document 02, CR 4). The public power is a^e modulo p, for all words a and e,
+pub power-exactly : (field base exponent : ℕ) → powerOf field base exponent ≡ inField field (base ^ exponent % primeOf field)
+power-exactly = PublicPower.power-exactly
+
+-- the one with its turns answers as many as e has binary digits, which are at most d exactly where e < 2^d;
+pub power-turns-exactly : (field base exponent : ℕ) →
+    powerTurnsOf field base exponent ≡ cond (knownField field) (powered (base ^ exponent % primeOf field) (binaryDigits exponent)) inNoField
+power-turns-exactly = PublicPower.turns-exactly
+
+pub digits-exactly : (e d : ℕ) → (binaryDigits e ≤ d) ↔ (e < 2 ^ d)
+digits-exactly = PublicPower.digits-exactly
+
+-- and for the largest word the power of 3 in field 0 is 6.
+pub power-largest : powerOf 0 3 4294967295 ≡ element 6
+power-largest = PublicPower.power-largest
+
+-- In field 3 it is 1 for the exponent 0, of any four words, and for each next exponent the product of a with the power before; the turns are the same.
+pub power-3-none : (base : Quad ℕ) → power3 base 0 ≡ numberIn four 1
+power-3-none = PublicField3.power-none
+
+pub power-3-next : (base : Quad ℕ) (e : ℕ) → power3 base (suc e) ≡ product3 base (power3 base e)
+power-3-next = PublicField3.power-next
+
+pub power-3-turns : (base : Quad ℕ) (e : ℕ) → powerTurns3 base e ≡ record { power = power3 base e; turns = binaryDigits e }
+power-3-turns = PublicField3.power-turns

@@ -30,7 +30,7 @@ use Rattle.completeness.specs.DecidingAccepts.{table-at, table-length}
 use Rattle.completeness.specs.Numbered.{Allowed, Copy, Due, Message, coinsOf, combinationCoin, correctedOf, countOf, entriesIn, final, finalIndices, foldCoin, lengthOf, outCoinsOf, read, replies, roundPoly, shiftIndices, startOf, streamOn, table, wordsIn, written}
 use Rattle.completeness.specs.RunByNumber.{folded-length}
 
-coins-grow : (h : Sheet) (i m : ℕ) → coinsBefore h i ≤ coinsBefore h (i + m)
+pub coins-grow : (h : Sheet) (i m : ℕ) → coinsBefore h i ≤ coinsBefore h (i + m)
 unfolding coinsBefore
 coins-grow h i zero = let e : i + 0 ≡ i = omega arith in rw e (omega arith)
 coins-grow h i (suc m) = let e : i + suc m ≡ suc (i + m) = omega arith in rw e (omega (arith, coins-grow h i m))

@@ -27,40 +27,39 @@ use Rattle.list_laws.specs.Lists.{getD-map, getD-map-range, range-length}
 use Rattle.algebra.specs.Laws.{FieldLaws}
 use Rattle.layouts.specs.FileWords.{stream-length}
 use Rattle.layouts.specs.Lawful.{Lawful, lawful}
-use Rattle.layouts.specs.Levels.{elementAt, levelOf, outCoinCount, roundsOf, sheetField, sheetRoot, wordsFor}
+use Rattle.layouts.specs.Levels.{levelOf, outCoinCount, roundsOf, sheetField, sheetRoot}
 use Rattle.layouts.specs.LevelsByNumber.{Paired}
 use Rattle.layouts.specs.PlainRules.{wordTurn}
 use Rattle.layouts.specs.RulesByWord.{rules-counted, rule-at, rule-of-word, rules-length, sheet-exactly, turn-of-word, turns-differ, word-of-turn}
 use Rattle.layouts.specs.SheetRules.{short-sheet}
-use Rattle.layouts.specs.Spellings.{at-drop, begun-at, begun-length, count-below, count-one}
 use Rattle.completeness.specs.DecidedByNumber.{clashes, decided, finalTests}
-use Rattle.completeness.specs.EqualByNumber
 use Rattle.completeness.specs.Faults.{BlocksFault, CheckFault, ClashFault, DomainFault, EqualFault, Fault, FillFault, FinalFault, LengthFault, NoFault, Part, PartDue, RangeFault, RuleFault, blocksIn, combination, dueOf, faultsOf, finals, fold, functionIn, numberTurn, outs, pairsIn, partElement, partElements, partLength, partLimit, partStart, partWord, partWords, sheetIn, shifts, turnOf, words}
 use Rattle.completeness.specs.FileByNumber.{check-at, checks-length}
 use Rattle.completeness.specs.FirstFaults.{Exact, exact-at, exact-if, exact-places}
 use Rattle.completeness.specs.Numbered.{final}
+use Rattle.completeness.specs.OutsByNumber
 use Rattle.completeness.specs.PairsByNumber.{part-length, part-word}
 use Rattle.completeness.specs.PartsByNumber.{due-is, every-word, outs-cases, outs-first, part-below, part-kind, partKind}
 use Rattle.completeness.specs.Ready.{sheet-laws}
-use Rattle.completeness.specs.TestsByNumber.{clash-found, clash-there, differ, differs, domain-point, element-differ, element-differs, point-inside, zip-at, zip-length}
+use Rattle.completeness.specs.TestsByNumber.{clash-found, clash-there, differ, differs, element-differ, element-differs, zip-at, zip-length}
 
 then-outcome : (o : Outcome) (v : Verdict) → thenVerdict o v .outcome ≡ (o then v .outcome)
 unfolding thenVerdict _then_
 then-outcome accepted v = refl
 then-outcome (refused n q) v = refl
 
-then-assoc : (a b c : Outcome) → ((a then b) then c) ≡ (a then (b then c))
+pub then-assoc : (a b c : Outcome) → ((a then b) then c) ≡ (a then (b then c))
 unfolding _then_
 then-assoc accepted b c = refl
 then-assoc (refused n q) b c = refl
 
-then-accepted : (o : Outcome) → o ≡ (o then accepted)
+pub then-accepted : (o : Outcome) → o ≡ (o then accepted)
 unfolding _then_
 then-accepted accepted = refl
 then-accepted (refused n q) = refl
 
 -- the limit of a part is that of its kind, and an out coin's kind alone is tested against a domain
-kind-limit : (h : Sheet) (x : Part) (j : ℕ) → j < partLength h x → limit (h .prime) (partKind h x j) ≡ partLimit h x
+pub kind-limit : (h : Sheet) (x : Part) (j : ℕ) → j < partLength h x → limit (h .prime) (partKind h x j) ≡ partLimit h x
 unfolding limit partKind partLimit partLength
 kind-limit h (words m) j l = refl
 kind-limit h (outs i) j l =
@@ -95,6 +94,27 @@ numbers-in-order = refl
 pub is-true : (b : Bool) → ((b ≡ true → ⊥) → ⊥) → b ≡ true
 is-true true h = refl
 is-true false h = absurd (h (λ e. true≢false (sym e)))
+
+-- 3: what the sheet's test finds, of any words, is a broken rule
+module _ (ed : Edition) (w : List ℕ) where
+  pub rule-sound : (j : ℕ) → j < length (map not (sheetRules ed w)) → getD (map not (sheetRules ed w)) j false ≡ true → RuleFault ed w (getD (testOrder ed) j 0)
+  rule-sound j l e =
+      let u : j < sheetLength ed = omega (arith, rules-length ed w) in
+      (turn-of-word ed j u .1, λ k. true≢false (sym k ∙ not-true _ (sym (rule-of-word ed w j u) ∙ e)))
+
+  pub rule-complete : (q : ℕ) → RuleFault ed w q → (j : ℕ) × (q ≡ getD (testOrder ed) j 0) × (j < length (map not (sheetRules ed w))) × (getD (map not (sheetRules ed w)) j false ≡ true)
+  rule-complete q p =
+      let t = word-of-turn ed q (p .0) in
+      (wordTurn ed q, sym (t .0), omega (arith, t .1, rules-length ed w), rule-at ed w (wordTurn ed q) (t .1) ∙ ap not (is-false _ (p .1)))
+
+  -- the rules are in the order of their words' turns
+  pub rules-rise : (i j : ℕ) → i < length (map not (sheetRules ed w)) → j < length (map not (sheetRules ed w)) →
+      turnOf ed 3 (getD (testOrder ed) i 0) < turnOf ed 3 (getD (testOrder ed) j 0) → i < j
+  unfolding turnOf
+  rules-rise i j li lj l =
+      let a = turn-of-word ed i (omega (arith, rules-length ed w)) in
+      let b = turn-of-word ed j (omega (arith, rules-length ed w)) in
+      omega (arith, a .0, b .0)
 
 module _ (ed : Edition) (file : List ℕ) where
   abbrev w : List ℕ
@@ -164,26 +184,6 @@ module _ (ed : Edition) (file : List ℕ) where
   check-complete : (q : ℕ) → CheckFault file q → (j : ℕ) × (q ≡ 0 + j) × (j < length (wrongChecks 0 (fileBlocks file))) × (getD (wrongChecks 0 (fileBlocks file)) j false ≡ true)
   check-complete q p = (q, sym (zero-add q), omega (arith, p .0, checks-length file), check-at file q (p .0) ∙ differs _ _ (p .1))
 
-  -- 3
-  rule-sound : (j : ℕ) → j < length (map not (sheetRules ed w)) → getD (map not (sheetRules ed w)) j false ≡ true → RuleFault ed w (getD (testOrder ed) j 0)
-  rule-sound j l e =
-      let u : j < sheetLength ed = omega (arith, rules-length ed w) in
-      (turn-of-word ed j u .1, λ k. true≢false (sym k ∙ not-true _ (sym (rule-of-word ed w j u) ∙ e)))
-
-  pub rule-complete : (q : ℕ) → RuleFault ed w q → (j : ℕ) × (q ≡ getD (testOrder ed) j 0) × (j < length (map not (sheetRules ed w))) × (getD (map not (sheetRules ed w)) j false ≡ true)
-  rule-complete q p =
-      let t = word-of-turn ed q (p .0) in
-      (wordTurn ed q, sym (t .0), omega (arith, t .1, rules-length ed w), rule-at ed w (wordTurn ed q) (t .1) ∙ ap not (is-false _ (p .1)))
-
-  -- the rules are in the order of their words' turns
-  rules-rise : (i j : ℕ) → i < length (map not (sheetRules ed w)) → j < length (map not (sheetRules ed w)) →
-      turnOf ed 3 (getD (testOrder ed) i 0) < turnOf ed 3 (getD (testOrder ed) j 0) → i < j
-  unfolding turnOf
-  rules-rise i j li lj l =
-      let a = turn-of-word ed i (omega (arith, rules-length ed w)) in
-      let b = turn-of-word ed j (omega (arith, rules-length ed w)) in
-      omega (arith, a .0, b .0)
-
   -- what has passed, for the tests after it
   module _ (whole : (q : ℕ) → LengthFault file q → ⊥) (ruled : (q : ℕ) → RuleFault ed w q → ⊥) where
     some-block : 1 ≤ blocksIn file
@@ -231,6 +231,10 @@ module _ (ed : Edition) (file : List ℕ) where
 
       pub enough : length kinds ≤ length (drop (sheetLength ed) w)
       enough = omega (arith, length-drop (sheetLength ed) w, all-due, kinds-length)
+
+      -- the elements that the words after the sheet begin
+      abbrev begun : List (Element (sheetIn ed file .spelling))
+      begun = begunBy (sheetIn ed file .spelling) (drop (sheetLength ed) (streamOf file))
 
       -- a test of each word after the sheet, or of what it begins
       module _ {A : Type 0} (t : Kind → A → Bool) (z : A) (xs : List A) (same : length xs ≡ length (drop (sheetLength ed) w)) where
@@ -303,60 +307,20 @@ module _ (ed : Edition) (file : List ℕ) where
           let l : j < length fillTests = omega (arith, p .0, p .1, due, fill-length, stream-length file) in
           (j, s, l, fill-at j l ∙ differs _ 0 (λ k. p .2 (ap (λ (n : ℕ). getD w n 0) s ∙ k)))
 
-      -- 7: the element that an out coin's first word begins
-      abbrev begun : List (Element (sheetIn ed file .spelling))
-      begun = begunBy (sheetIn ed file .spelling) (drop (sheetLength ed) (streamOf file))
-
-      begun-many : length begun ≡ length (drop (sheetLength ed) w)
-      begun-many = begun-length σ (drop (sheetLength ed) w)
-
-      coin-here : (k m j : ℕ) → k < roundsOf h → m < outCoinCount h → sheetLength ed + j ≡ partStart ed h (outs k) + wordsFor h m → getD begun j (numberIn σ 0) ≡ elementAt σ w (sheetLength ed + j)
-      unfolding partLength
-      coin-here k m j d u s =
-          let n = count-below σ m (outCoinCount h) u in
-          let o = count-one σ .0 in
-          let last : wordsFor h m + (wordsFor h 1 - 1) < wordsFor h (outCoinCount h) = omega (arith, n, o) in
-          begun-at σ (drop (sheetLength ed) w) j (omega (arith, s, part-below ed h (outs k) d (wordsFor h m + (wordsFor h 1 - 1)) last .1, all-due, length-drop (sheetLength ed) w, o)) ∙ at-drop σ w (sheetLength ed) j
-
+      -- 7 and 14
       domain-sound : (j : ℕ) → j < length (zipWith (outInDomain σ h) kinds begun) → getD (zipWith (outInDomain σ h) kinds begun) j false ≡ true → DomainFault ed h w (sheetLength ed + j)
-      unfolding outInDomain partKind partLength
-      domain-sound j l e = let r = word-fails (outInDomain σ h) (numberIn σ 0) begun begun-many j l e in go (r .0) (r .1) (r .2 .0) (r .2 .1) (r .2 .2) (r .2 .3)
-        where
-          go : (x : Part) → PartDue h x → (i : ℕ) → i < partLength h x → sheetLength ed + j ≡ partStart ed h x + i → outInDomain σ h (partKind h x i) (getD begun j (numberIn σ 0)) ≡ true → DomainFault ed h w (sheetLength ed + j)
-          go (words m) d i l s f = absurd (true≢false (sym f))
-          go (outs k) d i l s f =
-              outs-cases σ (outCoinCount h) (levelOf h (suc k)) i l
-              (λ m u q. let t : sheetLength ed + j ≡ partStart ed h (outs k) + wordsFor h m = omega (arith, s, q) in
-              let kind : partKind h (outs k) i ≡ out (levelOf h (suc k)) = ap (λ (n : ℕ). getD (outLayout σ (outCoinCount h) (levelOf h (suc k))) n message) q ∙ outs-first σ (outCoinCount h) (levelOf h (suc k)) m u in
-              (k, d, (m, u, t, domain-point F L ω (levelOf h (suc k)) (elementAt σ w (sheetLength ed + j)) ((λ y. outInDomain σ h (sym kind y) (sym (coin-here k m j d u t) y)) ∙ f))))
-              (λ c. absurd (true≢false (sym f ∙ ap (λ (k : Kind). outInDomain σ h k (getD begun j (numberIn σ 0))) c)))
-          go (combination k) d i l s f = absurd (true≢false (sym f))
-          go (fold k) d i l s f = absurd (true≢false (sym f))
-          go (shifts k) d i l s f = absurd (true≢false (sym f))
-          go finals d i l s f = absurd (true≢false (sym f))
+      domain-sound = OutsByNumber.domain-sound ed h w L law all-due
 
       pub domain-complete : (q : ℕ) → DomainFault ed h w q →
           (j : ℕ) × (q ≡ sheetLength ed + j) × (j < length (zipWith (outInDomain σ h) kinds begun)) × (getD (zipWith (outInDomain σ h) kinds begun) j false ≡ true)
-      unfolding outInDomain partKind partLength
-      domain-complete q p =
-          let k = p .0 in
-          let c = p .2 .0 in
-          let u = p .2 .1 in
-          let m = p .2 .3 in
-          let within : wordsFor h c < wordsFor h (outCoinCount h) = omega (arith, count-below σ c (outCoinCount h) u, count-one σ .0) in
-          let b = part-below ed h (outs k) (p .1) (wordsFor h c) within in
-          let s : sheetLength ed + (q - sheetLength ed) ≡ q = omega (arith, b, p .2 .2) in
-          let x : getD begun (q - sheetLength ed) (numberIn σ 0) ≡ elementAt σ w q = coin-here k c (q - sheetLength ed) (p .1) u (s ∙ p .2 .2) ∙ ap (elementAt σ w) s in
-          failing-word (outInDomain σ h) (numberIn σ 0) begun begun-many (outs k) (p .1) (wordsFor h c) q within (p .2 .2)
-          ((λ y. outInDomain σ h (outs-first σ (outCoinCount h) (levelOf h (suc k)) c u y) (x y)) ∙ point-inside F L ω (levelOf h (suc k)) (m .0) (elementAt σ w q) (m .1) (m .2))
+      domain-complete = OutsByNumber.domain-complete ed h w L law all-due
 
-      -- 14
       equal-sound : (j : ℕ) → j < length (repeatedOuts F none kinds begun) → getD (repeatedOuts F none kinds begun) j false ≡ true → EqualFault ed h w (sheetLength ed + j)
-      equal-sound = EqualByNumber.equal-sound ed h w L law all-due
+      equal-sound = OutsByNumber.equal-sound ed h w L law all-due
 
       pub equal-complete : (q : ℕ) → EqualFault ed h w q →
           (j : ℕ) × (q ≡ sheetLength ed + j) × (j < length (repeatedOuts F none kinds begun)) × (getD (repeatedOuts F none kinds begun) j false ≡ true)
-      equal-complete = EqualByNumber.equal-complete ed h w L law all-due
+      equal-complete = OutsByNumber.equal-complete ed h w L law all-due
 
       -- 8
       clashes-length : length (clashes ed h w 0 M) ≡ M
@@ -431,7 +395,7 @@ module _ (ed : Edition) (file : List ℕ) where
       (exact-if P T numberTurn own-turn 1 0 wrongLength _ length-sound length-complete (λ n₁.
       exact-at P T numberTurn own-turn 2 0 (wrongChecks 0 (fileBlocks file)) _ (λ q. refl) check-sound check-complete (λ n₂.
       exact-places P T numberTurn own-turn 3 (λ j. getD (testOrder ed) j 0) (map not (sheetRules ed w)) (firstOf (testOrder ed) (map not (sheetRules ed w))) _
-      (first-of (testOrder ed) (map not (sheetRules ed w)) (omega (arith, rules-length ed w, rules-counted ed))) rules-rise rule-sound rule-complete (λ n₃.
+      (first-of (testOrder ed) (map not (sheetRules ed w)) (omega (arith, rules-length ed w, rules-counted ed))) (rules-rise ed w) (rule-sound ed w) (rule-complete ed w) (λ n₃.
       exact-if P T numberTurn own-turn 4 (blockCount (wordsDue ed h)) (not (eqb (blocksIn file) (blockCount (wordsDue ed h)))) _ (blocks-sound n₁ n₃) (blocks-complete n₁ n₃) (λ n₄.
       exact-at P T numberTurn own-turn 5 (sheetLength ed) (zipWith (outOfRange h) (layout h) (drop (sheetLength ed) w)) _ (λ q. refl) (range-sound n₁ n₃ n₄) (range-complete n₁ n₃ n₄) (λ n₅.
       exact-at P T numberTurn own-turn 6 (wordsDue ed h) (map (λ (x : ℕ). not (eqb x 0)) (drop (wordsDue ed h) w)) _ (λ q. refl) (fill-sound n₁ n₃ n₄) (fill-complete n₁ n₃ n₄) (λ n₆.

@@ -303,6 +303,18 @@ pub fn fold(field: u32, k: usize, r: Four, f: &[u32], out: &mut [u32])
     }
 }
 
+// The product of q and 1 + cX + .. + (cX)^e.
+pub fn multiplied(field: u32, c: Four, e: usize, q: &[u32], out: &mut [u32])
+    requires { ⌜ (0 < length (elementsAt field (now q))) × ((length (elementsAt field (now out)) ≡ length (elementsAt field (now q)) + e) × (e < 65536)) ⌝ }
+    ensures { λ _. ⌜ elementsAt field (now (out .exit)) ≡ mulPoly (fieldAt field) (elementsAt field (now (q .entry))) (geometric (fieldAt field) (valueAt field c) e) ⌝ }
+{
+    if field == 3 {
+        correct_four(c, e, q, out);
+    } else {
+        correct(field, c.a, e, q, out);
+    }
+}
+
 // The corrected polynomial of the first `count` coefficients of f, where the samples are at the points from number `from` on. What f holds
 // afterwards is of no use.
 pub fn corrected(

@@ -7,7 +7,7 @@ use Rattle.definition.specs.Field.{one}
 use Rattle.definition.specs.Block.{fileOf}
 use Rattle.definition.specs.Sheet.{edition1, edition2, sheetOf}
 use Rattle.definition.specs.Transcript.{final}
-use Rattle.definition.specs.Layout.{readTranscript}
+use Rattle.definition.specs.Layout.{readTranscript, wordsDue}
 use Rattle.definition.specs.Verdict.{accepted, refused}
 use Rattle.definition.specs.Reading.{sheetTest}
 use Rattle.definition.specs.Verify.{verifyIn}
@@ -50,6 +50,23 @@ bothEditions =
     0 ∷ 8 ∷ 4 ∷ 2 ∷ 0 ∷ 1 ∷ 1 ∷ 0 ∷ 0 ∷ 0 ∷ 0 ∷ 0
     ∷ 0 ∷ 0 ∷ 0 ∷ 0 ∷ 0 ∷ 2
     ∷ 1 ∷ 5 ∷ 3 ∷ 13 ∷ 16 ∷ 0 ∷ 0 ∷ 0 ∷ 0 ∷ 0 ∷ 0 ∷ 0 ∷ []
+
+-- M = 5 in field 1, in either edition: 545 and 551 words, five blocks. After the sheet all are 0 but the last, a final index.
+abbrev fiveRounds : List ℕ
+fiveRounds = 1 ∷ 256 ∷ 128 ∷ 2 ∷ 5 ∷ 1 ∷ 1 ∷ 1 ∷ 1 ∷ 1 ∷ 1 ∷ 1 ∷ (replicate 532 0 ++ (3 ∷ []))
+
+abbrev fiveRounds2 : List ℕ
+fiveRounds2 = take 12 fiveRounds ++ (2 ∷ 2 ∷ 2 ∷ 2 ∷ 2 ∷ 2 ∷ drop 12 fiveRounds)
+
+-- n0 = 64 in field 1 with t_0 = 44, in either edition: 122 words, one block, and 128 words, two blocks. The fold coin is 3, the final indices are 0 but the last.
+abbrev oneBlock : List ℕ
+oneBlock = 1 ∷ 64 ∷ 2 ∷ 2 ∷ 0 ∷ 1 ∷ 44 ∷ 0 ∷ 0 ∷ 0 ∷ 0 ∷ 0 ∷ (replicate 64 0 ++ (3 ∷ replicate 44 0 ++ (31 ∷ [])))
+
+abbrev twoBlocks : List ℕ
+twoBlocks = take 12 oneBlock ++ (0 ∷ 0 ∷ 0 ∷ 0 ∷ 0 ∷ 2 ∷ drop 12 oneBlock)
+
+abbrev oneBlockCoins : List ℕ
+oneBlockCoins = 3 ∷ replicate 43 0 ++ (31 ∷ [])
 
 pub record EditionCases : Type 0 where
   -- the rules of words 12 to 17, tested after word 5 and before word 6
@@ -109,6 +126,20 @@ pub record EditionCases : Type 0 where
   pub back·differ : toEdition1 (fileOf mixed) [] ≡ kept 13 1 []
   pub back·short : toEdition1 (fileOf stream2) [] ≡ kept 11 1 []
   pub back·check·wrong : toEdition1 (set (fileOf mixed) 0 1) [] ≡ kept 2 0 []
+  -- with five rounds all of k_1 to k_5 are k, and back they are all looked at
+  pub forth·five·rounds : toEdition2 (fileOf fiveRounds) (replicate 2560 7) ≡ record { answer = done 5; output = fileOf fiveRounds2 }
+  pub back·five·rounds : toEdition1 (fileOf fiveRounds2) (replicate 2560 7) ≡ record { answer = done 5; output = fileOf fiveRounds }
+  pub back·last·differs : toEdition1 (fileOf (set (take 550 fiveRounds2) 16 4)) [] ≡ kept 13 5 []
+  -- where the six words more of edition 2 make a block more
+  pub due·1 : wordsDue edition1 (sheetOf edition1 oneBlock) ≡ 122
+  pub due·2 : wordsDue edition2 (sheetOf edition2 twoBlocks) ≡ 128
+  pub prove·one·block : proveIn edition1 (take 12 oneBlock) (0 ∷ 0 ∷ []) oneBlockCoins (replicate 512 7) ≡ record { answer = done 1; output = fileOf oneBlock }
+  pub prove·two·blocks : proveIn edition2 (take 18 twoBlocks) (0 ∷ 0 ∷ []) oneBlockCoins (replicate 1025 7) ≡ record { answer = done 2; output = fileOf twoBlocks ++ (7 ∷ []) }
+  pub prove·two·short : proveIn edition2 (take 18 twoBlocks) (0 ∷ 0 ∷ []) oneBlockCoins (replicate 1023 7) ≡ kept 11 2 (replicate 1023 7)
+  pub two·blocks : verifyIn edition2 (fileOf twoBlocks) ≡ accept 4
+  pub forth·two·blocks : toEdition2 (fileOf oneBlock) (replicate 1024 7) ≡ record { answer = done 2; output = fileOf twoBlocks }
+  pub forth·two·short : toEdition2 (fileOf oneBlock) (replicate 1023 7) ≡ kept 11 2 (replicate 1023 7)
+  pub back·one·block : toEdition1 (fileOf twoBlocks) (replicate 513 7) ≡ record { answer = done 1; output = fileOf oneBlock ++ (7 ∷ []) }
 
 pub editionCases : EditionCases
 unfolding definitions
@@ -156,4 +187,16 @@ editionCases = record {
   back·differ = refl;
   back·short = refl;
   back·check·wrong = refl;
+  forth·five·rounds = refl;
+  back·five·rounds = refl;
+  back·last·differs = refl;
+  due·1 = refl;
+  due·2 = refl;
+  prove·one·block = refl;
+  prove·two·blocks = refl;
+  prove·two·short = refl;
+  two·blocks = refl;
+  forth·two·blocks = refl;
+  forth·two·short = refl;
+  back·one·block = refl;
 }

@@ -1,7 +1,7 @@
 -- The public field operations, ω, levels and domains (01, Fields and the sheet; Domains), by computation.
 use mathlib.Core.Path.{_≡_, refl}
 use mathlib.Core.List.{[], _∷_}
-use Rattle.definition.specs.Field.{element, noField, powered, inNoField, found, noInverse, unknownField, binaryDigits, primeOf, generatorOf, sum, difference, product, powerOf, powerTurnsOf, inverseOf}
+use Rattle.definition.specs.Field.{Quad, element, noField, powered, inNoField, found, noInverse, unknownField, digitsWithin, binaryDigits, power, primeOf, generatorOf, knownField, fieldOf, inField, sum, difference, product, powerOf, powerTurnsOf, inverseOf, field3, reduced, power3, powerTurns3}
 use Rattle.definition.specs.Sheet.{edition1, sheetOf, firstLevel, laterLevels, rootOfUnity}
 use Rattle.definition.specs.Domain.{rootNumbers, domain, shiftPoint}
 use Rattle.definition.specs.Layout.{wordsDue}
@@ -36,6 +36,7 @@ pub record FieldCases : Type 0 where
   pub power·17·of·0 : powerOf 0 0 17 ≡ element 0
   pub power·17·of·3 : powerOf 0 3 17 ≡ element 3
   pub power·reduced : powerOf 0 20 2 ≡ element 9
+  pub power·50 : powerOf 0 3 50 ≡ element 9
   -- binary digits, none of 0; they are the turns of a power (02, CR 4)
   pub digits·0 : binaryDigits 0 ≡ 0
   pub digits·1 : binaryDigits 1 ≡ 1
@@ -51,6 +52,8 @@ pub record FieldCases : Type 0 where
   pub turns·1 : powerTurnsOf 1 65540 4 ≡ powered 81 3
   pub turns·2 : powerTurnsOf 2 2 31 ≡ powered 134217727 5
   pub turns·3 : powerTurnsOf 3 1 1 ≡ inNoField
+  pub turns·50 : powerTurnsOf 0 3 50 ≡ powered 9 6
+  pub turns·16·of·0 : powerTurnsOf 0 0 16 ≡ powered 0 5
   -- inverses: there is none of 0, of p and of 2p
   pub inverse·0·of·0 : inverseOf 0 0 ≡ noInverse
   pub inverse·0·of·p : inverseOf 0 17 ≡ noInverse
@@ -144,6 +147,7 @@ fieldCases = record {
   power·17·of·0 = refl;
   power·17·of·3 = refl;
   power·reduced = refl;
+  power·50 = refl;
   digits·0 = refl;
   digits·1 = refl;
   digits·2 = refl;
@@ -158,6 +162,8 @@ fieldCases = record {
   turns·1 = refl;
   turns·2 = refl;
   turns·3 = refl;
+  turns·50 = refl;
+  turns·16·of·0 = refl;
   inverse·0·of·0 = refl;
   inverse·0·of·p = refl;
   inverse·0·of·2p = refl;
@@ -212,4 +218,20 @@ fieldCases = record {
   roots·k·2 = refl;
   roots·of·level·1 = refl;
   roots·k·4 = refl;
+}
+
+-- The largest exponent, which is a word as it is too. So many products are not computed: the power stands on both sides as it is.
+pub record LargestExponentCases : Type 0 where
+  pub power·largest : powerOf 0 20 4294967295 ≡ element (power F₁₇ 3 4294967295)
+  pub turns·largest : powerTurnsOf 0 20 4294967295 ≡ powered (power F₁₇ 3 4294967295) 32
+  pub power·largest·3 : power3 (record { a = 1; b = 2013265923; c = 3; d = 4 }) 4294967295 ≡ power field3 (record { a = 1; b = 2; c = 3; d = 4 }) 4294967295
+  pub turns·largest·3 : powerTurns3 (record { a = 1; b = 2; c = 3; d = 4 }) 4294967295 ≡ record { power = power field3 (record { a = 1; b = 2; c = 3; d = 4 }) 4294967295; turns = 32 }
+
+pub largestExponentCases : LargestExponentCases
+unfolding digitsWithin binaryDigits knownField primeOf fieldOf inField powerOf powerTurnsOf reduced power3 powerTurns3
+largestExponentCases = record {
+  power·largest = refl;
+  turns·largest = refl;
+  power·largest·3 = refl;
+  turns·largest·3 = refl;
 }

@@ -2,6 +2,7 @@
 use mathlib.Core.Path.{_≡_, refl}
 use mathlib.Core.List.{[], _∷_, map}
 use mathlib.Core.Option.{none, some}
+use lib.ListN.{getD}
 use Rattle.definition.specs.Field.{one}
 use Rattle.definition.specs.Line.{decimalWithin, decimal, outcomeText, lineOf, refusalLine}
 use Rattle.definition.specs.Load.{step, drawBelow, keep, permits, candidates, permitted, workedSheet, drawWords, drawSheet, notAllowed, smallestAllowed, undrawn, drawOut, drawKind, drawKinds, drawInput, drawnInputs, verdictOn, loadLines, seedOf, loadOutput}
@@ -87,6 +88,9 @@ pub record LoadCases : Type 0 where
   }
   pub sheets·6 : map (λ o. o .sheet) (drawnInputs 2 6)
       ≡ (0 ∷ 16 ∷ 8 ∷ 2 ∷ 1 ∷ 1 ∷ 1 ∷ 1 ∷ 0 ∷ 0 ∷ 0 ∷ 0 ∷ []) ∷ (0 ∷ 8 ∷ 4 ∷ 4 ∷ 0 ∷ 2 ∷ 3 ∷ 0 ∷ 0 ∷ 0 ∷ 0 ∷ 0 ∷ []) ∷ []
+  -- the lines of the first two runs of a load, each with the reads of its own file; both runs have the smallest sheet, with t_0 = 1 and with t_0 = 2
+  pub line·0 : getD (loadLines 172308939) 0 [] ≡ lineOf (accept 2)
+  pub line·1 : getD (loadLines 172308939) 1 [] ≡ lineOf (accept 4)
 
 pub loadCases : LoadCases
 unfolding loadDefinitions
@@ -123,4 +127,6 @@ loadCases = record {
   input·6 = refl;
   input·56080 = refl;
   sheets·6 = refl;
+  line·0 = refl;
+  line·1 = refl;
 }

@@ -41,30 +41,50 @@ pub fn sub(x: Four, y: Four) -> Four
     }
 }
 
-// Any word times a word below p: two of these fit in 64 bits together.
+// The product of two words below p: four of these fit in 64 bits together.
 fn times(x: u32, a: u32) -> u64
-    requires { ⌜ a < 2013265921 ⌝ }
-    ensures { λ r. ⌜ (r ≡ x * a) × (r ≤ 8646911282538086400) ⌝ }
+    requires { ⌜ (x < 2013265921) × (a < 2013265921) ⌝ }
+    ensures { λ r. ⌜ (r ≡ x * a) × (r ≤ 4053239664633446400) ⌝ }
 {
     x as u64 * a as u64
 }
 
-// One word of a product: two products of any word and a word below p fit in 64 bits together, so that two remainders serve four products.
+// One word of a product, of words below p: one remainder serves four products.
 fn word_of(x: Four, a: u32, b: u32, c: u32, d: u32) -> u32
+    requires { ⌜ (x .a < 2013265921) × ((x .b < 2013265921) × ((x .c < 2013265921) × (x .d < 2013265921))) ⌝ }
     requires { ⌜ (a < 2013265921) × ((b < 2013265921) × ((c < 2013265921) × (d < 2013265921))) ⌝ }
     ensures { λ r. ⌜ r ≡ base ._⊕_ (base ._⊕_ (base ._⊕_ (base ._⊗_ (x .a) a) (base ._⊗_ (x .b) b)) (base ._⊗_ (x .c) c)) (base ._⊗_ (x .d) d) ⌝ }
 {
-    let first = field::reduce(2, times(x.a, a) + times(x.b, b));
-    field::reduce(2, first as u64 + times(x.c, c) + times(x.d, d))
+    field::reduce(
+        2,
+        times(x.a, a) + times(x.b, b) + times(x.c, c) + times(x.d, d),
+    )
 }
 
-// A word below p, and eleven times it.
+// A word below p. Words of elements are such, so that there is mostly nothing to divide; but none is asked for.
 fn below(x: u32) -> u32
     ensures { λ r. ⌜ (r ≡ x % 2013265921) × (r < 2013265921) ⌝ }
 {
+    if x < 2013265921 {
+        return x;
+    }
     field::reduce(2, x as u64)
 }
 
+// The element by words below p.
+fn reduced(x: Four) -> Four
+    ensures { λ r. ⌜ (r .a ≡ x .a % 2013265921) × ((r .b ≡ x .b % 2013265921) × ((r .c ≡ x .c % 2013265921) × (r .d ≡ x .d % 2013265921))) ⌝ }
+    ensures { λ r. ⌜ (r .a < 2013265921) × ((r .b < 2013265921) × ((r .c < 2013265921) × (r .d < 2013265921))) ⌝ }
+{
+    Four {
+        a: below(x.a),
+        b: below(x.b),
+        c: below(x.c),
+        d: below(x.d),
+    }
+}
+
+// Eleven times a word.
 fn eleven_times(x: u32) -> u32
     ensures { λ r. ⌜ (r ≡ base ._⊗_ 11 x) × (r < 2013265921) ⌝ }
 {
@@ -75,18 +95,16 @@ fn eleven_times(x: u32) -> u32
 pub fn mul(x: Four, y: Four) -> Four
     ensures { λ r. ⌜ quadOf r ≡ field3 ._⊗_ (quadOf x) (quadOf y) ⌝ }
 {
-    let a = below(y.a);
-    let b = below(y.b);
-    let c = below(y.c);
-    let d = below(y.d);
-    let b11 = eleven_times(b);
-    let c11 = eleven_times(c);
-    let d11 = eleven_times(d);
+    let u = reduced(x);
+    let v = reduced(y);
+    let b11 = eleven_times(v.b);
+    let c11 = eleven_times(v.c);
+    let d11 = eleven_times(v.d);
     Four {
-        a: word_of(x, a, d11, c11, b11),
-        b: word_of(x, b, a, d11, c11),
-        c: word_of(x, c, b, a, d11),
-        d: word_of(x, d, c, b, a),
+        a: word_of(u, v.a, d11, c11, b11),
+        b: word_of(u, v.b, v.a, d11, c11),
+        c: word_of(u, v.c, v.b, v.a, d11),
+        d: word_of(u, v.d, v.c, v.b, v.a),
     }
 }
 

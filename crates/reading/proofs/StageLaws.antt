@@ -183,7 +183,7 @@ module _ (ed : Edition) (file : List ℕ) (h : length file ≡ 0 → ⊥) (k : l
   checks-pass e {o} q = q ∙ ap (λ (t : Option ℕ). refuseAt 2 t then streamTests ed (length file / 512) (streamOf file)) e ∙ to-checks
 
 -- what is loaded is the stream's words
-pub loads-stream : (file : List ℕ) {found : Found} {words : List ℕ} → Loaded file found words → found ≡ Nothing → Loads words (length file / 512) (streamOf file)
+pub loads-stream : (file : List ℕ) {found : Found} {words : List ℕ} → Loaded file 67 found words → found ≡ Nothing → Loads words (length file / 512) (streamOf file)
 loads-stream file loaded right = record { size = stream-length file; front = loaded .front right }
 
 -- ---- what reading leaves
@@ -195,5 +195,5 @@ pub read-refused : (ed : Edition) (file words : List ℕ) {n p : ℕ} → refuse
 unfolding outcomeOf
 read-refused ed file words e = record { outcome = e; stream = λ h. absurd (never (e ∙ h)) }
 
-pub read-loaded : (ed : Edition) (file : List ℕ) {found : Found} {r : Answered} {words : List ℕ} → Loaded file found words → found ≡ Nothing → outcomeOf r ≡ reading ed file → Read ed file r words
+pub read-loaded : (ed : Edition) (file : List ℕ) {found : Found} {r : Answered} {words : List ℕ} → Loaded file 67 found words → found ≡ Nothing → outcomeOf r ≡ reading ed file → Read ed file r words
 read-loaded ed file loaded right e = record { outcome = e; stream = λ h. loaded-all file loaded right (few-blocks ed file h) }

@@ -62,7 +62,7 @@ pub fn read(e: Edition, file: &[u8], words: &mut [u32]) -> Outcome
     if file.len() % 512 != 0 {
         return Outcome::Refused(1, 0);
     }
-    let check = stream::load(file, words);
+    let check = stream::load(file, 67, words);
     if let Found::At(place) = check {
         return Outcome::Refused(2, place);
     }

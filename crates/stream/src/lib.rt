@@ -51,23 +51,24 @@ fn take_block(file: &[u8], b: usize, words: &mut [u32], at: usize) -> bool
     word(file, from + 508) as u64 == sum % 4294967291
 }
 
-// Where the words of block b go: one block after the other, and all from number 67 on to the same place,
-// since no file of more than 67 blocks is accepted and only their checks count.
-fn place(b: usize) -> usize
-    ensures { λ r. ⌜ r ≡ 127 * min b 67 ⌝ }
+// Where the words of block b go: one block after the other, and all from number `most` on to the same place,
+// since no file of more than `most` blocks is accepted and only their checks count.
+fn place(b: usize, most: usize) -> usize
+    requires { ⌜ 127 * min b most ≤ 9223372036854775807 ⌝ }
+    ensures { λ r. ⌜ r ≡ 127 * min b most ⌝ }
 {
-    if b < 67 { 127 * b } else { 8509 }
+    if b < most { 127 * b } else { 127 * most }
 }
 
-// Reads a file in one pass: checks each block up to the first that is wrong, and stores the words. There are places for the file's blocks, up to 68.
-pub fn load(file: &[u8], words: &mut [u32]) -> Found
-    requires { ⌜ 127 * min (length (now file) / 512) 68 ≤ length (now words) ⌝ }
-    ensures { λ r. ⌜ Loaded (now (file .entry)) r (now (words .exit)) ⌝ }
+// Reads a file in one pass: checks each block up to the first that is wrong, and stores the words. There are places for the file's blocks, up to `most` and one more.
+pub fn load(file: &[u8], most: usize, words: &mut [u32]) -> Found
+    requires { ⌜ 127 * min (length (now file) / 512) (most + 1) ≤ length (now words) ⌝ }
+    ensures { λ r. ⌜ Loaded (now (file .entry)) most r (now (words .exit)) ⌝ }
 {
     let blocks = file.len() / 512;
     let mut b = 0;
     while b < blocks {
-        let at = place(b);
+        let at = place(b, most);
         if !take_block(file, b, words, at) {
             return Found::At(b);
         }

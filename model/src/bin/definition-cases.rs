@@ -9,16 +9,21 @@
 //!   `done 0 BLOCKS` or `refused NUMBER PLACE`, and the output's bytes afterwards,
 //!   all of which were 165 before;
 //! - `inputs`: a state of the load's generator, the state after one run, and the
-//!   run's sheet, coefficients and coins, with bars between them.
+//!   run's sheet, coefficients and coins, with bars between them;
+//! - `batches`: as first, of files taken for batches;
+//! - `orders`: the words of a sheet, of bounds, coefficients and coins of a batch, the
+//!   output's length, and answer and output as for `convert`, with bars between them.
 
 use std::env;
 use std::io::{self, BufWriter, Write};
 use std::process::ExitCode;
+use tevrolig_model::batch::{prove_batch, verify_batch};
 use tevrolig_model::convert::convert_to;
+use tevrolig_model::generate::batch::{aim_batch, honest_batch, order_of, Order, BATCH_REFUSALS};
 use tevrolig_model::generate::equal_outs::equal_coin_drawn;
 use tevrolig_model::generate::repeats::{fail_late, repeat};
 use tevrolig_model::generate::{
-    aim, coefficients, coins, convert, damage, honest_file, sheet_over, Rng,
+    aim, coefficients, coins, convert, damage, disturb, honest_file, sheet_over, Rng,
 };
 use tevrolig_model::load::{Generator, WORKED_SHEET};
 use tevrolig_model::sheet::Edition;
@@ -38,10 +43,14 @@ fn main() -> ExitCode {
         Some("steps") => Some(in_one_step),
         Some("convert") => Some(converted),
         Some("inputs") => Some(drawn_input),
+        Some("batches") => Some(batch_verified),
+        Some("orders") => Some(batch_proved),
         Some(_) => None,
     };
     let (Some(seed), Some(count), Some(draw)) = (number(0), number(1), draw) else {
-        eprintln!("usage: definition-cases SEED COUNT [edition2 | steps | convert | inputs]");
+        eprintln!(
+            "usage: definition-cases SEED COUNT [edition2 | steps | convert | inputs | batches | orders]"
+        );
         return ExitCode::FAILURE;
     };
 
@@ -135,6 +144,72 @@ fn drawn_input(rng: &mut Rng, case: u64) -> String {
             return format!("{} | {} | {input}", before.v, after.v);
         }
     }
+}
+
+/// An order for a batch that is short to compute: of three tables at most, over few points.
+fn small_order(rng: &mut Rng) -> Order {
+    let field = rng.below(4) as u32;
+    let most_n0 = if field == 3 { 8 } else { 16 };
+    let mut sheet = sheet_over(Edition::One, rng, field, most_n0);
+    while sheet[4] == 0 && !rng.one_in(4) {
+        sheet = sheet_over(Edition::One, rng, field, most_n0);
+    }
+    let last = 6 + sheet[4] as usize;
+    sheet[last] = sheet[last].min(4);
+    let count = 1 + rng.place(3);
+    let hostile = rng.one_in(2);
+    order_of(rng, &sheet, count, hostile)
+}
+
+/// A file taken for a batch, with its verdict: a third honest, the rest damaged.
+fn batch_verified(rng: &mut Rng, case: u64) -> String {
+    let mut file = honest_batch(&small_order(rng));
+    if case % 16 == 15 {
+        file = small(Edition::One, rng, case as usize);
+    } else if case % 3 > 0 {
+        let number = BATCH_REFUSALS[case as usize / 3 % BATCH_REFUSALS.len()];
+        aim_batch(rng, &mut file, number);
+    }
+    format!("{} {}", hexadecimal(&file), line(verify_batch(&file)))
+}
+
+/// An order for a batch, half of them with lists that are disturbed, and what is answered
+/// and written.
+fn batch_proved(rng: &mut Rng, case: u64) -> String {
+    let mut order = small_order(rng);
+    let due = honest_batch(&order).len();
+    let length = due + rng.pick(&[0, 1]) - usize::from(rng.one_in(6));
+    if case % 2 == 1 {
+        let Order {
+            sheet,
+            bounds,
+            coefficients,
+            coins,
+        } = &mut order;
+        for list in [sheet, bounds, coefficients, coins] {
+            disturb(rng, list);
+        }
+    }
+    let mut output = vec![165; length];
+    let Order {
+        sheet,
+        bounds,
+        coefficients,
+        coins,
+    } = &order;
+    let answer = match prove_batch(sheet, bounds, coefficients, coins, &mut output) {
+        Answer::Done(blocks) => format!("done 0 {blocks}"),
+        Answer::Refused { number, place } => format!("refused {number} {place}"),
+    };
+    let lists = [sheet, bounds, coefficients, coins].map(|list| {
+        let words: Vec<String> = list.iter().map(u32::to_string).collect();
+        words.join(" ")
+    });
+    format!(
+        "{} | {length} {answer} {}",
+        lists.join(" | "),
+        hexadecimal(&output)
+    )
 }
 
 /// The faults of small files; those that leave more to compute are wanted more often, and

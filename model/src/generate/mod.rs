@@ -2,6 +2,7 @@
 //! damaged files. Where a sheet is given, its number of words tells the edition, and its
 //! first word whether elements have one word or four.
 
+pub mod batch;
 pub mod convert;
 mod damage;
 pub mod equal_outs;

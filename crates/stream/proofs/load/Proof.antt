@@ -24,13 +24,17 @@ use Rattle.stream.proofs.load.Tie as tie
 Searching : List ℕ → ℕ → Type 0
 Searching file b = firstTrue b (wrongChecks b (drop b (fileBlocks file))) ≡ firstTrue 0 (wrongChecks 0 (fileBlocks file))
 
--- the words of the blocks before block b, up to 67 of them
-Holding : List ℕ → ℕ → List ℕ → Type 0
-Holding file b words = take (127 * min b 67) words ≡ take (127 * min b 67) (streamOf file)
+-- the words of the blocks before block b, up to so many of them
+Holding : List ℕ → ℕ → ℕ → List ℕ → Type 0
+Holding file most b words = take (127 * min b most) words ≡ take (127 * min b most) (streamOf file)
 
-module _ (file : List ℕ) (b : ℕ) where
+hold-none : (file : List ℕ) (most : ℕ) (words : List ℕ) → Holding file most 0 words
+unfolding Holding
+hold-none file most words = let z : 127 * min 0 most ≡ 0 = omega arith in rw z
+
+module _ (file : List ℕ) (most b : ℕ) where
   found-here : (words : List ℕ) {r : Bool} → b < length file / 512 → r ≡ rightCheck b (getD (fileBlocks file) b []) → not r ≡ true → Searching file b
-      → Loaded file (At b) words
+      → Loaded file most (At b) words
   unfolding placeOf Searching
   found-here words {r} h e t s =
       let n : b < length (fileBlocks file) = omega (arith, blocks-count file) in
@@ -45,47 +49,47 @@ module _ (file : List ℕ) (b : ℕ) where
       let n : b < length (fileBlocks file) = omega (arith, blocks-count file) in
       wrong-later (fileBlocks file) b n (sym e ∙ not-false r t) ∙ s
 
-  -- block b is stored behind those before it, or, from number 67 on, behind the first 67
-  hold-more : (l : List ℕ) {o : List ℕ} {at : ℕ} → b < length file / 512 → 127 * min (length file / 512) 68 ≤ length l → at ≡ 127 * min b 67
-      → o ≡ overwrite l at (blockWords file b) → Holding file b l → Holding file (b + 1) o
+  -- block b is stored behind those before it, or, from number most on, behind the first ones
+  hold-more : (l : List ℕ) {o : List ℕ} {at : ℕ} → b < length file / 512 → 127 * min (length file / 512) (most + 1) ≤ length l → at ≡ 127 * min b most
+      → o ≡ overwrite l at (blockWords file b) → Holding file most b l → Holding file most (b + 1) o
   unfolding Holding
-  hold-more l {o} {at} h n e q w = ⊎-elim (λ z. above (omega arith)) (λ z. below (omega arith)) (eq-zero-or-pos (67 - b))
+  hold-more l {o} {at} h n e q w = ⊎-elim (λ z. above (omega arith)) (λ z. below (omega arith)) (eq-zero-or-pos (most - b))
     where
-      below : b < 67 → take (127 * min (b + 1) 67) o ≡ take (127 * min (b + 1) 67) (streamOf file)
+      below : b < most → take (127 * min (b + 1) most) o ≡ take (127 * min (b + 1) most) (streamOf file)
       below k =
-          let m : min b 67 ≡ b = omega arith in
+          let m : min b most ≡ b = omega arith in
           let j : 127 * b + length (blockWords file b) ≡ 127 * (b + 1) = omega (arith, block-words-length file b h) in
-          let i : min (b + 1) 67 ≡ b + 1 = omega arith in
+          let i : min (b + 1) most ≡ b + 1 = omega arith in
           let f = overwrite-front l (127 * b) (blockWords file b) (omega (arith, n)) in
           let g = ap (λ (y : List ℕ). y ++ blockWords file b) (rw m at w) in
           rw (i, q, e, m) ((rw j at f) ∙ g ∙ stream-next file b h)
 
-      above : 67 ≤ b → take (127 * min (b + 1) 67) o ≡ take (127 * min (b + 1) 67) (streamOf file)
+      above : most ≤ b → take (127 * min (b + 1) most) o ≡ take (127 * min (b + 1) most) (streamOf file)
       above k =
-          let m : min (b + 1) 67 ≡ min b 67 = omega arith in
-          rw m (rw (q, e) (overwrite-before l (127 * min b 67) (blockWords file b) (omega (arith, n)) (127 * min b 67) (le-refl _) ∙ w))
+          let m : min (b + 1) most ≡ min b most = omega arith in
+          rw m (rw (q, e) (overwrite-before l (127 * min b most) (blockWords file b) (omega (arith, n)) (127 * min b most) (le-refl _) ∙ w))
 
 -- all blocks read
-all-right : (file : List ℕ) (b : ℕ) (words : List ℕ) → b ≡ length file / 512 → Searching file b → Holding file b words → Loaded file Nothing words
+all-right : (file : List ℕ) (most b : ℕ) (words : List ℕ) → b ≡ length file / 512 → Searching file b → Holding file most b words → Loaded file most Nothing words
 unfolding placeOf Searching Holding
-all-right file b words e s w =
+all-right file most b words e s w =
     record {
       checked = sym (wrong-nowhere (fileBlocks file) b (omega (arith, blocks-count file))) ∙ s;
       front =
           λ q m h k.
-          let t : 127 * m ≤ 127 * min b 67 = omega arith in
-          sym (take-take (127 * m) (127 * min b 67) words t) ∙ ap (take (127 * m)) w ∙ take-take (127 * m) (127 * min b 67) (streamOf file) t;
+          let t : 127 * m ≤ 127 * min b most = omega arith in
+          sym (take-take (127 * m) (127 * min b most) words t) ∙ ap (take (127 * m)) w ∙ take-take (127 * m) (127 * min b most) (streamOf file) t;
     }
 
 abbrev Inv-loop : tie.InvT-loop
-Inv-loop file words₀ blocks b₀ words b = (b ≤ length file / 512) × ((length words ≡ length words₀) × (Searching file b × Holding file b words))
+Inv-loop file most words₀ blocks b₀ words b = (b ≤ length file / 512) × ((length words ≡ length words₀) × (Searching file b × Holding file most b words))
 
 abbrev μ-loop : tie.MeasureT-loop
-μ-loop file words₀ blocks b₀ words b = length file / 512 - b
+μ-loop file most words₀ blocks b₀ words b = length file / 512 - b
 
 loop-holds : tie.Need-loop-holds Inv-loop μ-loop
-unfolding Searching Holding
-loop-holds c = (omega arith, (refl, (refl, refl)))
+unfolding Searching
+loop-holds c = let a = c .before .before .args in (omega arith, (refl, (refl, hold-none (a .file .now) (a .most) (a .words .now))))
 
 place-requires : tie.Need-place-requires Inv-loop μ-loop
 place-requires c κs = omega arith
@@ -101,7 +105,7 @@ returns c =
     let l = c .before .before .before .before .before .before .before .loop in
     let a = c .before .before .before .before .before .before .before .before .before .before .args in
     let p = c .before .before .before .take-block in
-    found-here (a .file .now) (l .b) (p .last .1 .1 .0) (omega arith) (p .ensures .0) (c .if1 .taken) (l .inv .1 .1 .0)
+    found-here (a .file .now) (a .most) (l .b) (p .last .1 .1 .0) (omega arith) (p .ensures .0) (c .if1 .taken) (l .inv .1 .1 .0)
 
 add-b : tie.Need-add-b Inv-loop μ-loop
 add-b c = omega arith
@@ -120,8 +124,8 @@ loop-again c =
       (
         p .kept .1 .1 .0 ∙ l .inv .1 .0,
         (
-          search-on (a .file .now) (l .b) h (p .ensures .0) (c .if1 .left) (l .inv .1 .1 .0),
-          hold-more (a .file .now) (l .b) (l .words) h (omega (arith, l .inv .1 .0, s .pre)) (c .before .before .before .before .before .place .ensures) (p .ensures .1) (l .inv .1 .1 .1),
+          search-on (a .file .now) (a .most) (l .b) h (p .ensures .0) (c .if1 .left) (l .inv .1 .1 .0),
+          hold-more (a .file .now) (a .most) (l .b) (l .words) h (omega (arith, l .inv .1 .0, s .pre)) (c .before .before .before .before .before .place .ensures) (p .ensures .1) (l .inv .1 .1 .1),
         ),
       ),
     )
@@ -132,7 +136,8 @@ same-length-2 c = omega arith
 returns-2 : tie.Need-returns-2 Inv-loop μ-loop
 returns-2 c =
     let l = c .before .loop in
-    all-right (c .before .before .before .before .args .file .now) (l .b) (l .words) (omega arith) (l .inv .1 .1 .0) (l .inv .1 .1 .1)
+    let a = c .before .before .before .before .args in
+    all-right (a .file .now) (a .most) (l .b) (l .words) (omega arith) (l .inv .1 .1 .0) (l .inv .1 .1 .1)
 
 pub load-spec : {M : Type 1} → statement M
 load-spec =
