@@ -37,7 +37,7 @@ use Rattle.completeness.specs.TestsByNumber.{differ, differs}
 use Rattle.completeness.specs.VerifyExactly.{is_true, length_complete, rule_complete, rule_sound, rules_rise, then_accepted, then_assoc}
 use Rattle.refusals.specs.InOrder.{ExactRow, FaultOf, named, named_at, named_if, next, number_of, own, place_turn, row_accepted, row_refused}
 use Rattle.refusals.specs.InputFaults.{FirstFailure, NoFailure, Test, test, test_at}
-use Rattle.batches.specs.Batched.{batch_number, batch_sheet, combined_table, fold_number, higher, higher_by, plain_words}
+use Rattle.batches.specs.Batched.{batch_number, batch_sheet, combined_table, fold_number, higher_by, plain_words}
 use Rattle.batches.specs.PlainStream
 use Rattle.batches.specs.PlainStream.{after_sheet, at_is, both, field_laws, outs_higher, plain_due, table_long, tests_moved}
 use Rattle.batches.specs.PlainVerdict

@@ -1,4 +1,6 @@
 // A batch's own rules beside a sheet of edition 1, refusal 15; and the numbers that its tables and bounds give.
+#![tactic(auto)]
+
 ghost use Rattle.std.specs.Prelude.{◌≡◌, not, ◌&&◌, map, ◌*◌, ◌≤◌, min, leb, length};
 ghost use Rattle.definition.specs.Field.{spelling_of, word_count};
 ghost use Rattle.definition.specs.Lists.{first_true};

@@ -63,7 +63,7 @@ module _ (σ : Spelling) (p : ℕ) (L : FieldLaws (field_in σ p)) (positive : 0
   pub combined_below : (d n : ℕ) (r : Element σ) (fs : List (List (Element σ))) → All (Below σ p) (combine_poly F d n r fs)
   unfolding combine_poly
   combined_below d n r [] = all_replicate (Below σ p) d F.𝟘 (zero_below σ p positive)
-  combined_below d n r (f ∷ fs) = added_below _ _ (scaled_below (power F r n) (mul_poly F f (geometric F r (d - length f)))) (combined_below d _ r fs)
+  combined_below d n r (f ∷ fs) = added_below _ _ (scaled_below (power F r n) (mul_poly F f (geometric F r (d - length f)))) (combined_below d (n + suc (d - length f)) r fs)
 
 module _ {w bounds f coins : List ℕ} (ok : AllowedBatch w bounds f coins) where
   abbrev h : Sheet

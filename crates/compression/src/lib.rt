@@ -1,11 +1,13 @@
 // The compression function of SHA-256 (FIPS 180-4, 6.2.2): the 64 rounds over a block of 16 words, with the schedule in a ring of 16 words.
+#![tactic(auto)]
+
 ghost use Rattle.std.specs.Prelude.{◌≡◌, ◌+◌, ◌%◌, ◌^◌, ◌≤◌, ◌<◌, length, set};
 ghost use Rattle.hashing.specs.Sha256 as def;
 ghost use Rattle.hash_laws.specs.Ring.{ring_word, Turned};
 ghost use Rattle.compression.specs.Meaning.{state_of};
 
 // Eight words: the hash value, and the working variables.
-#[derive(Drop)]
+#[derive(Clone, Copy)]
 pub struct State {
     pub a: u32,
     pub b: u32,

@@ -2,7 +2,7 @@
 // no byte is written. The words after the sheet stay where they were read, and the sheet is laid before them.
 ghost use Rattle.std.specs.Prelude.{◌≡◌, ◌++◌, ◌+◌, ◌*◌, ◌/◌, ◌≤◌, min, length, take, drop};
 ghost use Rattle.definition.specs.Block.{block_count, file_of, stream_of};
-ghost use Rattle.definition.specs.Convert.{backward as backwardOf, folds_test, forward as forwardOf, to_edition1, to_edition2};
+ghost use Rattle.definition.specs.Convert.{backward as backward_of, folds_test, forward as forward_of, to_edition1, to_edition2};
 ghost use Rattle.definition.specs.Prove.{done};
 ghost use Rattle.definition.specs.Reading.{reading};
 ghost use Rattle.definition.specs.Sheet.{edition1, edition2, sheet_of};
@@ -37,7 +37,7 @@ fn output_test(count: usize, size: usize) -> Answer
 // file stand at the front of the places lent.
 fn forward_tests(file: &[u8], words: &mut [u32], size: usize) -> Answer
     requires { (127 * min (length file.now / 512) 68 ≤ length words.old) × (12 ≤ length words.old) }
-    ensures { Tested (reading edition1 file.now then output_for (forwardOf (stream_of file.now)) size) (forwardOf (stream_of file.now)) file.now result words.new }
+    ensures { Tested (reading edition1 file.now then output_for (forward_of (stream_of file.now)) size) (forward_of (stream_of file.now)) file.now result words.new }
 {
     let read = reading::read(Edition::One, file, words);
     if let Outcome::Refused(number, place) = read {
@@ -49,7 +49,7 @@ fn forward_tests(file: &[u8], words: &mut [u32], size: usize) -> Answer
 // All tests of the way to edition 1.
 fn backward_tests(file: &[u8], words: &mut [u32], size: usize) -> Answer
     requires { (127 * min (length file.now / 512) 68 ≤ length words.old) × (18 ≤ length words.old) }
-    ensures { Tested ((reading edition2 file.now then folds_test (sheet_of edition2 (stream_of file.now))) then output_for (backwardOf (stream_of file.now)) size) (backwardOf (stream_of file.now)) file.now result words.new }
+    ensures { Tested ((reading edition2 file.now then folds_test (sheet_of edition2 (stream_of file.now))) then output_for (backward_of (stream_of file.now)) size) (backward_of (stream_of file.now)) file.now result words.new }
 {
     let read = reading::read(Edition::Two, file, words);
     if let Outcome::Refused(number, place) = read {

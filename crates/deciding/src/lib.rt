@@ -1,6 +1,6 @@
 // Deciding, of the words w of a stream of edition e that passes reading: refusals 7, 14, 8 and 9, and the reads. pw is the table of the points of domain 0.
 ghost use Rattle.std.specs.Prelude.{◌≡◌, ◌≤◌, length, get_or, drop};
-ghost use Rattle.definition.specs.Deciding.{counted, decide as decideBy, deciding as decidingOf, out_test};
+ghost use Rattle.definition.specs.Deciding.{counted, decide as decide_by, deciding as deciding_of, out_test};
 ghost use Rattle.definition.specs.Layout.{layout, read_transcript, words_due};
 ghost use Rattle.definition.specs.Reading.{range_test, sheet_test};
 ghost use Rattle.definition.specs.Sheet.{first_level, root_of_unity, sheet_length, sheet_of};
@@ -40,7 +40,7 @@ fn decide_past_out_tests(
     requires powers { (Powers (get_or w.now 0 0) (root_of_unity (sheet_of (edition_of e) w.now)) pw.now) × (length pw.now ≡ get_or w.now 1 0) }
     requires w_value_2 { out_test (sheet_of (edition_of e) w.now) (sheet_length (edition_of e)) (layout (sheet_of (edition_of e) w.now)) w.now ≡ accepted }
     requires px_len { (length px.old ≡ words_for (sheet_of (edition_of e) w.now) 50) × ((length py.old ≡ words_for (sheet_of (edition_of e) w.now) 50) × ((length ac.old ≡ words_for (sheet_of (edition_of e) w.now) 66) × (length vg.old ≡ words_for (sheet_of (edition_of e) w.now) 132))) }
-    ensures { verdict_of result ≡ counted (decideBy (sheet_field (sheet_of (edition_of e) w.now)) (sheet_root (sheet_of (edition_of e) w.now)) (first_level (sheet_of (edition_of e) w.now)) (read_transcript (sheet_of (edition_of e) w.now).spelling (sheet_of (edition_of e) w.now) (drop (sheet_length (edition_of e)) w.now))) }
+    ensures { verdict_of result ≡ counted (decide_by (sheet_field (sheet_of (edition_of e) w.now)) (sheet_root (sheet_of (edition_of e) w.now)) (first_level (sheet_of (edition_of e) w.now)) (read_transcript (sheet_of (edition_of e) w.now).spelling (sheet_of (edition_of e) w.now) (drop (sheet_length (edition_of e)) w.now))) }
 {
     let at = edition::sheet_words(e) + widths::words(w[0], w[1] as usize);
     decide_rounds::decide_rest(
@@ -72,7 +72,7 @@ fn test_outs_then_decide(
     requires w_in_bounds { words_due (edition_of e) (sheet_of (edition_of e) w.now) ≤ length w.now }
     requires powers { (Powers (get_or w.now 0 0) (root_of_unity (sheet_of (edition_of e) w.now)) pw.now) × (length pw.now ≡ get_or w.now 1 0) }
     requires px_len { (length px.old ≡ words_for (sheet_of (edition_of e) w.now) 50) × ((length py.old ≡ words_for (sheet_of (edition_of e) w.now) 50) × ((length ac.old ≡ words_for (sheet_of (edition_of e) w.now) 66) × (length vg.old ≡ words_for (sheet_of (edition_of e) w.now) 132))) }
-    ensures { verdict_of result ≡ decidingOf (edition_of e) w.now }
+    ensures { verdict_of result ≡ deciding_of (edition_of e) w.now }
 {
     let outs = out_coins::tests(e, w, pw);
     if let Outcome::Refused(number, place) = outs {
@@ -90,7 +90,7 @@ fn decide_few(e: Edition, w: &[u32]) -> Verdict
     requires w_value { (sheet_test (edition_of e) w.now ≡ accepted) × (range_test (sheet_of (edition_of e) w.now) (sheet_length (edition_of e)) (layout (sheet_of (edition_of e) w.now)) w.now ≡ accepted) }
     requires w_in_bounds { words_due (edition_of e) (sheet_of (edition_of e) w.now) ≤ length w.now }
     requires w_bound { (get_or w.now 1 0 ≤ 256) × (get_or w.now 0 0 ≡ 3 → ⊥) }
-    ensures { verdict_of result ≡ decidingOf (edition_of e) w.now }
+    ensures { verdict_of result ≡ deciding_of (edition_of e) w.now }
 {
     let mut pw = [0u32; domain::FEW_POINTS];
     let mut px = [0u32; SAMPLES];
@@ -106,7 +106,7 @@ fn decide_many(e: Edition, w: &[u32]) -> Verdict
     requires w_value { (sheet_test (edition_of e) w.now ≡ accepted) × (range_test (sheet_of (edition_of e) w.now) (sheet_length (edition_of e)) (layout (sheet_of (edition_of e) w.now)) w.now ≡ accepted) }
     requires w_in_bounds { words_due (edition_of e) (sheet_of (edition_of e) w.now) ≤ length w.now }
     requires fact { get_or w.now 0 0 ≡ 3 → ⊥ }
-    ensures { verdict_of result ≡ decidingOf (edition_of e) w.now }
+    ensures { verdict_of result ≡ deciding_of (edition_of e) w.now }
 {
     let mut pw = [0u32; domain::POINTS];
     let mut px = [0u32; SAMPLES];
@@ -122,7 +122,7 @@ fn decide_four(e: Edition, w: &[u32]) -> Verdict
     requires w_value { (sheet_test (edition_of e) w.now ≡ accepted) × (range_test (sheet_of (edition_of e) w.now) (sheet_length (edition_of e)) (layout (sheet_of (edition_of e) w.now)) w.now ≡ accepted) }
     requires w_in_bounds { words_due (edition_of e) (sheet_of (edition_of e) w.now) ≤ length w.now }
     requires w_value_2 { get_or w.now 0 0 ≡ 3 }
-    ensures { verdict_of result ≡ decidingOf (edition_of e) w.now }
+    ensures { verdict_of result ≡ deciding_of (edition_of e) w.now }
 {
     let mut pw = [0u32; FOUR_POINTS];
     let mut px = [0u32; FOUR_SAMPLES];
@@ -137,7 +137,7 @@ fn decide_four(e: Edition, w: &[u32]) -> Verdict
 pub fn deciding(e: Edition, w: &[u32]) -> Verdict
     requires w_value { (sheet_test (edition_of e) w.now ≡ accepted) × (range_test (sheet_of (edition_of e) w.now) (sheet_length (edition_of e)) (layout (sheet_of (edition_of e) w.now)) w.now ≡ accepted) }
     requires w_in_bounds { words_due (edition_of e) (sheet_of (edition_of e) w.now) ≤ length w.now }
-    ensures { verdict_of result ≡ decidingOf (edition_of e) w.now }
+    ensures { verdict_of result ≡ deciding_of (edition_of e) w.now }
 {
     if w[0] == 3 {
         return decide_four(e, w);

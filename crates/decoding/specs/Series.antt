@@ -71,7 +71,7 @@ module _ {A : Type 0} (F : Field A) (L : FieldLaws F) where
   pub elements_series : (c : A) (w s : List A) (d : ℕ) → Elements F L (series F c w s d)
   unfolding series
   elements_series c w s zero = tt
-  elements_series c w s (suc d) = (reduce_mul _ c, elements_series c w _ d)
+  elements_series c w s (suc d) = (reduce_mul _ c, elements_series c w (drop 1 (added F 0 (𝟘 ⊖ get_or s 0 𝟘 ⊗ c) w s)) d)
 
   -- ---- noughts at the top of w are of no account
 

@@ -1,6 +1,6 @@
 // The judge behind registers: a byte written to a register, with the buffer lent for the call.
 ghost use Rattle.std.specs.Prelude.{◌≡◌, take};
-ghost use Rattle.device_definition.specs.Device.{command as commandBy, start as start_by, write as writeBy, written as written_by};
+ghost use Rattle.device_definition.specs.Device.{command as command_by, start as start_by, write as write_by, written as written_by};
 ghost use Rattle.outcome.specs.Meaning.{outcome_of};
 ghost use Rattle.registers.specs.Meaning.{device_of};
 
@@ -8,7 +8,7 @@ use outcome::Outcome;
 use registers::Device;
 
 // What a call answers, and the device after it.
-#[derive(Drop)]
+#[derive(Clone, Copy)]
 pub struct Stepped {
     pub outcome: Outcome,
     pub device: Device,
@@ -38,7 +38,7 @@ fn start(d: Device, file: &[u8]) -> Device
 
 // Register 0 written: 1 starts, 2 clears.
 fn command(d: Device, value: u8, file: &[u8]) -> Device
-    ensures { device_of result ≡ commandBy value (device_of d) file.now }
+    ensures { device_of result ≡ command_by value (device_of d) file.now }
 {
     if value == 1 {
         return start(d, file);
@@ -68,9 +68,9 @@ fn written(d: Device, register: u8, value: u8, buffer: &[u8]) -> Device
 
 // A byte written to a register.
 pub fn write(d: Device, register: u8, value: u8, buffer: &mut [u8]) -> Stepped
-    ensures outcome_value { outcome_of result.outcome ≡ (writeBy register value (device_of d) buffer.old).outcome }
-    ensures device_value { device_of result.device ≡ (writeBy register value (device_of d) buffer.old).device }
-    ensures buffer_after { buffer.new ≡ (writeBy register value (device_of d) buffer.old).buffer }
+    ensures outcome_value { outcome_of result.outcome ≡ (write_by register value (device_of d) buffer.old).outcome }
+    ensures device_value { device_of result.device ≡ (write_by register value (device_of d) buffer.old).device }
+    ensures buffer_after { buffer.new ≡ (write_by register value (device_of d) buffer.old).buffer }
 {
     let tests = registers::write_tests(d, register, value, buffer);
     if let Outcome::Refused(number, place) = tests {

@@ -1,7 +1,7 @@
 // The device's operations over a lent state of words: what the C functions call. A call that is refused changes nothing, neither state nor buffer.
 ghost use Rattle.std.specs.Prelude.{◌≡◌, ◌<◌, length};
 ghost use Rattle.definition.specs.Verdict.{accepted};
-ghost use Rattle.device_definition.specs.Device.{fresh as freshDevice, write as writeBy};
+ghost use Rattle.device_definition.specs.Device.{fresh as fresh_device, write as write_by};
 ghost use Rattle.outcome.specs.Meaning.{outcome_of};
 ghost use Rattle.numbers.specs.Numbers.{number_of, place_in};
 ghost use Rattle.registers.specs.Meaning.{device_of};
@@ -16,7 +16,7 @@ use outcome::Outcome;
 pub fn fresh(state: &mut [u32]) -> u32
     ensures value { result ≡ fresh_answer state.old }
     ensures state_after { state.new ≡ fresh_state state.old }
-    ensures state_after_2 { length state.old ≡ 1160 → device_in state.new ≡ freshDevice }
+    ensures state_after_2 { length state.old ≡ 1160 → device_in state.new ≡ fresh_device }
 {
     if state.len() != device_words::WORDS {
         return 16;
@@ -49,7 +49,7 @@ pub fn write(state: &mut [u32], register: u8, value: u8, buffer: &mut [u8]) -> F
     ensures place_value { result.place ≡ place_in (write_call register value state.old buffer.old).outcome }
     ensures state_after { state.new ≡ (write_call register value state.old buffer.old).state }
     ensures buffer_after { buffer.new ≡ (write_call register value state.old buffer.old).buffer }
-    ensures state_after_2 { length state.old ≡ 1160 → device_in state.new ≡ (writeBy register value (device_in state.old) buffer.old).device }
+    ensures state_after_2 { length state.old ≡ 1160 → device_in state.new ≡ (write_by register value (device_in state.old) buffer.old).device }
 {
     if state.len() != device_words::WORDS {
         return Fault {

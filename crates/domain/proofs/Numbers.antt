@@ -6,7 +6,7 @@ use mathlib.Core.List.{List}
 use lib.Dec.{eqb}
 use lib.ListN.{length, get_or}
 use borrow.Author.Tests.{eq-eqb, ne_eqb}
-use Rattle.definition.specs.Field.{Spelling, four, one, spelling_of, word_count}
+use Rattle.definition.specs.Field.{Spelling, four, spelling_of, word_count}
 use Rattle.widths.specs.ByField.{spelling_other, spelling_three}
 use Rattle.domain.specs.Elements.{number_at}
 

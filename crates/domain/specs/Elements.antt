@@ -1,5 +1,5 @@
 -- An element at a word, word by word: whether it is a number of the prime field, and that only such lie in a domain. Assumes nothing.
-use Rattle.std.specs.Prelude.{ℕ, suc, ◌+◌, ◌/◌, ◌^◌, ◌≤◌, ◌≡◌, refl, Bool, true, false, ◌&&◌, List, eqb, length, get_or, drop}
+use Rattle.std.specs.Prelude.{ℕ, suc, ◌+◌, ◌/◌, ◌^◌, ◌≤◌, ◌≡◌, refl, Bool, true, false, ◌&&◌, List, eqb, length, get_or}
 use Rattle.std.proofs.Common.{arith, sym, ap, ◌∙◌, drop-cons}
 use Rattle.algebra.specs.InDomain.{in_domain_lem}
 use Rattle.algebra.specs.PrimeField.{laws}

@@ -1,11 +1,13 @@
 // The editions of a sheet: the number of its words, and where its folding numbers stand. All other words have one place in both.
+#![tactic(auto)]
+
 ghost use Rattle.std.specs.Prelude.{◌≡◌, ◌/◌, ◌≤◌, ◌<◌, length, get_or, take};
 ghost use Rattle.definition.specs.Lists.{product_of};
 ghost use Rattle.definition.specs.Sheet.{fold_places, fold_words, sheet_length};
 ghost use Rattle.edition.specs.Meaning.{Positive, edition_of};
 
 // Edition 1 has one folding number for all levels, edition 2 one for each.
-#[derive(Drop)]
+#[derive(Clone, Copy)]
 pub enum Edition {
     One,
     Two,

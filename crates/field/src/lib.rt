@@ -1,6 +1,8 @@
 // The operations of the three fields, by the field's number, on any words. No function asks anything of its caller.
 // Each remainder is by a constant, which the compiler turns into multiplications; a number above 2 counts as field 2 until the last step of a
 // public operation answers that it names no field.
+#![tactic(auto)]
+
 ghost use Rattle.std.specs.Prelude.{◌≡◌, ◌-◌, ◌%◌};
 ghost use Rattle.definition.specs.Field.{Field, prime_of, field_of, power, binary_digits, in_field, sum, difference, product, power_of, power_turns_of, inverse_of};
 ghost use Rattle.field.specs.Answer.{element_of, powered_of, inversion_of, inverted_of};
@@ -59,7 +61,7 @@ pub fn add_product(field: u32, a: u32, b: u32, c: u32) -> u32
 }
 
 // A power, and the turns that its loop made.
-#[derive(Drop)]
+#[derive(Clone, Copy)]
 pub struct Powered {
     pub value: u32,
     pub turns: u32,
@@ -97,7 +99,7 @@ pub fn pow(field: u32, a: u32, e: u32) -> u32
 }
 
 // What an inversion answers: the inverse, or that there is none, which is so for 0 alone.
-#[derive(Drop)]
+#[derive(Clone, Copy)]
 pub enum Inversion {
     Found(u32),
     Nothing,
@@ -141,7 +143,7 @@ pub fn inv(field: u32, a: u32) -> Inversion
 }
 
 // What a public operation answers: an element, or that the number names no field.
-#[derive(Drop)]
+#[derive(Clone, Copy)]
 pub enum Element {
     Value(u32),
     NoField,
@@ -187,7 +189,7 @@ pub fn power(field: u32, a: u32, exponent: u32) -> Element
 }
 
 // What the public power with its turns answers: the element and the turns, or that the number names no field.
-#[derive(Drop)]
+#[derive(Clone, Copy)]
 pub enum PowerTurns {
     Value(u32, u32),
     NoField,
@@ -205,7 +207,7 @@ pub fn power_turns(field: u32, a: u32, exponent: u32) -> PowerTurns
 }
 
 // What the public inverse answers: a found value, that there is none, or that the number names no field.
-#[derive(Drop)]
+#[derive(Clone, Copy)]
 pub enum Inverted {
     Found(u32),
     Nothing,

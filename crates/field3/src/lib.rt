@@ -47,7 +47,7 @@ pub fn product(x: [u32; 4], y: [u32; 4]) -> [u32; 4]
 }
 
 // A power, and the turns that its loop made.
-#[derive(Drop)]
+#[derive(Clone, Copy)]
 pub struct PowerTurns {
     pub power: [u32; 4],
     pub turns: u32,

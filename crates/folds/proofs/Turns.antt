@@ -20,34 +20,34 @@ joined_by F half r y v w es ed ef eb eo = cc
 
 -- ---- one turn: the place i becomes the pair i and h + i, joined
 
-module _ {A : Type 0} (F : Field A) (half r : A) (inversePower : ℕ → A) (h : ℕ) (old : List A) where
+module _ {A : Type 0} (F : Field A) (half r : A) (inverse_power : ℕ → A) (h : ℕ) (old : List A) where
   open F use {𝟘}
 
   abbrev pub pairs : ℕ → A
-  pairs i = joined F half r (inversePower i) (get_or old i 𝟘) (get_or old (h + i) 𝟘)
+  pairs i = joined F half r (inverse_power i) (get_or old i 𝟘) (get_or old (h + i) 𝟘)
 
-  pub turned_pair : (i : ℕ) (new : List A) {y v : A} → i < h → h ≤ length old → FilledOver 𝟘 pairs old new i → y ≡ inversePower i →
+  pub turned_pair : (i : ℕ) (new : List A) {y v : A} → i < h → h ≤ length old → FilledOver 𝟘 pairs old new i → y ≡ inverse_power i →
       v ≡ joined F half r y (get_or new i 𝟘) (get_or new (h + i) 𝟘) → FilledOver 𝟘 pairs old (set new i v) (i + 1)
   turned_pair i new below room t ey ev =
       filled_next pairs old new i t (omega arith) (ev ∙ (λ x. joined F half r (ey x) (t.left i (omega arith) x) (t.left (h + i) (omega arith) x)))
 
 -- ---- the turns: what is left to fold has the value of the whole
 
-module _ {A : Type 0} (F : Field A) (half : A) (inversePower : ℕ → A) (whole : A) where
+module _ {A : Type 0} (F : Field A) (half : A) (inverse_power : ℕ → A) (whole : A) where
   open F use {𝟘}
 
   pub record Left (count e d : ℕ) (r : A) (values : List A) : Type 0 where
     pub log : ℕ
     pub two : count ≡ 2 ^ log
-    pub same : halving F half inversePower log e d r (λ m. get_or values m 𝟘) ≡ whole
+    pub same : halving F half inverse_power log e d r (λ m. get_or values m 𝟘) ≡ whole
 
   pub left_next : {count e d : ℕ} {r : A} {values values' : List A} {half' r' : A} → 1 < count → Left count e d r values → half' ≡ half →
-      ((m : ℕ) → m < count / 2 → get_or values' m 𝟘 ≡ joined F half' r (inversePower (e + m * d)) (get_or values m 𝟘) (get_or values (count / 2 + m) 𝟘)) →
+      ((m : ℕ) → m < count / 2 → get_or values' m 𝟘 ≡ joined F half' r (inverse_power (e + m * d)) (get_or values m 𝟘) (get_or values (count / 2 + m) 𝟘)) →
       r' ≡ F.◌⊗◌ r r → Left (count / 2) (2 * e) (2 * d) r' values'
   unfolding halving
   left_next {count} {e} {d} {r} {values} {values'} {half'} {r'} many given eh turned er = go given.log given.two given.same
     where
-      go : (a : ℕ) → count ≡ 2 ^ a → halving F half inversePower a e d r (λ m. get_or values m 𝟘) ≡ whole → Left (count / 2) (2 * e) (2 * d) r' values'
+      go : (a : ℕ) → count ≡ 2 ^ a → halving F half inverse_power a e d r (λ m. get_or values m 𝟘) ≡ whole → Left (count / 2) (2 * e) (2 * d) r' values'
       go zero two same = absurd (omega (arith, pow-zero 2))
       go (suc a) two same =
           let h : count / 2 ≡ 2 ^ a = omega (arith, pow-suc 2 a) in
@@ -55,10 +55,10 @@ module _ {A : Type 0} (F : Field A) (half : A) (inversePower : ℕ → A) (whole
             log = a;
             two = h;
             same =
-                ap (λ (s : A). halving F half inversePower a (2 * e) (2 * d) s (λ m. get_or values' m 𝟘)) er
-                ∙ halving_same F half inversePower a (2 * e) (2 * d) (F.◌⊗◌ r r) (λ m. get_or values' m 𝟘)
-                (λ m. joined F half r (inversePower (e + m * d)) (get_or values m 𝟘) (get_or values (2 ^ a + m) 𝟘))
-                (λ m l. turned m (omega arith) ∙ (λ i. joined F (eh i) r (inversePower (e + m * d)) (get_or values m 𝟘) (get_or values (h i + m) 𝟘)))
+                ap (λ (s : A). halving F half inverse_power a (2 * e) (2 * d) s (λ m. get_or values' m 𝟘)) er
+                ∙ halving_same F half inverse_power a (2 * e) (2 * d) (F.◌⊗◌ r r) (λ m. get_or values' m 𝟘)
+                (λ m. joined F half r (inverse_power (e + m * d)) (get_or values m 𝟘) (get_or values (2 ^ a + m) 𝟘))
+                (λ m l. turned m (omega arith) ∙ (λ i. joined F (eh i) r (inverse_power (e + m * d)) (get_or values m 𝟘) (get_or values (h i + m) 𝟘)))
                 ∙ same;
           }
 
@@ -66,6 +66,6 @@ module _ {A : Type 0} (F : Field A) (half : A) (inversePower : ℕ → A) (whole
   unfolding halving
   left_last {count} {e} {d} {r} {values} few given = go given.log given.two given.same
     where
-      go : (a : ℕ) → count ≡ 2 ^ a → halving F half inversePower a e d r (λ m. get_or values m 𝟘) ≡ whole → get_or values 0 𝟘 ≡ whole
+      go : (a : ℕ) → count ≡ 2 ^ a → halving F half inverse_power a e d r (λ m. get_or values m 𝟘) ≡ whole → get_or values 0 𝟘 ≡ whole
       go zero two same = same
       go (suc a) two same = absurd (omega (arith, pow-suc 2 a, pow_pos a))

@@ -24,8 +24,8 @@ use Rattle.list_laws.specs.Lists.{range_length}
 use Rattle.folds.specs.Halving.{halving}
 use Rattle.folds.specs.HalvingLaw.{halving_is}
 
-module _ {A : Type 0} (F : Field A) (L : FieldLaws F) (ω half : A) (inversePower : ℕ → A) (signs : minus_one F ≡ F.𝟙 → ⊥)
-    (halves : F.◌⊗◌ (F.◌⊕◌ F.𝟙 F.𝟙) half ≡ F.𝟙) (inverses : (n : ℕ) → F.◌⊗◌ (power F ω n) (inversePower n) ≡ F.𝟙) where
+module _ {A : Type 0} (F : Field A) (L : FieldLaws F) (ω half : A) (inverse_power : ℕ → A) (signs : minus_one F ≡ F.𝟙 → ⊥)
+    (halves : F.◌⊗◌ (F.◌⊕◌ F.𝟙 F.𝟙) half ≡ F.𝟙) (inverses : (n : ℕ) → F.◌⊗◌ (power F ω n) (inverse_power n) ≡ F.𝟙) where
   infixl 65 ◌⊖◌
   infixl 70 ◌⊗◌
   open F use {𝟘, 𝟙, ◌⊖◌, ◌⊗◌}
@@ -48,7 +48,7 @@ module _ {A : Type 0} (F : Field A) (L : FieldLaws F) (ω half : A) (inversePowe
     roots_apart = apart_range F L (λ m. power F ω (e + m * d)) 0 (2 ^ suc a)
         (λ b c u k. subst (λ (v : A). Differ F v (power F ω (e + b * d))) (sym (split (b + c)))
         (subst (λ (v : A). Differ F (power F ω e ⊗ power F (power F ω d) (b + c)) v) (sym (split b))
-        (multiples_differ (power F ω e) (inversePower e) _ _ (inverses e) (powers_differ F L signs a (power F ω d) b c full k (below b c u)))))
+        (multiples_differ (power F ω e) (inverse_power e) _ _ (inverses e) (powers_differ F L signs a (power F ω d) b c full k (below b c u)))))
       where
         below : (b c : ℕ) → b + c < 0 + 2 ^ suc a → c < 2 ^ a + 2 ^ a
         below b c u = omega (arith, pow-suc 2 a)
@@ -80,8 +80,8 @@ module _ {A : Type 0} (F : Field A) (L : FieldLaws F) (ω half : A) (inversePowe
         (interpolate_through F L (map sample (range 0 (2 ^ suc a)))
         (rw (map-map {B = Sample A} (λ p. p.point) sample (range 0 (2 ^ suc a))) (roots_apart a (1 + 2 ^ b.number * j) (2 ^ b.number * shift_count b) turn)))) m l))
 
-    pub fold_by_halves : halving F half inversePower (suc a) (1 + 2 ^ b.number * j) (2 ^ b.number * shift_count b) r (λ m. f (j + m * shift_count b)) ≡ fold_at F ω b f r j
+    pub fold_by_halves : halving F half inverse_power (suc a) (1 + 2 ^ b.number * j) (2 ^ b.number * shift_count b) r (λ m. f (j + m * shift_count b)) ≡ fold_at F ω b f r j
     fold_by_halves =
-        halving_is F L ω half inversePower halves inverses a (1 + 2 ^ b.number * j) (2 ^ b.number * shift_count b) r (λ m. f (j + m * shift_count b)) q turn
+        halving_is F L ω half inverse_power halves inverses a (1 + 2 ^ b.number * j) (2 ^ b.number * shift_count b) r (λ m. f (j + m * shift_count b)) q turn
         (le_of_eq (length_interpolate F (map sample (range 0 (2 ^ suc a))) ∙ length-map {B = Sample A} (range 0 (2 ^ suc a)) sample ∙ range_length 0 (2 ^ suc a))) through
         ∙ sym definition

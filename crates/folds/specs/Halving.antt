@@ -12,10 +12,10 @@ module _ {A : Type 0} (F : Field A) where
   unfoldable pub joined : A → A → A → A → A → A
   joined half r y v w = half ⊗ (v ⊕ w ⊕ r ⊗ y ⊗ (v ⊖ w))
 
-  -- 2^a values, value m at the power e + m·d of some ω, folded with r; inversePower n is 1/ω^n
+  -- 2^a values, value m at the power e + m·d of some ω, folded with r; inverse_power n is 1/ω^n
   unfoldable pub halving : A → (ℕ → A) → ℕ → ℕ → ℕ → A → (ℕ → A) → A
-  halving half inversePower zero e d r v = v 0
-  halving half inversePower (suc a) e d r v = halving half inversePower a (2 * e) (2 * d) (r ⊗ r) (λ m. joined half r (inversePower (e + m * d)) (v m) (v (2 ^ a + m)))
+  halving half inverse_power zero e d r v = v 0
+  halving half inverse_power (suc a) e d r v = halving half inverse_power a (2 * e) (2 * d) (r ⊗ r) (λ m. joined half r (inverse_power (e + m * d)) (v m) (v (2 ^ a + m)))
 
 -- how often a number can be halved, in at most `most` turns, before it is 1
 unfoldable pub halvings : ℕ → ℕ → ℕ

@@ -75,7 +75,7 @@ module _ {A : Type 0} (F : Field A) (L : FieldLaws F) where
   constant (c ∷ []) x r h = solve₃ F L (λ c x r. c :+ x :* :0 := c :+ r :* :0) tt c x r
   constant (c ∷ b ∷ cs) x r h = absurd (omega arith)
 
-  module _ (ω half : A) (inversePower : ℕ → A) (halves : (𝟙 ⊕ 𝟙) ⊗ half ≡ 𝟙) (inverses : (n : ℕ) → power F ω n ⊗ inversePower n ≡ 𝟙) where
+  module _ (ω half : A) (inverse_power : ℕ → A) (halves : (𝟙 ⊕ 𝟙) ⊗ half ≡ 𝟙) (inverses : (n : ℕ) → power F ω n ⊗ inverse_power n ≡ 𝟙) where
     -- the values E(x²) + x·O(x²) at x and E(x²) - x·O(x²) at -x, joined
     joined_is : (r x y v w e o : A) → x ⊗ y ≡ 𝟙 → reduce v ≡ e ⊕ x ⊗ o → reduce w ≡ e ⊕ (𝟘 ⊖ x) ⊗ o → joined F half r y v w ≡ e ⊕ r ⊗ o
     unfolding joined
@@ -103,7 +103,7 @@ module _ {A : Type 0} (F : Field A) (L : FieldLaws F) where
     -- one turn: from the values of q to those of E + r·O
     turn_is : (a e d : ℕ) (r : A) (v : ℕ → A) (q : List A) → power F ω (2 ^ a * d) ≡ minus_one F →
         ((m : ℕ) → m < 2 ^ suc a → reduce (v m) ≡ evaluate F q (power F ω (e + m * d))) →
-        (m : ℕ) → m < 2 ^ a → joined F half r (inversePower (e + m * d)) (v m) (v (2 ^ a + m)) ≡ evaluate F (halved r q) (power F ω (2 * e + m * (2 * d)))
+        (m : ℕ) → m < 2 ^ a → joined F half r (inverse_power (e + m * d)) (v m) (v (2 ^ a + m)) ≡ evaluate F (halved r q) (power F ω (2 * e + m * (2 * d)))
     turn_is a e d r v q turn values m l =
         let x : A = power F ω (e + m * d) in
         let z : A = power F ω (2 * e + m * (2 * d)) in
@@ -113,7 +113,7 @@ module _ {A : Type 0} (F : Field A) (L : FieldLaws F) where
         let there : reduce (v (2 ^ a + m)) ≡ evaluate F (evens q) z ⊕ (𝟘 ⊖ x) ⊗ evaluate F (odds q) z =
         values (2 ^ a + m) (omega (arith, pow-suc 2 a)) ∙ ap (evaluate F q) (opposite e d (2 ^ a) m turn) ∙ even_odd q (𝟘 ⊖ x)
         ∙ ap (λ (u : A). evaluate F (evens q) u ⊕ (𝟘 ⊖ x) ⊗ evaluate F (odds q) u) minus in
-        joined_is r x (inversePower (e + m * d)) (v m) (v (2 ^ a + m)) (evaluate F (evens q) z) (evaluate F (odds q) z) (inverses (e + m * d)) here there
+        joined_is r x (inverse_power (e + m * d)) (v m) (v (2 ^ a + m)) (evaluate F (evens q) z) (evaluate F (odds q) z) (inverses (e + m * d)) here there
         ∙ sym (halved_at q r z)
 
     -- the halves of q at r² make q at r
@@ -121,7 +121,7 @@ module _ {A : Type 0} (F : Field A) (L : FieldLaws F) where
     halved_whole q r = halved_at q r (r ⊗ r) ∙ sym (even_odd q r)
 
     pub halving_is : (a e d : ℕ) (r : A) (v : ℕ → A) (q : List A) → power F ω (2 ^ a * d) ≡ minus_one F → length q ≤ 2 ^ suc a →
-        ((m : ℕ) → m < 2 ^ suc a → reduce (v m) ≡ evaluate F q (power F ω (e + m * d))) → halving F half inversePower (suc a) e d r v ≡ evaluate F q r
+        ((m : ℕ) → m < 2 ^ suc a → reduce (v m) ≡ evaluate F q (power F ω (e + m * d))) → halving F half inverse_power (suc a) e d r v ≡ evaluate F q r
     unfolding halving
     halving_is zero e d r v q turn few values =
         turn_is zero e d r v q turn values 0 (pow_pos 0)
@@ -133,13 +133,13 @@ module _ {A : Type 0} (F : Field A) (L : FieldLaws F) where
         ∙ halved_whole q r
 
 -- the fold asks only for its 2^a values
-pub halving_same : {A : Type 0} (F : Field A) (half : A) (inversePower : ℕ → A) (a e d : ℕ) (r : A) (u v : ℕ → A) → ((m : ℕ) → m < 2 ^ a → u m ≡ v m) →
-    halving F half inversePower a e d r u ≡ halving F half inversePower a e d r v
+pub halving_same : {A : Type 0} (F : Field A) (half : A) (inverse_power : ℕ → A) (a e d : ℕ) (r : A) (u v : ℕ → A) → ((m : ℕ) → m < 2 ^ a → u m ≡ v m) →
+    halving F half inverse_power a e d r u ≡ halving F half inverse_power a e d r v
 unfolding halving
-halving_same F half inversePower zero e d r u v h = h 0 (pow_pos 0)
-halving_same F half inversePower (suc a) e d r u v h =
-    halving_same F half inversePower a (2 * e) (2 * d) (F.◌⊗◌ r r) _ _
-    (λ m l. ap₂ (joined F half r (inversePower (e + m * d))) (h m (omega (arith, pow-suc 2 a))) (h (2 ^ a + m) (omega (arith, pow-suc 2 a))))
+halving_same F half inverse_power zero e d r u v h = h 0 (pow_pos 0)
+halving_same F half inverse_power (suc a) e d r u v h =
+    halving_same F half inverse_power a (2 * e) (2 * d) (F.◌⊗◌ r r) _ _
+    (λ m l. ap₂ (joined F half r (inverse_power (e + m * d))) (h m (omega (arith, pow-suc 2 a))) (h (2 ^ a + m) (omega (arith, pow-suc 2 a))))
 
 halvings_of : (most a : ℕ) → a ≤ most → halvings most (2 ^ a) ≡ a
 unfolding halvings

@@ -12,7 +12,7 @@ ghost use Rattle.fractions.specs.Values.{Fits, Clear, ShiftPowers, root_in};
 
 // How the function of a level is worked out: its point m stands at scale·m in pw, the roots of a shift point have numbers that are `step` apart, and the first
 // `words` of the coefficients are in use. Before the first round there are no samples, no words, and the table's own values are the function's.
-#[derive(Drop)]
+#[derive(Clone, Copy)]
 pub struct Oracle {
     pub scale: usize,
     pub step: usize,

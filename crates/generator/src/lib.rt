@@ -1,15 +1,17 @@
 // The load's seed, its generator by value, and its draws below a limit.
+#![tactic(auto)]
+
 ghost use Rattle.std.specs.Prelude.{◌≡◌, ◌<◌, length, get_or};
 ghost use Rattle.definition.specs.Load.{step as step_of, draw_below, seed_of};
 ghost use Rattle.generator.specs.Draws.{draw_many};
 
-#[derive(Drop)]
+#[derive(Clone, Copy)]
 pub struct Generator {
     pub v: u32,
 }
 
 // What is drawn, and the generator as it then is.
-#[derive(Drop)]
+#[derive(Clone, Copy)]
 pub struct Draw {
     pub value: u32,
     pub next: Generator,

@@ -1,10 +1,14 @@
-// What the programs read: the bytes that a descriptor gives, where every read succeeds.
-ghost use Rattle.std.specs.Prelude.{◌≡◌, ◌≤◌, length, take};
-ghost use Rattle.input.specs.Count.{count_of};
+// What the programs read: the bytes that a reader gives, where every read succeeds.
+#![tactic(auto)]
 
-use libc::STDERR_FILENO;
+ghost use Rattle.std.specs.Prelude.{◌≡◌, ◌≤◌, length, take, OnOk, codes};
+ghost use Rattle.std.specs.Io.KnownBytes.{Appends};
+ghost use Rattle.input.specs.Count.{count_of, HoldsFront, ReadsFront};
 
-#[derive(Drop)]
+use std::io;
+use std::io::{Read, Write};
+
+#[derive(Clone, Copy)]
 pub enum Input {
     // so many bytes, at the front of the buffer: it is full, or the input has ended
     Bytes(usize),
@@ -13,17 +17,18 @@ pub enum Input {
 }
 
 // Reads until the buffer is full, the input ends or a read fails.
-pub fn fill(fd: i32, buffer: &mut [u8]) -> Input
+pub fn fill<R: Read>(reader: &mut R, buffer: &mut [u8]) -> Input
     ensures buffer_len_unchanged { length buffer.new ≡ length buffer.old }
     ensures result_in_bounds { count_of result ≤ length buffer.old }
+    ensures front { HoldsFront (R.remaining reader.old) result buffer.new }
+    ensures rest { ReadsFront (R.remaining reader.old) (R.remaining reader.new) result buffer.new }
 {
     let mut n: usize = 0;
     while n < buffer.len() {
-        let got = libc::read(fd, &mut buffer[n..]);
-        if got < 0 {
-            return Input::Failed;
-        }
-        let more = io::count(got, &buffer[n..]);
+        let more = match reader.read(&mut buffer[n..]) {
+            Ok(more) => more,
+            Err(_) => return Input::Failed,
+        };
         if more == 0 {
             return Input::Bytes(n);
         }
@@ -42,7 +47,9 @@ pub fn front(buffer: &[u8], n: usize) -> &[u8]
     &buffer[..n]
 }
 
-// Says on standard error that a read failed.
-pub fn not_read() {
-    io::write_all(STDERR_FILENO, b"not read\n");
+// Says that a read failed.
+pub fn not_read<W: Write>(to: &mut W) -> io::Result<()>
+    ensures { OnOk result (Appends (W.contents to.old) (W.contents to.new) (codes "not read\n")) }
+{
+    to.write_all(b"not read\n")
 }

@@ -42,7 +42,7 @@ fn share(field: u32, u: u32, values: &mut [u32], behind: &[u32])
 }
 
 // What inverting a list answers: all words are inverted, or one of them is 0 and has no inverse.
-#[derive(Drop)]
+#[derive(Clone, Copy)]
 pub enum Inverses {
     Found,
     Nothing,

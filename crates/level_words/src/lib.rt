@@ -12,7 +12,7 @@ use fractions::Oracle;
 
 // A place: the level's number, domain size and degree bound, and where its table and the words after its fold coin begin. It holds no element: the level's
 // fold coin is handed on beside it, and so are the reads so far.
-#[derive(Drop)]
+#[derive(Clone, Copy)]
 pub struct State {
     pub level: usize,
     pub size: usize,

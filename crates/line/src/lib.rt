@@ -1,4 +1,6 @@
 // A verdict, or a refusal, as a line of bytes. A line is made by value, byte after byte.
+#![tactic(auto)]
+
 ghost use Rattle.std.specs.Prelude.{◌≡◌, [], ◌∷◌, ◌++◌, ◌+◌, ◌≤◌, ◌<◌, length, take};
 ghost use Rattle.definition.specs.Line.{decimal, line_of, outcome_text, refusal_line};
 ghost use Rattle.definition.specs.Verdict.{refused};
@@ -8,7 +10,7 @@ ghost use Rattle.line.specs.Text.{Extends, Holds, text_of};
 use outcome::{Outcome, Verdict};
 
 // The first `length` bytes are the line's.
-#[derive(Drop)]
+#[derive(Clone, Copy)]
 pub struct Line {
     pub bytes: [u8; 64],
     pub length: usize,

@@ -9,7 +9,7 @@ use generator::Generator;
 use outcome::{Outcome, Verdict};
 
 // The verdict of a run, and the generator as it then is.
-#[derive(Drop)]
+#[derive(Clone, Copy)]
 pub struct Ran {
     pub verdict: Verdict,
     pub next: Generator,

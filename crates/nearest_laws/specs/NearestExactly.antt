@@ -15,7 +15,6 @@ use borrow.Author.Tests.{eq-eqb, le-ltb, leb-false, lt-leb, ltb-false}
 use Rattle.definition.specs.Domain.{domain, point}
 use Rattle.definition.specs.Field.{Element, Field, Spelling, elements_in, words_of}
 use Rattle.definition.specs.Layout.{Kind, limit, message}
-use Rattle.definition.specs.Lists.{range}
 use Rattle.nearest_definition.specs.Nearest.{all_elements, all_true, differing_points, entries_test, entry_range_test, found_test, near, nearest, nearest_size, nearest_tests, nearest_to, nearest_words, wrong_points}
 use Rattle.definition.specs.Polynomial.{evaluate}
 use Rattle.definition.specs.Prove.{Result, done, finish, output_test, refusal, sheet_length_test}

@@ -17,14 +17,14 @@ pub const NO_INVERSE: u32 = 101;
 pub const NO_WORD: u32 = 102;
 
 // An outcome: 0 for accepted, else the fault's number; and its place, 0 where accepted.
-#[derive(Drop)]
+#[derive(Clone, Copy)]
 pub struct Fault {
     pub number: u32,
     pub place: u64,
 }
 
 // A verdict: an outcome, and the count of reads.
-#[derive(Drop)]
+#[derive(Clone, Copy)]
 pub struct Judged {
     pub number: u32,
     pub place: u64,
@@ -32,21 +32,21 @@ pub struct Judged {
 }
 
 // An answer to an order: 0 where done, else the refusal's number; and the count, or the refusal's place.
-#[derive(Drop)]
+#[derive(Clone, Copy)]
 pub struct Answered {
     pub number: u32,
     pub value: u64,
 }
 
 // A word that may be there: 0 and the word, or why it is not, and 0.
-#[derive(Drop)]
+#[derive(Clone, Copy)]
 pub struct Shown {
     pub number: u32,
     pub word: u32,
 }
 
 // A power and the turns that its loop made, with 0; or why there are none, and twice 0.
-#[derive(Drop)]
+#[derive(Clone, Copy)]
 pub struct Raised {
     pub number: u32,
     pub power: u32,

@@ -12,7 +12,7 @@ use Rattle.definition.specs.Lists.{chunks, range}
 use Rattle.definition.specs.Sheet.{Sheet, Level}
 use Rattle.hashing.specs.Tree.{leaf_of, root_of}
 use Rattle.layouts.specs.Levels.{level_of, rounds_of}
-use Rattle.openings.specs.Openings.{beside_table, bytes_in, entry_words, height_of, leaves_of as leavesIn, swap_rest, table_root, table_words, words_in}
+use Rattle.openings.specs.Openings.{beside_table, bytes_in, entry_words, height_of, leaves_of as leaves_in, swap_rest, table_root, table_words, words_in}
 use Rattle.opening_laws.specs.Swaps.{rest_need}
 use Rattle.tree.specs.Nodes.{leaves_of}
 use Rattle.opening_build.specs.FrontWords.{round_words, round_long}
@@ -57,7 +57,7 @@ module _ (h : Sheet) where
     -- a round in plain numbers, and the later ones
     pub after_round : (w : List ℕ) (at : ℕ) {size beside width height : ℕ} → (level_of h (i + 1)).size ≡ 2 ^ (height_of h - (i + 1)) → size ≡ table_words h (level_of h (i + 1)) → beside ≡ beside_after i
         → width ≡ entry_words h → height ≡ height_of h - (i + 1) → front_after i (drop at w) ≡ round_words w at size beside width height ++ front_after (i + 1) (drop (at + (size + beside)) w)
-    unfolding round_words table_root leavesIn leaves_of bytes_in
+    unfolding round_words table_root leaves_in leaves_of bytes_in
     after_round w at {size} {beside} {width} {height} tall es eb ew eh =
         let v = drop at w in
         let t = table_words h (level_of h (i + 1)) in

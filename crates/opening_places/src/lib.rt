@@ -10,7 +10,7 @@ ghost use Rattle.openings.specs.Openings.{entry_words, opening_length};
 ghost use Rattle.opening_places.specs.LevelEnd.{LevelEnd, place_from, reached_by};
 
 // What a walk over a level comes to: whether its openings are those due, at which word the next one begins, and how many are left.
-#[derive(Drop)]
+#[derive(Clone, Copy)]
 pub struct Walk {
     pub fits: bool,
     pub from: usize,

@@ -11,7 +11,7 @@ use Rattle.hashing.specs.Tree.{leaf_of, path_of}
 use Rattle.hash_laws.specs.TreeLaws.{path_length}
 use Rattle.list_laws.specs.Lists.{part_length_lem}
 use Rattle.list_laws.specs.Overwriting.{overwrite, overwrite_join, overwrite_one, overwrite_store}
-use Rattle.openings.specs.Openings.{bytes_in, entry_words, height_of, leaves_of as leavesIn, opening_of, words_in}
+use Rattle.openings.specs.Openings.{bytes_in, entry_words, height_of, leaves_of as leaves_in, opening_of, words_in}
 use Rattle.opening_laws.specs.Paths.{nodes_length}
 use Rattle.tree.specs.Nodes.{leaves_of}
 
@@ -22,7 +22,7 @@ opening_words width height number table m =
 -- it is the opening of a level's point
 pub opening_is : (h : Sheet) (l : Level) (table : List ℕ) (m : ℕ) → l.size ≡ 2 ^ (height_of h - l.number)
     → opening_of h l table m ≡ opening_words (entry_words h) (height_of h - l.number) l.number table m
-unfolding opening_of opening_words leavesIn leaves_of bytes_in
+unfolding opening_of opening_words leaves_in leaves_of bytes_in
 opening_is h l table m e =
     ap (λ (n : ℕ). l.number ∷ m ∷ (take (entry_words h) (drop (entry_words h * m) table)
     ++ (flat_map words_in (path_of (height_of h - l.number) (map (λ x. leaf_of (flat_map bytes_of x)) (chunks n (entry_words h) table)) m) ++ replicate (8 * l.number) 0))) e

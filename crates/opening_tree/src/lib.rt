@@ -5,7 +5,7 @@ ghost use Rattle.hashing.specs.Tree.{path_of};
 ghost use Rattle.list_laws.specs.Overwriting.{overwrite};
 ghost use Rattle.openings.specs.Openings.{words_in};
 ghost use Rattle.tree.specs.Nodes.{leaves_of};
-ghost use Rattle.opening_tree.specs.Siblings.{sibling as siblingOf};
+ghost use Rattle.opening_tree.specs.Siblings.{sibling as sibling_of};
 ghost use Rattle.opening_tree.specs.OpeningAt.{opening_words};
 
 // Stores a hash as eight words from number `at` on.
@@ -23,7 +23,7 @@ pub fn store(words: &mut [u32], at: usize, hash: &[u8])
 // The number of a node's sibling.
 fn sibling(number: usize) -> usize
     requires { number < 9223372036854775807 }
-    ensures { result ≡ siblingOf number }
+    ensures { result ≡ sibling_of number }
 {
     if number % 2 == 0 {
         number + 1

@@ -6,13 +6,13 @@ use Rattle.definition.specs.Sheet.{edition1, sheet_of}
 use Rattle.definition.specs.Reading.{sheet_test}
 use Rattle.definition.specs.Deciding.{out_tests}
 use Rattle.definition.specs.WorkedTranscript.{definitions as base}
-use Rattle.hashing.specs.Sha256.{complement, shr, rotr, choose, majority, big_sigma0, big_sigma1, small_sigma0, small_sigma1, constants, big_bytes, zeros_due, padded, big_word, blocks_of as shaBlocks, initial, next_word, schedule, first_sum, second_sum, turn, turns, joined, compress, hash_blocks, digest_of, sha256}
+use Rattle.hashing.specs.Sha256.{complement, shr, rotr, choose, majority, big_sigma0, big_sigma1, small_sigma0, small_sigma1, constants, big_bytes, zeros_due, padded, big_word, blocks_of as sha_blocks, initial, next_word, schedule, first_sum, second_sum, turn, turns, joined, compress, hash_blocks, digest_of, sha256}
 use Rattle.hashing.specs.Tree.{leaf_of, node_of, root_of, path_of, parent_of, climb}
 use Rattle.openings.specs.Openings.{entry_words, any_word, log2, height_of, beside_table, swap_rest, swap_tables, rest_tables, tables_in, table_words, root_words, opening_layout, number_place, opening_kinds, opening_length, opening_count, opening_words_due, openings_in, place_in, entry_in, nodes_in, opening_blocks_test, opening_range_test, unused_nodes, stray_words, opening_fill_test, opening_body, reading_openings, reached, due_at, due_rest, due, opened_entry, opened_table, shut_body, opened_body, opened_transcript, first_other, places_test, same_words, bytes_in, words_in, reached_root, misses_root, paths_test, roots_in, opening_tests, decided_opened, deciding_openings, verify_openings, leaves_of, table_root, opening_of, opening_at, built_stream, build_openings, sheet_words}
 
 -- one name that unfolds all definitions
 unfoldable pub definitions : Unit {0}
-unfolding base flat_map complement shr rotr choose majority big_sigma0 big_sigma1 small_sigma0 small_sigma1 constants big_bytes zeros_due padded big_word shaBlocks initial next_word schedule first_sum second_sum turn turns joined compress hash_blocks digest_of sha256 leaf_of node_of root_of path_of parent_of climb entry_words any_word log2 height_of beside_table swap_rest swap_tables rest_tables tables_in table_words root_words opening_layout number_place opening_kinds opening_length opening_count opening_words_due openings_in place_in entry_in nodes_in opening_blocks_test opening_range_test unused_nodes stray_words opening_fill_test opening_body reading_openings reached due_at due_rest due opened_entry opened_table shut_body opened_body opened_transcript first_other places_test same_words bytes_in words_in reached_root misses_root paths_test roots_in opening_tests decided_opened deciding_openings verify_openings leaves_of table_root opening_of opening_at built_stream build_openings
+unfolding base flat_map complement shr rotr choose majority big_sigma0 big_sigma1 small_sigma0 small_sigma1 constants big_bytes zeros_due padded big_word sha_blocks initial next_word schedule first_sum second_sum turn turns joined compress hash_blocks digest_of sha256 leaf_of node_of root_of path_of parent_of climb entry_words any_word log2 height_of beside_table swap_rest swap_tables rest_tables tables_in table_words root_words opening_layout number_place opening_kinds opening_length opening_count opening_words_due openings_in place_in entry_in nodes_in opening_blocks_test opening_range_test unused_nodes stray_words opening_fill_test opening_body reading_openings reached due_at due_rest due opened_entry opened_table shut_body opened_body opened_transcript first_other places_test same_words bytes_in words_in reached_root misses_root paths_test roots_in opening_tests decided_opened deciding_openings verify_openings leaves_of table_root opening_of opening_at built_stream build_openings
 definitions = tt
 
 -- the verdict on a stream in a number of blocks, but for 17

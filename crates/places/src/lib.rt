@@ -1,4 +1,6 @@
 // How many different ones there are among some indices of a level. A few are compared in pairs; more are marked, in one pass over the indices.
+#![tactic(auto)]
+
 ghost use Rattle.std.specs.Prelude.{◌≡◌, ◌≤◌, ◌<◌, eqb, length, get_or, drop, replicate, set};
 ghost use Rattle.list_laws.specs.All.{All};
 ghost use Rattle.definition.specs.Lists.{different, member};

@@ -15,7 +15,7 @@ use Rattle.algebra.specs.RingLaws.{one_mul}
 module _ {A : Type 0} (F : Field A) (L : FieldLaws F) (reduced : (x : A) → L.reduce (reciprocal F x) ≡ reciprocal F x) where
   infixl 70 ◌⊗◌
   open F use {𝟘, 𝟙, ◌⊗◌, inverse}
-  open L use {reduce, mul_comm, mul_assoc, mul-one, mul-zero, mul_reduce, reduce_mul, one≢zero, mul_inverse, inverse_found}
+  open L use {reduce, mul_comm, mul_assoc, mul_one, mul-zero, mul_reduce, reduce_mul, one≢zero, mul_inverse, inverse_found}
 
   -- what has the product 1 with another element is not zero
   unit_not_zero : (x y : A) → x ⊗ y ≡ 𝟙 → reduce x ≡ 𝟘 → ⊥
@@ -26,7 +26,7 @@ module _ {A : Type 0} (F : Field A) (L : FieldLaws F) (reduced : (x : A) → L.r
   inverse_unique : (x y : A) → x ⊗ y ≡ 𝟙 → inverse x ≡ some (reduce y)
   inverse_unique x y e =
       inverse_found x (unit_not_zero x y e) ∙ ap {B = Option A} some (sym (
-      reduce y ≡⟨ sym (mul-one y) ⟩
+      reduce y ≡⟨ sym (mul_one y) ⟩
       y ⊗ 𝟙 ≡⟨ ap (λ (v : A). y ⊗ v) (sym (mul_inverse x (unit_not_zero x y e))) ⟩
       y ⊗ (x ⊗ reciprocal F x) ≡⟨ sym (mul_assoc y x (reciprocal F x)) ∙ ap (λ (v : A). v ⊗ reciprocal F x) (mul_comm y x ∙ e) ⟩
       𝟙 ⊗ reciprocal F x ≡⟨ one_mul F L (reciprocal F x) ∙ reduced x ⟩

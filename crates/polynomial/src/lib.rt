@@ -1,4 +1,6 @@
 // Polynomials over one of the fields, at a point, by their coefficients.
+#![tactic(auto)]
+
 ghost use Rattle.std.specs.Prelude.{◌≡◌};
 ghost use Rattle.definition.specs.Field.{field_of};
 ghost use Rattle.definition.specs.Polynomial.{evaluate, geometric};

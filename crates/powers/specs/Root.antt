@@ -1,6 +1,6 @@
 -- The root of unity of a field and a size, as the definition has it for a sheet, and what a stored table says. Assumes nothing.
-use Rattle.std.specs.Prelude.{ℕ, ◌+◌, ◌-◌, ◌/◌, ◌%◌, ◌^◌, ◌<◌, ◌≡◌, List, length, get_or}
-use Rattle.definition.specs.Field.{prime_of, generator_of, field_of, power}
+use Rattle.std.specs.Prelude.{ℕ, ◌-◌, ◌/◌, ◌%◌, ◌^◌, ◌≡◌, List, get_or}
+use Rattle.definition.specs.Field.{prime_of, generator_of}
 use Rattle.definition.specs.Sheet.{Edition, sheet_of, root_of_unity}
 use Rattle.algebra.specs.PowerBySquaring.{power_mod_is}
 

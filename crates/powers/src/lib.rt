@@ -1,4 +1,6 @@
 // The stored table of the powers of ω in field 2. The crate holds nothing else, since it is slow to check.
+#![tactic(auto)]
+
 ghost use Rattle.std.specs.Prelude.{◌≡◌};
 ghost use Rattle.powers.specs.Table.{stored_powers, every_nth};
 

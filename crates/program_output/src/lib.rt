@@ -51,7 +51,7 @@ pub fn read(e: Edition, bytes: &[u8]) -> Line
 }
 
 // What a program that writes a file leaves: so many bytes of the output lent to it go to standard output, and a line, or nothing, to standard error.
-#[derive(Drop)]
+#[derive(Clone, Copy)]
 pub struct Written {
     pub length: usize,
     pub error: Line,

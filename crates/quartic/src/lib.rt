@@ -1,5 +1,7 @@
 // Elements of field 3: a + bX + cX² + dX³ over p = 2013265921 with X⁴ = 11, four words each, a first. No function of the arithmetic asks anything of its
 // caller. A slice of words holds elements one after the other.
+#![tactic(auto)]
+
 ghost use Rattle.std.specs.Prelude.{◌≡◌, ◌*◌, ◌%◌, ◌≤◌, ◌<◌, length, get_or, set};
 ghost use Rattle.definition.specs.Field.{Field, field_of, embed, norm_first, norm_second, norm, quads};
 ghost use Rattle.spelling.specs.Field3.{field3, base};
@@ -9,7 +11,7 @@ ghost use Rattle.quartic.specs.Meaning.{quad_of, inverse_four};
 use field::Inversion;
 
 // An element by its four words.
-#[derive(Drop)]
+#[derive(Clone, Copy)]
 pub struct Four {
     pub a: u32,
     pub b: u32,
@@ -172,7 +174,7 @@ fn norm_second(x: Four) -> u32
 }
 
 // What an inversion answers: the inverse, or that there is none, which is so for 0 alone.
-#[derive(Drop)]
+#[derive(Clone, Copy)]
 pub enum FourInverse {
     Found(Four),
     Nothing,

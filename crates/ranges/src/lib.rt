@@ -3,6 +3,8 @@
 // The walk of refusal 5 counts two rounds beside the rounds 1 to M: round 0 is table 0 with its fold coin, round M + 1 is the final coefficients and
 // indices. Each is then a run of elements and a run of indices below one limit, and the functions before the walk give their numbers; the walk goes over the
 // elements' words. A list of coins alone has the same rounds with fewer elements, so that one walk serves the words of a stream and the coins of an order.
+#![tactic(auto)]
+
 ghost use Rattle.std.specs.Prelude.{◌≡◌, true, not, ◌+◌, ◌≤◌, ◌<◌, eqb, leb, length, get_or, drop};
 ghost use mathlib.Core.List.{map, zip_with};
 ghost use Rattle.definition.specs.Field.{prime_of};

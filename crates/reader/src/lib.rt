@@ -1,5 +1,7 @@
 // The reader over a file: the lent bytes and the next word's number. The functions over it are thin and leave the work to `step_at`, which
 // takes a plain slice; `step_in` stands above them, so that no caller has to hold a reader. No public function asks anything of its caller.
+#![tactic(auto)]
+
 ghost use Rattle.std.specs.Prelude.{◌≡◌, ◌*◌, ◌/◌, ◌≤◌, length, take};
 ghost use Rattle.definition.specs.Block.{stream_of};
 ghost use Rattle.outcome.specs.Meaning.{answer_of};
@@ -9,7 +11,7 @@ ghost use Rattle.reader.specs.Words.{value_of, word_in, number_after, sheet_word
 use outcome::Answer;
 
 // A word of the stream, or that it has ended.
-#[derive(Drop)]
+#[derive(Clone, Copy)]
 pub enum Word {
     Value(u32),
     End,
@@ -34,7 +36,7 @@ pub fn word_at(file: &[u8], n: usize) -> Word
 }
 
 // A word, and the number of the one after it; at the end the number stays.
-#[derive(Drop)]
+#[derive(Clone, Copy)]
 pub struct Step {
     pub word: Word,
     pub next: usize,
@@ -57,7 +59,7 @@ pub fn step_at(file: &[u8], n: usize) -> Step
     }
 }
 
-#[derive(Drop)]
+#[derive(Clone, Copy)]
 pub struct Reader<'a> {
     pub file: &'a [u8],
     pub next: usize,

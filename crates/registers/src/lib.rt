@@ -1,6 +1,6 @@
 // The device's state and its registers, by value, without the judge: what a write or a coin leaves, and what a read shows.
 ghost use Rattle.std.specs.Prelude.{◌≡◌, [], ◌∷◌, ◌<◌};
-ghost use Rattle.device_definition.specs.Device.{began as beganBy, busy_test, cleared as clearedBy, enabled as enabledBy, ended as endedWith, flagged as flaggedBy, fresh as freshDevice, is_busy, line as line_of, fault_number, fault_place, overwritten, read as read_of, status_in, took_byte, treated_one, write_tests};
+ghost use Rattle.device_definition.specs.Device.{began as began_by, busy_test, cleared as cleared_by, enabled as enabled_by, ended as ended_with, flagged as flagged_by, fresh as fresh_device, is_busy, line as line_of, fault_number, fault_place, overwritten, read as read_of, status_in, took_byte, treated_one, write_tests};
 ghost use Rattle.device_definition.specs.Device as definition;
 ghost use Rattle.definition.specs.Field.{spelling_of, words_of};
 ghost use Rattle.definition.specs.Verdict.{◌then◌};
@@ -19,7 +19,7 @@ pub const FOLDS: usize = 1152;
 pub const BUFFER: usize = 65536;
 
 // Neither running nor done, running, or done with an outcome.
-#[derive(Drop)]
+#[derive(Clone, Copy)]
 pub enum Phase {
     Idle,
     Busy,
@@ -27,7 +27,7 @@ pub enum Phase {
 }
 
 // The state between two calls: how many bytes were taken, how many coins were treated, and the words of the folds at them.
-#[derive(Drop)]
+#[derive(Clone, Copy)]
 pub struct Device {
     pub phase: Phase,
     pub enable: bool,
@@ -38,7 +38,7 @@ pub struct Device {
 }
 
 pub fn fresh() -> Device
-    ensures { device_of result ≡ freshDevice }
+    ensures { device_of result ≡ fresh_device }
 {
     Device {
         phase: Phase::Idle,
@@ -52,7 +52,7 @@ pub fn fresh() -> Device
 
 // A run begins: no coin is treated, and done is dropped.
 pub fn began(d: Device) -> Device
-    ensures { device_of result ≡ beganBy (device_of d) }
+    ensures { device_of result ≡ began_by (device_of d) }
 {
     Device {
         phase: Phase::Busy,
@@ -66,7 +66,7 @@ pub fn began(d: Device) -> Device
 
 // A run ends: done sets the flag.
 pub fn ended(d: Device, o: Outcome) -> Device
-    ensures { device_of result ≡ endedWith (device_of d) (outcome_of o) }
+    ensures { device_of result ≡ ended_with (device_of d) (outcome_of o) }
 {
     let folds = d.folds;
     Device {
@@ -117,7 +117,7 @@ pub fn treated_one(field: u32, d: Device, fold: Four) -> Device
 
 // Clear: no bytes, no run, neither done nor flag; enable stays.
 pub fn cleared(d: Device) -> Device
-    ensures { device_of result ≡ clearedBy (device_of d) }
+    ensures { device_of result ≡ cleared_by (device_of d) }
 {
     Device {
         phase: Phase::Idle,
@@ -131,7 +131,7 @@ pub fn cleared(d: Device) -> Device
 
 // Register 2 written: of the byte only bit 0 counts.
 pub fn enabled(d: Device, value: u8) -> Device
-    ensures { device_of result ≡ enabledBy value (device_of d) }
+    ensures { device_of result ≡ enabled_by value (device_of d) }
 {
     let phase = d.phase;
     let folds = d.folds;
@@ -147,7 +147,7 @@ pub fn enabled(d: Device, value: u8) -> Device
 
 // Register 3 written: a 1 in bit 0 clears the flag.
 pub fn flagged(d: Device, value: u8) -> Device
-    ensures { device_of result ≡ flaggedBy value (device_of d) }
+    ensures { device_of result ≡ flagged_by value (device_of d) }
 {
     let phase = d.phase;
     let folds = d.folds;

@@ -82,14 +82,14 @@ module _ {A : Type 0} (F : Field A) (L : FieldLaws F) (signs : minus_one F ≡ F
     unfolding fold_in
     fold_is j l =
         let half = half_of F in
-        let inversePower = inverse_power_in 𝟘 pw in
+        let inverse_power = inverse_power_in 𝟘 pw in
         let e = 1 + oracle.scale * j in
         let d = oracle.scale * oracle.step in
-        ap (λ (a : ℕ). halving F half inversePower a e d r (root_in F pw table ac vg oracle j)) (exponent fits)
-        ∙ halving_same F half inversePower (suc fits.log) e d r (root_in F pw table ac vg oracle j) (λ m. f (j + m * oracle.step))
+        ap (λ (a : ℕ). halving F half inverse_power a e d r (root_in F pw table ac vg oracle j)) (exponent fits)
+        ∙ halving_same F half inverse_power (suc fits.log) e d r (root_in F pw table ac vg oracle j) (λ m. f (j + m * oracle.step))
         (λ m h. s.values (j + m * oracle.step) (root_number fits l m (omega (arith, fits.two))))
-        ∙ (λ i. halving F half inversePower (suc fits.log) (1 + s.scale i * j) (s.scale i * s.step i) r (λ m. f (j + m * s.step i)))
-        ∙ fold_by_halves F L ω half inversePower signs (two_halves F L signs) (inverse_power_is F L s.powers (long l)) b f r j fits.log (sym s.fold ∙ fits.two) turn
+        ∙ (λ i. halving F half inverse_power (suc fits.log) (1 + s.scale i * j) (s.scale i * s.step i) r (λ m. f (j + m * s.step i)))
+        ∙ fold_by_halves F L ω half inverse_power signs (two_halves F L signs) (inverse_power_is F L s.powers (long l)) b f r j fits.log (sym s.fold ∙ fits.two) turn
 
     pub sample_is : (j : ℕ) → j < oracle.step → sample_in F pw table ac vg oracle k r j ≡ record { point = shift_point F ω b j; value = fold_at F ω b f r j }
     unfolding sample_in

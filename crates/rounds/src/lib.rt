@@ -44,7 +44,7 @@ pub fn fold_at(
 }
 
 // A sample: a point, and the value there.
-#[derive(Drop)]
+#[derive(Clone, Copy)]
 struct Point {
     x: Four,
     y: Four,

@@ -10,7 +10,7 @@ use edition::Edition;
 use generator::Generator;
 
 // The sheet, the coefficients and the coins, these at the front of places for those of any sheet, and how many they are; and the generator as it then is.
-#[derive(Drop)]
+#[derive(Clone, Copy)]
 pub struct Input {
     pub sheet: [u32; 12],
     pub coefficients: [u32; 2048],

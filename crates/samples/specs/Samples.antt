@@ -7,7 +7,7 @@ use Rattle.quartic.specs.Meaning.{quad_of}
 use Rattle.samples.specs.declared.FoundValue.{FoundValue}
 use Rattle.samples.specs.declared.FoundValue.TheVariants.{Value, Nothing}
 use Rattle.samples.specs.declared.FoundFour.{FoundFour}
-use Rattle.samples.specs.declared.FoundFour.TheVariants as foundFours
+use Rattle.samples.specs.declared.FoundFour.TheVariants as found_fours
 use Rattle.samples.specs.declared.Gathered.{Gathered}
 use Rattle.samples.specs.declared.Gathered.TheVariants.{Clash, From}
 
@@ -37,8 +37,8 @@ found_of (Value v) = some v
 
 -- the same of four words
 unfoldable pub found_four : FoundFour → Option (Quad ℕ)
-found_four foundFours.Nothing = none
-found_four (foundFours.Value v) = some (quad_of v)
+found_four found_fours.Nothing = none
+found_four (found_fours.Value v) = some (quad_of v)
 
 -- what an answer says of two lists: the samples that stand there from a number on
 unfoldable pub kept : {A : Type 0} → Gathered → List A → List A → Option (List (Sample A))

@@ -13,7 +13,7 @@ ghost use Rattle.samples.specs.Samples.{lookup, put, found_of, found_four, kept,
 use quartic::Four;
 
 // What is found at a point: a value, or nothing.
-#[derive(Drop)]
+#[derive(Clone, Copy)]
 enum FoundValue {
     Value(u32),
     Nothing,
@@ -35,7 +35,7 @@ fn find(xs: &[u32], ys: &[u32], k: usize, x: u32) -> FoundValue
 }
 
 // What gathering gives: two equal points have different values, or the samples from this number on have different points.
-#[derive(Drop)]
+#[derive(Clone, Copy)]
 pub enum Gathered {
     Clash,
     From(usize),
@@ -61,7 +61,7 @@ fn push_one(xs: &mut [u32], ys: &mut [u32], k: usize, x: u32, y: u32) -> Gathere
 }
 
 // What is found at a point: a value of four words, or nothing.
-#[derive(Drop)]
+#[derive(Clone, Copy)]
 enum FoundFour {
     Value(Four),
     Nothing,

@@ -13,7 +13,7 @@ use edition::Edition;
 use outcome::{Answer, Verdict};
 
 // The prover's answer, and the verdict on what it wrote.
-#[derive(Drop)]
+#[derive(Clone, Copy)]
 pub struct Checked {
     pub answer: Answer,
     pub verdict: Verdict,

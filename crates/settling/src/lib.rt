@@ -19,7 +19,7 @@ use samples::Gathered;
 const SAMPLES: usize = 200;
 
 // Nothing yet, or an outcome.
-#[derive(Drop)]
+#[derive(Clone, Copy)]
 pub enum Settled {
     Open,
     Ended(Outcome),

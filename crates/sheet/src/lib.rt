@@ -1,5 +1,7 @@
 // The sheet of either edition: the first of its words that breaks its rule.
 // Each rule is a function of its own. It reads only words whose rules held before, so that no power, shift or product is made of a word not yet accepted.
+#![tactic(auto)]
+
 ghost use Rattle.std.specs.Prelude.{◌≡◌, true, not, map, ◌+◌, ◌-◌, ◌≤◌, ◌<◌, length};
 ghost use Rattle.definition.specs.Field.{prime_of, spelling_of};
 ghost use Rattle.definition.specs.Lists.{first_of, range};

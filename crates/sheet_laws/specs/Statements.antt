@@ -52,7 +52,7 @@ pub missing_words_zero : (ed : Edition) (w : List ℕ) (n : ℕ) → sheet_test 
 missing_words_zero = SheetExactly.missing_words
 
 pub later_words_untested : (ed : Edition) (w : List ℕ) → sheet_test ed (take (sheet_length ed) w) ≡ sheet_test ed w
-later_words_untested = SheetExactly.later_words
+later_words_untested = SheetExactly.later_words_lem
 
 -- So verify refuses a file with 3 at place p exactly when its length and every block's check are right and word p of its stream is the first that breaks its rule;
 pub verify_refuses_3 : (ed : Edition) (file : List ℕ) (p : ℕ) → ((verify_in ed file).outcome ≡ refused 3 p)

@@ -1,7 +1,7 @@
 // The sheet of a run of the load, which is of edition 1, drawn word by word among the values that its rules permit.
 ghost use Rattle.std.specs.Prelude.{◌≡◌, ◌≤◌, ◌<◌, length, get_or, take, set};
 ghost use Rattle.layouts.specs.SheetByWord.{Kept};
-ghost use Rattle.definition.specs.Load.{candidates, permits as permitsIn, permitted as permittedIn, worked_sheet, draw_sheet};
+ghost use Rattle.definition.specs.Load.{candidates, permits as permits_in, permitted as permitted_in, worked_sheet, draw_sheet};
 
 use edition::Edition;
 use generator::Generator;
@@ -22,7 +22,7 @@ fn candidate(i: u32) -> u32
 // j fails exactly where word j is the first that is broken. The field is one of 0, 1 and 2.
 fn permits(w: &mut [u32], j: usize, x: u32) -> bool
     requires { (length w.old ≡ 12) × ((j < 12) × (Kept (take j w.old))) }
-    ensures value { result ≡ permitsIn (take j w.old) x }
+    ensures value { result ≡ permits_in (take j w.old) x }
     ensures w_after { w.new ≡ set w.old j x }
 {
     w[j] = x;
@@ -40,7 +40,7 @@ fn permits(w: &mut [u32], j: usize, x: u32) -> bool
 fn permitted(w: &mut [u32], j: usize, values: &mut [u32]) -> usize
     requires w_len { (length w.old ≡ 12) × ((j < 12) × (Kept (take j w.old))) }
     requires values_len { length values.old ≡ 56 }
-    ensures values_after { take result values.new ≡ permittedIn (take j w.old) }
+    ensures values_after { take result values.new ≡ permitted_in (take j w.old) }
     ensures upper_bound { (result ≤ 56) × (take j w.new ≡ take j w.old) }
 {
     let mut n = 0;

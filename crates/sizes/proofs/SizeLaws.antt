@@ -4,7 +4,7 @@ use native.Mathlib.Nat.{mul-suc, mul-zero, sub-zero}
 use native.Mathlib.Numerals.{add-one}
 use native.Mathlib.Omega.{arith}
 use mathlib.Core.List.{List}
-use mathlib.Core.Path.{◌≡◌, refl, sym, ap, subst, ◌∙◌}
+use mathlib.Core.Path.{◌≡◌, sym, ap, subst, ◌∙◌}
 use lib.Count.{ones}
 use lib.ListN.{length, get_or, take}
 use lib.Pow.{pow_pos}
@@ -13,7 +13,7 @@ use Rattle.layouts.specs.DueSizes.{words_most}
 use Rattle.layouts.specs.Lawful.{Lawful, lawful, rounds_word, times_word}
 use Rattle.layouts.specs.LayoutByRound.{coins_due_lem, starts_grow, words_due_lem}
 use Rattle.layouts.specs.LevelSizes.{quotient}
-use Rattle.layouts.specs.Levels.{coin_count, coins_before, level_of, round_start, round_count, rounds_of, words_for}
+use Rattle.layouts.specs.Levels.{coin_count, coins_before, level_of, round_start, round_count, rounds_of}
 use Rattle.layouts.specs.LevelsByNumber.{folded, undivided}
 use Rattle.layouts.specs.PlainSheet.{sheet_plain}
 use Rattle.layouts.specs.SheetLevels.{sized}

@@ -1,4 +1,6 @@
 // The sizes that an accepted sheet of either edition gives: the degree bounds level by level, and the number of words, blocks and coins due.
+#![tactic(auto)]
+
 ghost use Rattle.std.specs.Prelude.{◌≡◌, ◌+◌, ◌-◌, ◌^◌, ◌≤◌, ◌<◌, length, get_or};
 ghost use Rattle.std.specs.Int.Count.{ones};
 ghost use Rattle.definition.specs.Block.{block_count};

@@ -1,4 +1,6 @@
 // The blocks and words of a file: 512 bytes a block, of which 508 are 127 words and the last four a check word.
+#![tactic(auto)]
+
 ghost use Rattle.std.specs.Prelude.{◌≡◌, [], ◌++◌, ◌+◌, ◌*◌, ◌/◌, ◌≤◌, ◌<◌, min, length, get_or, take, drop};
 ghost use Rattle.definition.specs.Block.{file_blocks, block_count, bytes_of, file_of};
 ghost use Rattle.list_laws.specs.Overwriting.{overwrite};

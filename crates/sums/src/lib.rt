@@ -1,4 +1,6 @@
 // Sums of products, with one remainder at the end, and the powers that make of such sums the values of a polynomial at a point, or at the k roots of one.
+#![tactic(auto)]
+
 ghost use Rattle.std.specs.Prelude.{◌≡◌, ℕ, ◌+◌, ◌-◌, ◌*◌, ◌/◌, ◌%◌, ◌≤◌, ◌<◌, length, get_or};
 ghost use Rattle.definition.specs.Field.{prime_of, field_of, power};
 ghost use Rattle.definition.specs.Polynomial.{geometric};

@@ -3,7 +3,7 @@ ghost use Rattle.std.specs.Prelude.{◌≡◌, ◌+◌, ◌≤◌, ◌<◌, leng
 ghost use Rattle.definition.specs.Field.{Element, elements_in};
 ghost use Rattle.definition.specs.Sheet.{sheet_of};
 ghost use Rattle.device_definition.specs.Coinwise.{index_count};
-ghost use Rattle.device_definition.specs.Device.{treat as treatBy, treat_in};
+ghost use Rattle.device_definition.specs.Device.{treat as treat_by, treat_in};
 ghost use Rattle.layouts.specs.Levels.{words_for};
 ghost use Rattle.edition.specs.Meaning.{edition_of};
 ghost use Rattle.elements.specs.Meaning.{value_in};
@@ -114,7 +114,7 @@ fn treat_next(e: Edition, d: Device, w: &[u32], pw: &[u32]) -> Device
 // The next coin treated; where none is left nothing changes.
 pub fn treat(e: Edition, d: Device, w: &[u32], pw: &[u32]) -> Device
     requires { Tested (edition_of e) w.now pw.now }
-    ensures { device_of result ≡ treatBy (sheet_of (edition_of e) w.now).spelling (sheet_of (edition_of e) w.now) (transcript_of (edition_of e) w.now) (device_of d) }
+    ensures { device_of result ≡ treat_by (sheet_of (edition_of e) w.now).spelling (sheet_of (edition_of e) w.now) (transcript_of (edition_of e) w.now) (device_of d) }
 {
     if coins(w) <= d.treated {
         return d;

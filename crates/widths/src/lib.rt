@@ -1,4 +1,6 @@
 // How many words elements take: four each in field 3, one in every other field.
+#![tactic(auto)]
+
 ghost use Rattle.std.specs.Prelude.{◌≡◌, ◌*◌, ◌≤◌};
 ghost use Rattle.definition.specs.Field.{spelling_of, word_count};
 

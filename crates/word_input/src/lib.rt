@@ -1,4 +1,6 @@
 // Words from bytes, and what they are to the programs: sheet, coefficients and coins of an order. No public function asks anything of its caller.
+#![tactic(auto)]
+
 ghost use Rattle.std.specs.Prelude.{◌≡◌, ◌/◌, ◌≤◌, length, take, drop};
 ghost use Rattle.definition.specs.Sheet.{sheet_length};
 ghost use Rattle.edition.specs.Meaning.{edition_of};

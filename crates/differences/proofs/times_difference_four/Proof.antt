@@ -14,11 +14,11 @@ use Rattle.differences.proofs.times_difference_four.Statement.{statement}
 use Rattle.differences.proofs.times_difference_four.Tie as tie
 
 -- element i's point less point j, so many times
-abbrev timesAt : List ℕ → ℕ → List ℕ → ℕ → Quad ℕ
-timesAt xs j out i = field3.◌⊗◌ (field3.◌⊖◌ (get_or (quads xs) i field3.𝟘) (get_or (quads xs) j field3.𝟘)) (get_or (quads out) i field3.𝟘)
+abbrev times_at : List ℕ → ℕ → List ℕ → ℕ → Quad ℕ
+times_at xs j out i = field3.◌⊗◌ (field3.◌⊖◌ (get_or (quads xs) i field3.𝟘) (get_or (quads xs) j field3.𝟘)) (get_or (quads out) i field3.𝟘)
 
 abbrev invariant-loop : tie.invariant-loop
-invariant-loop xs j out₀ x i₀ out i = (i ≤ j) × ((length out ≡ length out₀) × FilledOver field3.𝟘 (timesAt xs j out₀) (quads out₀) (quads out) i)
+invariant-loop xs j out₀ x i₀ out i = (i ≤ j) × ((length out ≡ length out₀) × FilledOver field3.𝟘 (times_at xs j out₀) (quads out₀) (quads out) i)
 
 abbrev decreases-loop : tie.decreases-loop
 decreases-loop xs j out₀ x i₀ out i = j - i
@@ -29,7 +29,7 @@ get-requires c κs = omega arith
 loop-holds : tie.Need-loop-init invariant-loop decreases-loop
 loop-holds c =
     let a = c.before.before.before.args in
-    (omega arith, (refl, filled_first (timesAt a.xs.now a.j a.out.now) (quads a.out.now)))
+    (omega arith, (refl, filled_first (times_at a.xs.now a.j a.out.now) (quads a.out.now)))
 
 get-requires-2 : tie.Need-get-requires-2 invariant-loop decreases-loop
 get-requires-2 c κs = omega arith
@@ -60,7 +60,7 @@ loop-again c =
     let a = s.args in
     let n = l.invariant in
     let less = c.before.before.before.before.before.before.before.before.before.loop-test.true in
-    let f = timesAt a.xs.now a.j a.out.now in
+    let f = times_at a.xs.now a.j a.out.now in
     let inside : l.i < length (quads a.out.now) = omega (arith, less, s.requires) in
     let difference = c.before.before.before.before.before.before.before.sub.ensures ∙ ap₂ (λ (x y : Quad ℕ). field3.◌⊖◌ x y) c.before.before.before.before.before.before.before.before.get2.ensures c.before.before.before.before.before.before.before.before.before.before.before.get.ensures in
     let value = c.before.before.before.mul.ensures ∙ ap₂ (λ (x y : Quad ℕ). field3.◌⊗◌ x y) difference (c.before.before.before.before.before.get3.ensures ∙ n.1.1.left l.i (le_refl l.i)) in (
@@ -80,7 +80,7 @@ returns c =
     let l = c.before.loop in
     let a = c.before.before.before.before.before.args in
     let all : l.i ≡ a.j = omega arith in
-    subst (λ (m : ℕ). FilledOver field3.𝟘 (timesAt a.xs.now a.j a.out.now) (quads a.out.now) (quads l.out) m) all l.invariant.1.1
+    subst (λ (m : ℕ). FilledOver field3.𝟘 (times_at a.xs.now a.j a.out.now) (quads a.out.now) (quads l.out) m) all l.invariant.1.1
 
 pub times-difference-four-spec : {M : Type 1} → statement M
 times-difference-four-spec =

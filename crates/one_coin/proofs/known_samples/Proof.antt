@@ -20,8 +20,8 @@ use Rattle.one_coin.proofs.known_samples.Statement.{statement}
 use Rattle.one_coin.proofs.known_samples.Tie as tie
 
 -- the sample at index j, number i
-abbrev sampleAt : (field : ℕ) → List ℕ → ℕ → ℕ → List ℕ → ℕ → ℕ → Sample (ElementOf field)
-sampleAt field pw scale k known = known_sample (shift_in (field_at field).𝟘 (points_at field pw) scale k) (field_at field).𝟘 (elements_at field known)
+abbrev sample_at : (field : ℕ) → List ℕ → ℕ → ℕ → List ℕ → ℕ → ℕ → Sample (ElementOf field)
+sample_at field pw scale k known = known_sample (shift_in (field_at field).𝟘 (points_at field pw) scale k) (field_at field).𝟘 (elements_at field known)
 
 -- an index as it was read
 under : (pw : List ℕ) (scale : ℕ) {j j' : ℕ} → j ≡ j' → scale * j' < length pw → scale * j < length pw
@@ -34,7 +34,7 @@ invariant-loop field pw scale k shifts known outs replies px₀ py₀ from₀ i�
     × ((length (elements_at field px₀) ≤ from + (length shifts - i))
     × ((length px ≡ length px₀)
     × ((length py ≡ length py₀)
-    × (some (pair (drop from (elements_at field px)) (drop from (elements_at field py))) ≡ distinct_or_clash (field_at field) (numbered (sampleAt field pw scale k known) i (drop i shifts)))))))
+    × (some (pair (drop from (elements_at field px)) (drop from (elements_at field py))) ≡ distinct_or_clash (field_at field) (numbered (sample_at field pw scale k known) i (drop i shifts)))))))
 
 abbrev decreases-loop : tie.decreases-loop
 decreases-loop field pw scale k shifts known outs replies px₀ py₀ from₀ i₀ px py from i = i
@@ -46,7 +46,7 @@ loop-holds : tie.Need-loop-init invariant-loop decreases-loop
 loop-holds c =
     let a = c.before.before.before.before.before.before.before.before.before.args in
     let n = c.count.ensures in
-    (omega arith, (omega (arith, n), (omega (arith, n), (refl, (refl, shifts_end (field_at a.field) (sampleAt a.field a.pw.now a.scale a.k a.known.now) a.shifts.now (elements_at a.field a.px.now) (elements_at a.field a.py.now) c.count.result (sym n))))))
+    (omega arith, (omega (arith, n), (omega (arith, n), (refl, (refl, shifts_end (field_at a.field) (sample_at a.field a.pw.now a.scale a.k a.known.now) a.shifts.now (elements_at a.field a.px.now) (elements_at a.field a.py.now) c.count.result (sym n))))))
 
 sub-i : tie.Need-overflow-sub-i invariant-loop decreases-loop
 sub-i c = omega arith
@@ -101,7 +101,7 @@ returns : tie.Need-returns invariant-loop decreases-loop
 returns c =
     let a = c.before.before.before.before.before.before.before.before.before.before.before.before.before.before.before.before.before.before.before.before.before.before.before.before.before.args in
     let l = c.before.before.before.before.before.before.before.before.before.before.before.before.before.before.before.loop in
-    let S = sampleAt a.field a.pw.now a.scale a.k a.known.now in
+    let S = sample_at a.field a.pw.now a.scale a.k a.known.now in
     let s = known_sample_lem a.field a.pw.now a.scale a.k (c.before.before.before.before.before.before.before.number.ensures.1 a.field) c.before.before.before.before.before.before.before.before.before.before.before.shift-point.ensures.0 c.before.before.before.before.before.before.before.before.before.before.before.before.wide.ensures c.before.before.before.before.before.before.before.before.before.before.get.ensures in
     let t = shifts_turn (field_at a.field) S a.shifts.now (laws_at a.field) l.i c.before.before.before.before.before.before.before.before.before.before.before.before.before.before.loop-test.true l.invariant.0 l.invariant.1.1.1.1.1 s c.before.before.before.before.before.before.push.ensures.0 in
     (known_answer (shift_in (field_at a.field).𝟘 (points_at a.field a.pw.now) a.scale a.k) (field_at a.field).𝟘 (field_at a.field) (pair (elements_at a.field a.outs.now) (elements_at a.field a.replies.now)) a.shifts.now (elements_at a.field a.known.now) c.before.before.before.before.before.before.before.before.before.before.before.before.before.before.before.before.before.before.before.before.before.before.before.before.before.requires.1.1.0 (kept_none _ _ (shifts_clash (field_at a.field) S a.shifts.now (pair (elements_at a.field a.outs.now) (elements_at a.field a.replies.now)) (l.i - 1) (kept_clash _ _ c.enum_told.given.1 t))), tt)
@@ -128,7 +128,7 @@ loop-again c =
             u.auto.1.0 ∙ n.0,
             (
               u.auto.1.1.0 ∙ n.1.0,
-              kept_from (elements_at a.field u.new.1.0) (elements_at a.field u.new.1.1.0) f.1 (shifts_turn (field_at a.field) (sampleAt a.field a.pw.now a.scale a.k a.known.now) a.shifts.now (laws_at a.field) l.i h l.invariant.0 n.1.1 s u.ensures.0),
+              kept_from (elements_at a.field u.new.1.0) (elements_at a.field u.new.1.1.0) f.1 (shifts_turn (field_at a.field) (sample_at a.field a.pw.now a.scale a.k a.known.now) a.shifts.now (laws_at a.field) l.i h l.invariant.0 n.1.1 s u.ensures.0),
             ),
           ),
         ),
@@ -158,7 +158,7 @@ returns-2 c =
     let a = c.before.before.before.before.before.before.before.before.before.before.before.before.before.before.before.before.before.before.args in
     let l = c.before.before.before.before.before.before.before.before.loop in
     let all = c.before.before.before.before.push-all in
-    let S = sampleAt a.field a.pw.now a.scale a.k a.known.now in
+    let S = sample_at a.field a.pw.now a.scale a.k a.known.now in
     let z : l.i ≡ 0 = omega (arith, c.before.before.before.before.before.before.before.loop-test.false) in (
       known_answer (shift_in (field_at a.field).𝟘 (points_at a.field a.pw.now) a.scale a.k) (field_at a.field).𝟘 (field_at a.field) (pair (elements_at a.field a.outs.now) (elements_at a.field a.replies.now)) a.shifts.now (elements_at a.field a.known.now) c.before.before.before.before.before.before.before.before.before.before.before.before.before.before.before.before.before.before.requires.1.1.0 (all.ensures.0 (numbered S 0 a.shifts.now) (shifts_all (field_at a.field) S a.shifts.now l.i z l.invariant.1.1.1.1.1)),
       room_add (length a.shifts.now) (length (elements_at a.field a.outs.now)) all.result (omega (arith, l.invariant.1.1.0), l.invariant.1.0) all.ensures.1,

@@ -13,11 +13,11 @@ use Rattle.root_quotients.proofs.numerators_four.Statement.{statement}
 use Rattle.root_quotients.proofs.numerators_four.Tie as tie
 
 -- the numerator of value i
-abbrev numeratorAt : List ℕ → List ℕ → List ℕ → ℕ → Quad ℕ
-numeratorAt a g values i = field3.◌⊗◌ (field3.◌⊖◌ (get_or (quads values) i field3.𝟘) (get_or (quads a) i field3.𝟘)) (get_or (quads g) i field3.𝟘)
+abbrev numerator_at : List ℕ → List ℕ → List ℕ → ℕ → Quad ℕ
+numerator_at a g values i = field3.◌⊗◌ (field3.◌⊖◌ (get_or (quads values) i field3.𝟘) (get_or (quads a) i field3.𝟘)) (get_or (quads g) i field3.𝟘)
 
 abbrev invariant-loop : tie.invariant-loop
-invariant-loop a g values₀ n m₀ values m = (m ≤ n) × ((n ≡ length (quads values₀)) × ((length values ≡ length values₀) × FilledOver field3.𝟘 (numeratorAt a g values₀) (quads values₀) (quads values) m))
+invariant-loop a g values₀ n m₀ values m = (m ≤ n) × ((n ≡ length (quads values₀)) × ((length values ≡ length values₀) × FilledOver field3.𝟘 (numerator_at a g values₀) (quads values₀) (quads values) m))
 
 abbrev decreases-loop : tie.decreases-loop
 decreases-loop a g values₀ n m₀ values m = n - m
@@ -28,7 +28,7 @@ count-requires c κs = search rules
 loop-holds : tie.Need-loop-init invariant-loop decreases-loop
 loop-holds c =
     let a = c.before.before.before.before.before.args in
-    (omega arith, (c.count.ensures, (refl, filled_first (numeratorAt a.a.now a.g.now a.values.now) (quads a.values.now))))
+    (omega arith, (c.count.ensures, (refl, filled_first (numerator_at a.a.now a.g.now a.values.now) (quads a.values.now))))
 
 get-requires : tie.Need-get-requires invariant-loop decreases-loop
 get-requires c κs = omega (arith, c.before.loop-test.true, c.before.before.loop.invariant.1.0, c.before.before.loop.invariant.1.1.1.same)
@@ -61,7 +61,7 @@ loop-again c =
     let a = c.before.before.before.before.before.before.before.before.before.before.before.before.before.before.before.before.before.args in
     let n = l.invariant in
     let less = c.before.before.before.before.before.before.before.before.before.before.loop-test.true in
-    let f = numeratorAt a.a.now a.g.now a.values.now in
+    let f = numerator_at a.a.now a.g.now a.values.now in
     let inside : l.m < length (quads a.values.now) = omega (arith, less, n.1.0) in
     let difference = c.before.before.before.before.before.before.sub.ensures ∙ ap₂ (λ (x y : Quad ℕ). field3.◌⊖◌ x y) (c.before.before.before.before.before.before.before.before.get.ensures ∙ n.1.1.1.left l.m (le_refl l.m)) c.before.before.before.before.before.before.before.get2.ensures in
     let value = c.before.before.before.mul.ensures ∙ ap₂ (λ (x y : Quad ℕ). field3.◌⊗◌ x y) difference c.before.before.before.before.get3.ensures in (
@@ -84,7 +84,7 @@ returns c =
     let l = c.before.loop in
     let a = c.before.before.before.before.before.before.before.args in
     let all : l.m ≡ length (quads a.values.now) = omega (arith, l.invariant.0, l.invariant.1.0) in
-    subst (λ (e : ℕ). FilledOver field3.𝟘 (numeratorAt a.a.now a.g.now a.values.now) (quads a.values.now) (quads l.values) e) all l.invariant.1.1.1
+    subst (λ (e : ℕ). FilledOver field3.𝟘 (numerator_at a.a.now a.g.now a.values.now) (quads a.values.now) (quads l.values) e) all l.invariant.1.1.1
 
 pub numerators-four-spec : {M : Type 1} → statement M
 numerators-four-spec =

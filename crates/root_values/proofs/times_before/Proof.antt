@@ -13,11 +13,11 @@ use Rattle.root_values.proofs.times_before.Statement.{statement}
 use Rattle.root_values.proofs.times_before.Tie as tie
 
 -- numerator i times the denominators before its own
-abbrev timesAt : ℕ → List ℕ → List ℕ → ℕ → ℕ
-timesAt field bottoms tops i = (field_of field).◌⊗◌ (get_or tops i 0) (product_before (field_of field) bottoms i)
+abbrev times_at : ℕ → List ℕ → List ℕ → ℕ → ℕ
+times_at field bottoms tops i = (field_of field).◌⊗◌ (get_or tops i 0) (product_before (field_of field) bottoms i)
 
 abbrev invariant-loop : tie.invariant-loop
-invariant-loop field bottoms tops₀ all₀ m₀ tops all m = (m ≤ length tops₀) × (Filled (timesAt field bottoms tops₀) tops₀ tops m × (all ≡ product_before (field_of field) bottoms m))
+invariant-loop field bottoms tops₀ all₀ m₀ tops all m = (m ≤ length tops₀) × (Filled (times_at field bottoms tops₀) tops₀ tops m × (all ≡ product_before (field_of field) bottoms m))
 
 abbrev decreases-loop : tie.decreases-loop
 decreases-loop field bottoms tops₀ all₀ m₀ tops all m = length tops₀ - m
@@ -26,7 +26,7 @@ loop-holds : tie.Need-loop-init invariant-loop decreases-loop
 unfolding field_of prime_field
 loop-holds c =
     let a = c.before.before.args in
-    (omega arith, (filled_first (timesAt a.field a.bottoms.now a.tops.now) a.tops.now, before_first (field_of a.field) a.bottoms.now))
+    (omega arith, (filled_first (times_at a.field a.bottoms.now a.tops.now) a.tops.now, before_first (field_of a.field) a.bottoms.now))
 
 mul-mul : tie.Need-overflow-mul-mul invariant-loop decreases-loop
 mul-mul c = omega arith
@@ -65,7 +65,7 @@ loop-again c =
     let a = c.before.before.before.before.before.before.before.before.args in
     let n = l.invariant.1 in
     let F = field_of a.field in
-    let f = timesAt a.field a.bottoms.now a.tops.now in (
+    let f = times_at a.field a.bottoms.now a.tops.now in (
       omega (arith, n.0.same, c.before.before.before.before.loop-test.true),
       (
         filled_next f a.tops.now l.tops l.m n.0 (omega (arith, n.0.same, c.before.before.before.before.loop-test.true)) (times_turn F f a.tops.now l.tops a.bottoms.now l.m n.0 n.1 c.before.before.mul.ensures),
@@ -81,7 +81,7 @@ returns c =
     let l = c.before.loop in
     let a = c.before.before.before.before.args in
     let all : l.m ≡ length a.tops.now = omega (arith, l.invariant.0, l.invariant.1.0.same, c.loop-test.false) in
-    subst (λ (n : ℕ). Filled (timesAt a.field a.bottoms.now a.tops.now) a.tops.now l.tops n × (l.all ≡ product_before (field_of a.field) a.bottoms.now n)) all l.invariant.1
+    subst (λ (n : ℕ). Filled (times_at a.field a.bottoms.now a.tops.now) a.tops.now l.tops n × (l.all ≡ product_before (field_of a.field) a.bottoms.now n)) all l.invariant.1
 
 pub times-before-spec : {M : Type 1} → statement M
 times-before-spec =

@@ -16,14 +16,14 @@ use Rattle.root_values.proofs.times_before_four.Statement.{statement}
 use Rattle.root_values.proofs.times_before_four.Tie as tie
 
 -- numerator i times the denominators before its own
-abbrev timesAt : List ℕ → List ℕ → ℕ → Quad ℕ
-timesAt bottoms tops i = field3.◌⊗◌ (get_or (quads tops) i field3.𝟘) (product_before field3 (quads bottoms) i)
+abbrev times_at : List ℕ → List ℕ → ℕ → Quad ℕ
+times_at bottoms tops i = field3.◌⊗◌ (get_or (quads tops) i field3.𝟘) (product_before field3 (quads bottoms) i)
 
 abbrev invariant-loop : tie.invariant-loop
 invariant-loop bottoms tops₀ n all₀ m₀ tops all m =
     (m ≤ n)
     × ((n ≡ length (quads tops₀))
-    × ((length tops ≡ length tops₀) × (FilledOver field3.𝟘 (timesAt bottoms tops₀) (quads tops₀) (quads tops) m × (quad_of all ≡ product_before field3 (quads bottoms) m))))
+    × ((length tops ≡ length tops₀) × (FilledOver field3.𝟘 (times_at bottoms tops₀) (quads tops₀) (quads tops) m × (quad_of all ≡ product_before field3 (quads bottoms) m))))
 
 abbrev decreases-loop : tie.decreases-loop
 decreases-loop bottoms tops₀ n all₀ m₀ tops all m = n - m
@@ -35,7 +35,7 @@ loop-holds : tie.Need-loop-init invariant-loop decreases-loop
 unfolding quartic embed prime_field
 loop-holds c =
     let a = c.before.before.before.before.args in
-    (omega arith, (c.count.ensures, (refl, (filled_first (timesAt a.bottoms.now a.tops.now) (quads a.tops.now), before_first field3 (quads a.bottoms.now)))))
+    (omega arith, (c.count.ensures, (refl, (filled_first (times_at a.bottoms.now a.tops.now) (quads a.tops.now), before_first field3 (quads a.bottoms.now)))))
 
 get-requires : tie.Need-get-requires invariant-loop decreases-loop
 get-requires c κs = let n = c.before.before.before.loop.invariant in omega (arith, c.before.before.loop-test.true, n.1.0, n.1.1.1.0.same)
@@ -65,7 +65,7 @@ loop-again c =
     let n = l.invariant in
     let p = c.before.before.before.before.put in
     let less = c.before.before.before.before.before.before.before.before.before.loop-test.true in
-    let f = timesAt a.bottoms.now a.tops.now in
+    let f = times_at a.bottoms.now a.tops.now in
     let old = quads a.tops.now in
     let inside : l.m < length old = omega (arith, less, n.1.0) in
     let value = c.before.before.before.before.before.mul.ensures ∙ (λ j. field3.◌⊗◌ (c.before.before.before.before.before.before.get.ensures j) (quad_of l.all)) in (
@@ -91,7 +91,7 @@ returns c =
     let l = c.before.loop in
     let a = c.before.before.before.before.before.before.args in
     let all : l.m ≡ length (quads a.tops.now) = omega (arith, l.invariant.0, l.invariant.1.0, c.loop-test.false) in
-    subst (λ (n : ℕ). FilledOver field3.𝟘 (timesAt a.bottoms.now a.tops.now) (quads a.tops.now) (quads l.tops) n × (quad_of l.all ≡ product_before field3 (quads a.bottoms.now) n)) all l.invariant.1.1.1
+    subst (λ (n : ℕ). FilledOver field3.𝟘 (times_at a.bottoms.now a.tops.now) (quads a.tops.now) (quads l.tops) n × (quad_of l.all ≡ product_before field3 (quads a.bottoms.now) n)) all l.invariant.1.1.1
 
 pub times-before-four-spec : {M : Type 1} → statement M
 times-before-four-spec =

@@ -21,8 +21,8 @@ use Rattle.rounds.proofs.gather_by_roots.Statement.{statement}
 use Rattle.rounds.proofs.gather_by_roots.Tie as tie
 
 -- the sample at index j, number i
-abbrev sampleAt : (field : ℕ) → List ℕ → List ℕ → Oracle → ℕ → Four → ℕ → ℕ → Sample (ElementOf field)
-sampleAt field pw roots oracle k r = sample_by (field_at field) (points_at field pw) (elements_at field roots) oracle k (value_at field r)
+abbrev sample_at : (field : ℕ) → List ℕ → List ℕ → Oracle → ℕ → Four → ℕ → ℕ → Sample (ElementOf field)
+sample_at field pw roots oracle k r = sample_by (field_at field) (points_at field pw) (elements_at field roots) oracle k (value_at field r)
 
 abbrev invariant-loop : tie.invariant-loop
 invariant-loop field pw roots oracle k r shifts outs replies values₀ px₀ py₀ from₀ i₀ values px py from i =
@@ -31,7 +31,7 @@ invariant-loop field pw roots oracle k r shifts outs replies values₀ px₀ py�
     × ((length (elements_at field px₀) ≤ from + (length shifts - i))
     × ((length px ≡ length px₀)
     × ((length py ≡ length py₀)
-    × ((some (pair (drop from (elements_at field px)) (drop from (elements_at field py))) ≡ distinct_or_clash (field_at field) (numbered (sampleAt field pw roots oracle k r) i (drop i shifts)))
+    × ((some (pair (drop from (elements_at field px)) (drop from (elements_at field py))) ≡ distinct_or_clash (field_at field) (numbered (sample_at field pw roots oracle k r) i (drop i shifts)))
     × (length values ≡ length values₀))))))
 
 abbrev decreases-loop : tie.decreases-loop
@@ -44,7 +44,7 @@ loop-holds : tie.Need-loop-init invariant-loop decreases-loop
 loop-holds c =
     let a = c.before.before.before.before.before.before.before.before.before.before.args in
     let n = c.count.ensures in
-    (omega arith, (omega (arith, n), (omega (arith, n), (refl, (refl, (shifts_end (field_at a.field) (sampleAt a.field a.pw.now a.roots.now a.oracle a.k a.r) a.shifts.now (elements_at a.field a.px.now) (elements_at a.field a.py.now) c.count.result (sym n), refl))))))
+    (omega arith, (omega (arith, n), (omega (arith, n), (refl, (refl, (shifts_end (field_at a.field) (sample_at a.field a.pw.now a.roots.now a.oracle a.k a.r) a.shifts.now (elements_at a.field a.px.now) (elements_at a.field a.py.now) c.count.result (sym n), refl))))))
 
 sub-i : tie.Need-overflow-sub-i invariant-loop decreases-loop
 sub-i c = omega arith
@@ -86,8 +86,8 @@ returns : tie.Need-returns invariant-loop decreases-loop
 returns c =
     let a = c.before.before.before.before.before.before.before.before.before.before.before.before.before.before.before.before.before.before.before.before.before.before.before.before.before.args in
     let l = c.before.before.before.before.before.before.before.before.before.before.before.before.before.before.loop in
-    let t = shifts_turn (field_at a.field) (sampleAt a.field a.pw.now a.roots.now a.oracle a.k a.r) a.shifts.now (laws_at a.field) l.i c.before.before.before.before.before.before.before.before.before.before.before.before.before.loop-test.true l.invariant.0 l.invariant.1.1.1.1.1.0 c.before.before.before.before.before.before.before.before.before.before.before.sample-at.ensures c.before.before.before.before.before.before.push.ensures.0 in
-    (kept_none _ _ (shifts_clash (field_at a.field) (sampleAt a.field a.pw.now a.roots.now a.oracle a.k a.r) a.shifts.now (pair (elements_at a.field a.outs.now) (elements_at a.field a.replies.now)) (l.i - 1) (kept_clash _ _ c.enum_told.given.1 t)), tt)
+    let t = shifts_turn (field_at a.field) (sample_at a.field a.pw.now a.roots.now a.oracle a.k a.r) a.shifts.now (laws_at a.field) l.i c.before.before.before.before.before.before.before.before.before.before.before.before.before.loop-test.true l.invariant.0 l.invariant.1.1.1.1.1.0 c.before.before.before.before.before.before.before.before.before.before.before.sample-at.ensures c.before.before.before.before.before.before.push.ensures.0 in
+    (kept_none _ _ (shifts_clash (field_at a.field) (sample_at a.field a.pw.now a.roots.now a.oracle a.k a.r) a.shifts.now (pair (elements_at a.field a.outs.now) (elements_at a.field a.replies.now)) (l.i - 1) (kept_clash _ _ c.enum_told.given.1 t)), tt)
 
 loop-less : tie.Need-loop-smaller invariant-loop decreases-loop
 loop-less c = omega (arith, c.before.before.before.before.before.before.before.before.before.before.before.before.before.before.loop-test.true)
@@ -111,7 +111,7 @@ loop-again c =
             (
               u.auto.1.1.0 ∙ n.1.0,
               (
-                kept_from (elements_at a.field u.new.1.0) (elements_at a.field u.new.1.1.0) f.1 (shifts_turn (field_at a.field) (sampleAt a.field a.pw.now a.roots.now a.oracle a.k a.r) a.shifts.now (laws_at a.field) l.i h l.invariant.0 n.1.1.0 c.before.before.before.before.before.before.before.before.before.before.before.before.sample-at.ensures u.ensures.0),
+                kept_from (elements_at a.field u.new.1.0) (elements_at a.field u.new.1.1.0) f.1 (shifts_turn (field_at a.field) (sample_at a.field a.pw.now a.roots.now a.oracle a.k a.r) a.shifts.now (laws_at a.field) l.i h l.invariant.0 n.1.1.0 c.before.before.before.before.before.before.before.before.before.before.before.before.sample-at.ensures u.ensures.0),
                 c.before.before.before.before.before.before.before.before.before.before.before.before.sample-at.auto.1.1.1.1.1.1.1.1.0 ∙ n.1.1.1,
               ),
             ),
@@ -147,7 +147,7 @@ returns-2 c =
     let l = c.before.before.before.before.before.before.before.before.loop in
     let all = c.before.before.before.before.push-all in
     let z : l.i ≡ 0 = omega (arith, c.before.before.before.before.before.before.before.loop-test.false) in (
-      all.ensures.0 (numbered (sampleAt a.field a.pw.now a.roots.now a.oracle a.k a.r) 0 a.shifts.now) (shifts_all (field_at a.field) (sampleAt a.field a.pw.now a.roots.now a.oracle a.k a.r) a.shifts.now l.i z l.invariant.1.1.1.1.1.0),
+      all.ensures.0 (numbered (sample_at a.field a.pw.now a.roots.now a.oracle a.k a.r) 0 a.shifts.now) (shifts_all (field_at a.field) (sample_at a.field a.pw.now a.roots.now a.oracle a.k a.r) a.shifts.now l.i z l.invariant.1.1.1.1.1.0),
       room_add (length a.shifts.now) (length (elements_at a.field a.outs.now)) all.result (omega (arith, l.invariant.1.1.0), l.invariant.1.0) all.ensures.1,
     )
 
