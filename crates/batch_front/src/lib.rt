@@ -1,5 +1,7 @@
 // The words of a batch's stream in front of fold coin 0: the sheet w, the number of tables, the bounds, the tables, and r. Each function is lent exactly the places of
 // the words that it writes, so that its promise is one equation. A batch passes refusals 3 and 15, and f has the coefficients of all tables, as many as the bounds say.
+#![tactic(auto)]
+
 ghost use Rattle.std.specs.Prelude.{◌≡◌, ◌∷◌, ◌++◌, ◌+◌, ◌*◌, ◌≤◌, length, take};
 ghost use Rattle.definition.specs.Field.{elements_in};
 ghost use Rattle.definition.specs.Prover.{table_words};

@@ -1,5 +1,7 @@
 // The tests that the prover of batches makes of an order before it writes anything: refusals 3, 5, 7, 10, 11, 14 and 15, up to the first that fails. An order is a
 // sheet w of edition 1, bounds, the coefficients f of all tables, coins, of which r is the first, and an output, of which only its size counts here.
+#![tactic(auto)]
+
 ghost use Rattle.std.specs.Prelude.{◌≡◌, ℕ, ◌+◌, ◌≤◌, length, replicate};
 ghost use mathlib.Core.List.{List, ◌++◌, zip_with};
 ghost use Rattle.definition.specs.Layout.{coin_kinds, layout, message};

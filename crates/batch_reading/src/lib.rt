@@ -1,4 +1,6 @@
 // Reading of a batch: refusals 1 2 3 15 4 5 6 of a file, and its plain stream, whose table 0 is the first function's values.
+#![tactic(auto)]
+
 ghost use Rattle.std.specs.Prelude.{◌≡◌, List, ◌++◌, map, ℕ, ◌+◌, ◌-◌, ◌*◌, ◌/◌, ◌≤◌, min, leb, length, get_or, take, drop};
 ghost use Rattle.definition.specs.Field.{prime_of, spelling_of, word_count, words_of};
 ghost use Rattle.definition.specs.Layout.{words_due};

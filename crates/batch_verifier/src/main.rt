@@ -1,6 +1,6 @@
 // The program `check-batch`: judges a batch on standard input and prints the verdict.
-use libc::STDIN_FILENO;
+#![tactic(auto)]
 
-fn main() {
-    report::check_batch(STDIN_FILENO);
+fn main(rt: HostRuntime) {
+    report::check_batch(&mut rt.stdin(), &mut rt.stdout(), &mut rt.stderr());
 }

@@ -1,4 +1,6 @@
 // Where a polynomial differs from a table, and the report of it: the coefficients, the count and the numbers, if the points are few enough. In either spelling.
+#![tactic(auto)]
+
 ghost use Rattle.std.specs.Prelude.{◌≡◌, ◌∷◌, ◌++◌, ◌+◌, ◌-◌, ◌/◌, ◌≤◌, ◌<◌, length, get_or, drop};
 ghost use Rattle.definition.specs.Field.{Field};
 ghost use Rattle.outcome.specs.Meaning.{answer_of};

@@ -1,5 +1,7 @@
 // The combination of a batch by one coin r: of the values of its tables at the points of domain 0, and of the coefficients of its polynomials. Both go from
 // the last part to the first: what is there is multiplied by r^(1+e), and the part is added, times 1 + rX + .. + (rX)^e, where e is d less the part's bound.
+#![tactic(auto)]
+
 ghost use Rattle.std.specs.Prelude.{◌≡◌, map, suc, ◌+◌, ◌*◌, ◌≤◌, ◌<◌, length, get_or};
 ghost use Rattle.definition.specs.Field.{Field, number_in, power, spelling_of};
 ghost use Rattle.definition.specs.Lists.{chunks, range};

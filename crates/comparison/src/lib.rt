@@ -1,6 +1,8 @@
 // The final comparison: of the final polynomial with the folds at the shift points of the final indices.
 //
 // The caller lends the words, as for the samples of a round.
+#![tactic(auto)]
+
 ghost use Rattle.std.specs.Prelude.{◌≡◌, ◌+◌, ◌*◌, ◌≤◌, ◌<◌, length};
 ghost use Rattle.definition.specs.Field.{Field, embed, field_of, quads};
 ghost use Rattle.definition.specs.Lists.{first_true};

@@ -1,5 +1,7 @@
 // The converter: a file of one edition, of any length and content, becomes a file of the other at the front of the output, or is refused with number and place and
 // no byte is written. The words after the sheet stay where they were read, and the sheet is laid before them.
+#![tactic(auto)]
+
 ghost use Rattle.std.specs.Prelude.{◌≡◌, ◌++◌, ◌+◌, ◌*◌, ◌/◌, ◌≤◌, min, length, take, drop};
 ghost use Rattle.definition.specs.Block.{block_count, file_of, stream_of};
 ghost use Rattle.definition.specs.Convert.{backward as backward_of, folds_test, forward as forward_of, to_edition1, to_edition2};

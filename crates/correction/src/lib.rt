@@ -1,5 +1,7 @@
 // The prover's round polynomial: fold, quotient, degree correction. Polynomials are slices of coefficients, lowest first; each function takes the
 // field by its number and any words. Elements of four words have functions of their own, and `fold` and `corrected` choose by the field.
+#![tactic(auto)]
+
 ghost use Rattle.std.specs.Prelude.{◌≡◌, [], ◌∷◌, ◌++◌, ◌+◌, ◌-◌, ◌*◌, ◌≤◌, ◌<◌, length, take, drop, get_or, replicate};
 ghost use Rattle.definition.specs.Field.{Field, field_of, power, quads};
 ghost use Rattle.definition.specs.Polynomial.{mul_poly, divide, quotient, geometric, fold_poly};

@@ -1,4 +1,6 @@
 // The judge behind registers: a byte written to a register, with the buffer lent for the call.
+#![tactic(auto)]
+
 ghost use Rattle.std.specs.Prelude.{◌≡◌, take};
 ghost use Rattle.device_definition.specs.Device.{command as command_by, start as start_by, write as write_by, written as written_by};
 ghost use Rattle.outcome.specs.Meaning.{outcome_of};

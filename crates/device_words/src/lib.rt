@@ -1,5 +1,7 @@
 // A device's state as words, for callers that lend it: 0 phase (0 idle, 1 busy, 2 done and accepted, any other: done and refused), 1 number, 2 and 3 place (low, high),
 // 4 enable, 5 flag, 6 taken, 7 treated, from 8 on the folds.
+#![tactic(auto)]
+
 ghost use Rattle.std.specs.Prelude.{◌≡◌, ◌+◌, ◌*◌, ◌≤◌, ◌<◌, ◌++◌, drop, length, take};
 ghost use Rattle.device_definition.specs.Device.{fault_place};
 ghost use Rattle.registers.specs.Meaning.{device_of, phase_of};

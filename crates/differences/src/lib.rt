@@ -1,5 +1,7 @@
 // For each of a list of points the product of its differences to those behind it, and the inverses of these products, by one inversion: what interpolation
 // divides by.
+#![tactic(auto)]
+
 ghost use Rattle.std.specs.Prelude.{◌≡◌, ℕ, suc, ◌≤◌, ◌<◌, length, get_or, drop};
 ghost use Rattle.definition.specs.Field.{Field, prime_of, field_of, reciprocal, quads};
 ghost use Rattle.algebra.specs.Different.{Apart};

@@ -1,5 +1,7 @@
 // The points of a round's samples, of equal ones the last: found, and put in front of those that are kept. Out coins are elements in either spelling,
 // shift points are numbers; numbers of points count elements.
+#![tactic(auto)]
+
 ghost use Rattle.std.specs.Prelude.{◌≡◌, [], ◌++◌, map, ◌+◌, ◌≤◌, ◌<◌, eqb, length, drop};
 ghost use Rattle.definition.specs.Field.{Field, quads};
 ghost use Rattle.definition.specs.Lists.{different, member};

@@ -1,6 +1,8 @@
 // The quotient of a polynomial by X - a over many points at once: each of its coefficients is one sum of products. Let w be the coefficients of the product of
 // 1 - aX over the points. The sum of w times the quotient's coefficients from number j on is the dividend's coefficient of as much higher number as there
 // are points; and w begins with 1.
+#![tactic(auto)]
+
 ghost use Rattle.std.specs.Prelude.{◌≡◌, List, [], ◌∷◌, ℕ, ◌+◌, ◌-◌, ◌≤◌, ◌<◌, length, take, drop, get_or};
 ghost use Rattle.definition.specs.Field.{Field, field_of};
 ghost use Rattle.definition.specs.Polynomial.{quotient};

@@ -1,24 +1,39 @@
 // The program `domains`: reads a sheet on standard input, as words, and prints whether it keeps its rules and, where it does, its evaluation domains.
-ghost use Rattle.std.specs.Prelude.{◌≤◌};
+#![tactic(auto)]
+
+ghost use Rattle.std.specs.Prelude.{◌≡◌, ◌≤◌, true, take, OnOk};
+ghost use Rattle.std.specs.Io.KnownBytes.{Appends};
+ghost use Rattle.definition.specs.Sheet.{edition1};
+ghost use Rattle.input.specs.Told.{Tells};
+ghost use Rattle.listing.specs.Listing.{listing};
 
 use input::Input;
-use libc::{STDIN_FILENO, STDOUT_FILENO};
+use std::io;
+use std::io::{Read, Write};
 
-fn main() {
+fn main(rt: HostRuntime) {
+    run(&mut rt.stdin(), &mut rt.stdout(), &mut rt.stderr());
+}
+
+// Reads at most 16,384 bytes, and writes what is printed of them. The answer is whether it was written.
+fn run<R: Read, W: Write, E: Write>(reader: &mut R, to: &mut W, err: &mut E) -> bool
+    ensures { result ≡ true → Tells 16384 (listing edition1) (R.remaining reader.old) (W.contents to.old) (W.contents to.new) }
+{
     let mut bytes = [0u8; 16384];
-    let Input::Bytes(n) = input::fill(STDIN_FILENO, &mut bytes) else {
-        input::not_read();
-        return;
+    let Input::Bytes(n) = input::fill(reader, &mut bytes) else {
+        let _ = input::not_read(err);
+        return false;
     };
     let mut out = [0u8; 131072];
     let length = listing::output(input::front(&bytes, n), &mut out);
-    send(&out, length);
+    send(to, &out, length).is_ok()
 }
 
 // Writes the first bytes of the output.
-fn send(out: &[u8; 131072], length: usize)
+fn send<W: Write>(to: &mut W, out: &[u8; 131072], length: usize) -> io::Result<()>
     requires { length ≤ 131072 }
+    ensures { OnOk result (Appends (W.contents to.old) (W.contents to.new) (take length out.now)) }
 {
     let all: &[u8] = out;
-    io::write_all(STDOUT_FILENO, &all[..length]);
+    to.write_all(&all[..length])
 }

@@ -1,5 +1,7 @@
 // The coefficients and the coins of a run of the load, drawn for its sheet. Each function is lent exactly the places of the words that it draws, so that its
 // promise is one equation. pw is the table of the points of domain 0: point j of level i stands at scale·j in it, where scale is 2^i.
+#![tactic(auto)]
+
 ghost use Rattle.std.specs.Prelude.{◌≡◌, ◌∷◌, ◌++◌, ℕ, ◌+◌, ◌-◌, ◌/◌, ◌≤◌, ◌<◌, length, get_or, replicate};
 ghost use Rattle.std.proofs.Math.Option.{Option, none};
 ghost use Rattle.definition.specs.Field.{prime_of};

@@ -1,4 +1,6 @@
 // The fold of the k values at the roots of a shift point, by halving, of elements of either spelling. The points are words of the prime field in both.
+#![tactic(auto)]
+
 ghost use Rattle.std.specs.Prelude.{◌≡◌, ℕ, ◌+◌, ◌*◌, ◌^◌, ◌≤◌, ◌<◌, length, get_or};
 ghost use Rattle.definition.specs.Field.{Field, embed, quads};
 ghost use Rattle.spelling.specs.Field3.{field3, base};

@@ -1,4 +1,6 @@
 // Sums of products and powers of elements, in either spelling, chosen once a call.
+#![tactic(auto)]
+
 ghost use Rattle.std.specs.Prelude.{◌≡◌, ◌-◌, ◌≤◌, ◌<◌, length};
 ghost use Rattle.definition.specs.Polynomial.{geometric};
 ghost use Rattle.spelling.specs.Field3.{field3};

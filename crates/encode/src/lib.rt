@@ -1,4 +1,6 @@
 // Encode: an order is refused with number and place and no word is written, or table 0 stands at the front of the output.
+#![tactic(auto)]
+
 ghost use Rattle.std.specs.Prelude.{◌≡◌};
 ghost use Rattle.definition.specs.Prove.{encode};
 ghost use Rattle.outcome.specs.Meaning.{answer_of};

@@ -1,5 +1,7 @@
 // The public operations of field 3, whose elements are four words each, a first: of any words, each taken modulo p; an exponent is one word as it is. No function
 // asks anything of its caller.
+#![tactic(auto)]
+
 ghost use Rattle.std.specs.Prelude.{◌≡◌};
 ghost use Rattle.definition.specs.Field.{sum3, difference3, product3, power3, power_turns3, inverse3, reduced};
 ghost use Rattle.quartic.specs.Meaning.{quad_of, inverse_four};

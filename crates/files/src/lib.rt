@@ -1,95 +1,150 @@
-// What the programs do that write a file, or the nearest polynomial's words: they read standard input and write these on standard output, or a refusal on standard
-// error.
-ghost use Rattle.std.specs.Prelude.{◌≤◌, length};
+// What the programs do that write a file, or the nearest polynomial's words: they read, and write these, or a refusal on a writer of its own. Each answers whether
+// all of it was written.
+#![tactic(auto)]
+
+ghost use Rattle.std.specs.Prelude.{◌≡◌, ◌≤◌, true, length, take};
+ghost use Rattle.std.specs.Io.KnownBytes.{Appends};
+ghost use Rattle.edition.specs.Meaning.{edition_of};
+ghost use Rattle.line.specs.Text.{text_of};
+ghost use Rattle.program_output.specs.Output.{batch_written, convert_written, prove_written};
+ghost use Rattle.nearest_bytes.specs.NearestInput.{nearest_written};
+ghost use Rattle.input.specs.Told.{Tells};
 
 use edition::Edition;
 use input::Input;
-use libc::{STDERR_FILENO, STDIN_FILENO, STDOUT_FILENO};
 use program_output::Written;
+use std::io::{Read, Write};
 
 // Proves an order, given as words: a sheet of the edition, the coefficients and the coins, one after the other. Of a longer input the first 16,384 bytes are
 // read; no order that is done is so long.
-pub fn prove_input(e: Edition) {
+pub fn prove_input<R: Read, W: Write, E: Write>(
+    e: Edition,
+    reader: &mut R,
+    out: &mut W,
+    err: &mut E,
+) -> bool
+    ensures output { result ≡ true → Tells 16384 (λ bytes. (prove_written (edition_of e) bytes).output) (R.remaining reader.old) (W.contents out.old) (W.contents out.new) }
+    ensures error { result ≡ true → Tells 16384 (λ bytes. (prove_written (edition_of e) bytes).error) (R.remaining reader.old) (E.contents err.old) (E.contents err.new) }
+{
     let mut bytes = [0u8; 16384];
-    let Input::Bytes(n) = input::fill(STDIN_FILENO, &mut bytes) else {
-        input::not_read();
-        return;
+    let Input::Bytes(n) = input::fill(reader, &mut bytes) else {
+        let _ = input::not_read(err);
+        return false;
     };
     let mut output = [0u8; 34304];
     let written = program_output::prove(e, input::front(&bytes, n), &mut output);
-    deliver(written, &output);
+    deliver(written, &output, out, err)
 }
 
 // Proves an order for a batch, given as words: a sheet of edition 1, the number of tables and their bounds, the coefficients and the coins. Of a longer input the
 // first 32,768 bytes are read; no order that is done is so long.
-pub fn prove_batch() {
+pub fn prove_batch<R: Read, W: Write, E: Write>(reader: &mut R, out: &mut W, err: &mut E) -> bool
+    ensures output { result ≡ true → Tells 32768 (λ bytes. (batch_written bytes).output) (R.remaining reader.old) (W.contents out.old) (W.contents out.new) }
+    ensures error { result ≡ true → Tells 32768 (λ bytes. (batch_written bytes).error) (R.remaining reader.old) (E.contents err.old) (E.contents err.new) }
+{
     let mut bytes = [0u8; 32768];
-    let Input::Bytes(n) = input::fill(STDIN_FILENO, &mut bytes) else {
-        input::not_read();
-        return;
+    let Input::Bytes(n) = input::fill(reader, &mut bytes) else {
+        let _ = input::not_read(err);
+        return false;
     };
     let mut output = [0u8; 50688];
     let written = program_output::prove_batch(input::front(&bytes, n), &mut output);
-    deliver_batch(written, &output);
+    deliver_batch(written, &output, out, err)
 }
 
 // Finds the nearest polynomial to a table, given as words: a sheet of edition 1, then table 0. Of a longer input the first 32,768 bytes are read; no order that is
 // done is so long.
-pub fn find_nearest() {
+pub fn find_nearest<R: Read, W: Write, E: Write>(reader: &mut R, out: &mut W, err: &mut E) -> bool
+    ensures output { result ≡ true → Tells 32768 (λ bytes. (nearest_written bytes).output) (R.remaining reader.old) (W.contents out.old) (W.contents out.new) }
+    ensures error { result ≡ true → Tells 32768 (λ bytes. (nearest_written bytes).error) (R.remaining reader.old) (E.contents err.old) (E.contents err.new) }
+{
     let mut bytes = [0u8; 32768];
-    let Input::Bytes(n) = input::fill(STDIN_FILENO, &mut bytes) else {
-        input::not_read();
-        return;
+    let Input::Bytes(n) = input::fill(reader, &mut bytes) else {
+        let _ = input::not_read(err);
+        return false;
     };
     let mut output = [0u8; 12292];
     let written = nearest_bytes::find(input::front(&bytes, n), &mut output);
-    deliver_words(written, &output);
+    deliver_words(written, &output, out, err)
 }
 
 // Converts a file of the other edition to this one. Of a longer input the first 65,536 bytes are read; no file that is converted is so long.
-pub fn convert_file(to: Edition) {
+pub fn convert_file<R: Read, W: Write, E: Write>(
+    to: Edition,
+    reader: &mut R,
+    out: &mut W,
+    err: &mut E,
+) -> bool
+    ensures output { result ≡ true → Tells 65536 (λ bytes. (convert_written (edition_of to) bytes).output) (R.remaining reader.old) (W.contents out.old) (W.contents out.new) }
+    ensures error { result ≡ true → Tells 65536 (λ bytes. (convert_written (edition_of to) bytes).error) (R.remaining reader.old) (E.contents err.old) (E.contents err.new) }
+{
     let mut bytes = [0u8; 65536];
-    let Input::Bytes(n) = input::fill(STDIN_FILENO, &mut bytes) else {
-        input::not_read();
-        return;
+    let Input::Bytes(n) = input::fill(reader, &mut bytes) else {
+        let _ = input::not_read(err);
+        return false;
     };
     let mut output = [0u8; 34304];
     let written = program_output::convert(to, input::front(&bytes, n), &mut output);
-    deliver(written, &output);
+    deliver(written, &output, out, err)
 }
 
-// What goes to standard output, of the places of a plain file, and what goes to standard error.
-fn deliver(written: Written, output: &[u8; 34304])
+// What goes to the output, of the places of a plain file, and what goes to the writer of refusals.
+fn deliver<W: Write, E: Write>(
+    written: Written,
+    output: &[u8; 34304],
+    out: &mut W,
+    err: &mut E,
+) -> bool
     requires { (written.length ≤ 34304) × (written.error.length ≤ 64) }
+    ensures output { result ≡ true → Appends (W.contents out.old) (W.contents out.new) (take written.length output.now) }
+    ensures error { result ≡ true → Appends (E.contents err.old) (E.contents err.new) (text_of written.error) }
 {
     let all: &[u8] = output;
-    write(written, all);
+    write(written, all, out, err)
 }
 
 // What goes to each of them, of the places of a batch.
-fn deliver_batch(written: Written, output: &[u8; 50688])
+fn deliver_batch<W: Write, E: Write>(
+    written: Written,
+    output: &[u8; 50688],
+    out: &mut W,
+    err: &mut E,
+) -> bool
     requires { (written.length ≤ 50688) × (written.error.length ≤ 64) }
+    ensures output { result ≡ true → Appends (W.contents out.old) (W.contents out.new) (take written.length output.now) }
+    ensures error { result ≡ true → Appends (E.contents err.old) (E.contents err.new) (text_of written.error) }
 {
     let all: &[u8] = output;
-    write(written, all);
+    write(written, all, out, err)
 }
 
 // What goes to each of them, of the places of the nearest polynomial's words.
-fn deliver_words(written: Written, output: &[u8; 12292])
+fn deliver_words<W: Write, E: Write>(
+    written: Written,
+    output: &[u8; 12292],
+    out: &mut W,
+    err: &mut E,
+) -> bool
     requires { (written.length ≤ 12292) × (written.error.length ≤ 64) }
+    ensures output { result ≡ true → Appends (W.contents out.old) (W.contents out.new) (take written.length output.now) }
+    ensures error { result ≡ true → Appends (E.contents err.old) (E.contents err.new) (text_of written.error) }
 {
     let all: &[u8] = output;
-    write(written, all);
+    write(written, all, out, err)
 }
 
-// Writes the front of the output, and the line.
-fn write(written: Written, output: &[u8])
+// Writes the front of the output, and the line. Where the output fails it says so, before the line.
+fn write<W: Write, E: Write>(written: Written, output: &[u8], out: &mut W, err: &mut E) -> bool
     requires { (written.length ≤ length output.now) × (written.error.length ≤ 64) }
+    ensures output { result ≡ true → Appends (W.contents out.old) (W.contents out.new) (take written.length output.now) }
+    ensures error { result ≡ true → Appends (E.contents err.old) (E.contents err.new) (text_of written.error) }
 {
     let length = written.length;
     let error = written.error;
-    if !io::write_all(STDOUT_FILENO, &output[..length]) {
-        io::write_all(STDERR_FILENO, b"not written\n");
+    if out.write_all(&output[..length]).is_err() {
+        let _ = err.write_all(b"not written\n");
+        let _ = report::send(err, error);
+        return false;
     }
-    report::send(STDERR_FILENO, error);
+    report::send(err, error).is_ok()
 }

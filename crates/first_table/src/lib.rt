@@ -1,4 +1,6 @@
 // Table 0 of a polynomial, in words.
+#![tactic(auto)]
+
 ghost use Rattle.std.specs.Prelude.{◌≡◌, ◌≤◌, length, get_or};
 ghost use Rattle.definition.specs.Field.{spelling_of, word_count};
 ghost use Rattle.definition.specs.Prover.{table_words};

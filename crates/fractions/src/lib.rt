@@ -2,6 +2,8 @@
 //
 // The caller lends the words. pw is the table of the powers of ω. A level's function is worked out from the table sent and from the samples of its round: ac has the
 // coefficients of A; vg those of V, and from place 66 on those of the geometric sum.
+#![tactic(auto)]
+
 ghost use Rattle.std.specs.Prelude.{◌≡◌, ℕ, ◌+◌, ◌*◌, ◌≤◌, ◌<◌, length, get_or};
 ghost use Rattle.definition.specs.Field.{Field, quads};
 ghost use Rattle.list_laws.specs.Filled.{Filled, FilledOver};

@@ -1,5 +1,7 @@
 // One round of the honest prover: its words, the corrected polynomial of the next level, and that polynomial's fold. pw is the table of the points of domain
 // 0: point j of level i stands at scale·j in it, where scale is 2^i.
+#![tactic(auto)]
+
 ghost use Rattle.std.specs.Prelude.{◌≡◌, ◌+◌, ◌-◌, ◌*◌, ◌/◌, ◌≤◌, ◌<◌, length, get_or, take};
 ghost use Rattle.definition.specs.Field.{elements_in, spelling_of};
 ghost use Rattle.definition.specs.Sheet.{sheet_of};

@@ -1,5 +1,7 @@
 // The tests that prove and encode make of an order before they write anything: refusals 3, 5, 7, 10, 11 and 14, up to the first that fails. An order is a sheet w,
 // coefficients f, for prove coins, and an output, of which only its size counts here. Prove has either edition, encode edition 1.
+#![tactic(auto)]
+
 ghost use Rattle.std.specs.Prelude.{◌≡◌, List, ◌++◌, ℕ, ◌≤◌, length, get_or};
 ghost use Rattle.definition.specs.Field.{spelling_of, word_count};
 ghost use Rattle.definition.specs.Layout.{coin_kinds, layout};

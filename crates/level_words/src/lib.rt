@@ -1,4 +1,6 @@
 // Where deciding stands at a level among the words w of a stream of edition e: the place, the fold coin, how the level's function is worked out, and the reads.
+#![tactic(auto)]
+
 ghost use Rattle.std.specs.Prelude.{◌≡◌, ◌+◌, ◌≤◌, ◌<◌, length, get_or, take, drop};
 ghost use Rattle.definition.specs.Sheet.{sheet_length, sheet_of};
 ghost use Rattle.list_laws.specs.All.{All};

@@ -1,4 +1,6 @@
 // The polynomials A and V of a round's samples and the geometric sum as coefficient lists, by one inversion.
+#![tactic(auto)]
+
 ghost use Rattle.std.specs.Prelude.{◌≡◌, ℕ, suc, ◌+◌, ◌≤◌, ◌<◌, [], length, get_or, take, drop};
 ghost use Rattle.definition.specs.Field.{Field, field_of, reciprocal, Quad, quads};
 ghost use Rattle.definition.specs.Polynomial.{pair, evaluate, geometric};

@@ -1,5 +1,7 @@
 // The tests that the search for the nearest polynomial makes of an order before it searches: refusals 3, 5, 10 and 11, up to the first that fails. An order is a
 // sheet w of edition 1, a table of its n0 entries, and an output, of which only its size counts here.
+#![tactic(auto)]
+
 ghost use Rattle.std.specs.Prelude.{◌≡◌, List, ℕ, ◌≤◌, length};
 ghost use Rattle.definition.specs.Prove.{sheet_length_test};
 ghost use Rattle.definition.specs.Reading.{sheet_test};

@@ -1,5 +1,7 @@
 // The decoder's candidate for a table, in either spelling. Of four words it goes plane by plane: a polynomial over them is, at points of the first field, four polynomials over it, one for each
 // word of an element; so the four candidates of the planes are the candidate, and where one plane has none there is none.
+#![tactic(auto)]
+
 ghost use Rattle.std.specs.Prelude.{◌≡◌, ℕ, ◌*◌, ◌≤◌, ◌<◌, length};
 ghost use Rattle.definition.specs.Field.{spelling_of};
 ghost use Rattle.candidate.specs.Tables.{Sized};

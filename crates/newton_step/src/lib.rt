@@ -1,4 +1,6 @@
 // One sample more in the polynomials A and V, as coefficient lists: the definition's Newton step.
+#![tactic(auto)]
+
 ghost use Rattle.std.specs.Prelude.{◌≡◌, ◌+◌, ◌-◌, ◌≤◌, ◌<◌, ◌∷◌, length, get_or, drop};
 ghost use Rattle.definition.specs.Field.{field_of, reciprocal, quads};
 ghost use Rattle.definition.specs.Polynomial.{evaluate};

@@ -1,14 +1,13 @@
 -- Two elements that begin at words i and j are equal if their words are.
 use Prim.Native.Nat.{ℕ, ◌+◌, ◌≤◌}
-use native.Mathlib.Omega.{arith}
-use mathlib.Core.Bool.{Bool, true, false, ◌&&◌}
+use mathlib.Core.Bool.{Bool, false, ◌&&◌}
 use mathlib.Core.List.{List}
 use mathlib.Core.Path.{◌≡◌, sym, subst, ◌∙◌}
 use lib.Dec.{eqb}
 use lib.ListN.{length, get_or}
 use borrow.Author.Tests.{eq-eqb, ne_eqb}
 use Rattle.layouts.specs.Levels.{element_at}
-use Rattle.definition.specs.Field.{Spelling, field_in, four, one, prime_field, prime_of, quartic, spelling_of, word_count}
+use Rattle.definition.specs.Field.{Spelling, field_in, four, prime_field, prime_of, quartic, spelling_of, word_count}
 use Rattle.domain.specs.Elements.{four_at}
 use Rattle.widths.specs.ByField.{spelling_other, spelling_three}
 

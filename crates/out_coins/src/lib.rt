@@ -1,4 +1,6 @@
 // The tests of out coins, of a stream or of a coin list: refusal 7 in all rounds, then refusal 14. pw is the table of the points of domain 0.
+#![tactic(auto)]
+
 ghost use Rattle.std.specs.Prelude.{◌≡◌, ◌+◌, ◌≤◌, ◌<◌, length, get_or};
 ghost use Rattle.layouts.specs.CoinsAfter.{chosen};
 ghost use Rattle.layouts.specs.Levels.{element_at};

@@ -1,4 +1,6 @@
 // The table of a polynomial over points of the prime field, in either spelling. Of four words it goes plane by plane: the code for one word makes each.
+#![tactic(auto)]
+
 ghost use Rattle.std.specs.Prelude.{◌≡◌, ℕ, ◌+◌, ◌*◌, ◌≤◌, ◌<◌, length, get_or};
 ghost use Rattle.definition.specs.Field.{quads};
 ghost use Rattle.tables.specs.Halving.{Halves, Spaced};

@@ -1,4 +1,6 @@
 // Reading: refusals 1 to 6 of a file of either edition, and the words of its stream.
+#![tactic(auto)]
+
 ghost use Rattle.std.specs.Prelude.{◌≡◌, ℕ, ◌*◌, ◌/◌, ◌≤◌, min, length, List};
 ghost use Rattle.definition.specs.Sheet.{sheet_length, sheet_of};
 ghost use Rattle.definition.specs.Layout.{layout, words_due};

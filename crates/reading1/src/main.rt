@@ -1,7 +1,13 @@
 // The program `read`: reads a transcript file on standard input, without deciding, and prints what reading says.
-use edition::Edition;
-use libc::STDIN_FILENO;
+#![tactic(auto)]
 
-fn main() {
-    report::read(Edition::One, STDIN_FILENO);
+use edition::Edition;
+
+fn main(rt: HostRuntime) {
+    report::read(
+        Edition::One,
+        &mut rt.stdin(),
+        &mut rt.stdout(),
+        &mut rt.stderr(),
+    );
 }

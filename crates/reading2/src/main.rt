@@ -1,7 +1,13 @@
 // The program `read2`: reads a transcript file of edition 2 on standard input, without deciding, and prints what reading says.
-use edition::Edition;
-use libc::STDIN_FILENO;
+#![tactic(auto)]
 
-fn main() {
-    report::read(Edition::Two, STDIN_FILENO);
+use edition::Edition;
+
+fn main(rt: HostRuntime) {
+    report::read(
+        Edition::Two,
+        &mut rt.stdin(),
+        &mut rt.stdout(),
+        &mut rt.stderr(),
+    );
 }

@@ -1,4 +1,6 @@
 // The device's state and its registers, by value, without the judge: what a write or a coin leaves, and what a read shows.
+#![tactic(auto)]
+
 ghost use Rattle.std.specs.Prelude.{◌≡◌, [], ◌∷◌, ◌<◌};
 ghost use Rattle.device_definition.specs.Device.{began as began_by, busy_test, cleared as cleared_by, enabled as enabled_by, ended as ended_with, flagged as flagged_by, fresh as fresh_device, is_busy, line as line_of, fault_number, fault_place, overwritten, read as read_of, status_in, took_byte, treated_one, write_tests};
 ghost use Rattle.device_definition.specs.Device as definition;

@@ -2,6 +2,8 @@
 //
 // The caller lends the words. pw is the table of the powers of ω. ac has the coefficients of A; vg those of V, and from place 66 on those of the geometric sum.
 // At the k roots of a point, of which the powers are one list, k sums of products make of each list a polynomial with k coefficients and the same values there.
+#![tactic(auto)]
+
 ghost use Rattle.std.specs.Prelude.{◌≡◌, ℕ, ◌+◌, ◌*◌, ◌≤◌, ◌<◌, length, get_or, take};
 ghost use Rattle.definition.specs.Field.{Field, field_of, embed, spelling_of, number_in, quads};
 ghost use Rattle.definition.specs.Polynomial.{evaluate};

@@ -2,6 +2,8 @@
 //
 // The caller lends the words: pw, the table of the powers of ω; the table sent; ac and vg, the coefficients by which it is corrected; and k places a coin for
 // the numerators, which become the values, and for the denominators.
+#![tactic(auto)]
+
 ghost use Rattle.std.specs.Prelude.{◌≡◌, ℕ, ◌+◌, ◌*◌, ◌≤◌, ◌<◌, length, get_or};
 ghost use Rattle.std.proofs.Math.Option.{some};
 ghost use Rattle.definition.specs.Field.{Field, field_of, quads};

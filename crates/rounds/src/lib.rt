@@ -2,6 +2,8 @@
 //
 // The caller lends the words: pw, the table of the powers of ω; the table sent; ac and vg, the coefficients by which it is corrected; and places for the values at
 // the roots of all coins. `values` are places for k elements, scratch for a fold.
+#![tactic(auto)]
+
 ghost use Rattle.std.specs.Prelude.{◌≡◌, ◌++◌, ◌+◌, ◌*◌, ◌≤◌, ◌<◌, length, get_or};
 ghost use Rattle.definition.specs.Polynomial.{pair};
 ghost use Rattle.spelling.specs.ByField.{field_at, elements_at, points_at, words_at};

@@ -1,5 +1,7 @@
 // Samples without repeats, in the last places of two slices, one of points and one of values: those from a number on are in use.
 // A sample is put in front of those that are there, unless its point is among them; a point that is there with another value is a clash.
+#![tactic(auto)]
+
 ghost use Rattle.std.specs.Prelude.{◌≡◌, ℕ, ◌≤◌, ◌<◌, List, ◌++◌, eqb, length, drop};
 ghost use Rattle.std.proofs.Math.Option.{some};
 ghost use Rattle.definition.specs.Field.{Field, quads};

@@ -1,4 +1,6 @@
 // A sheet of one edition laid anew as one of the other, over the places before a stream's body; and the level whose folding number has no place in edition 1.
+#![tactic(auto)]
+
 ghost use Rattle.std.specs.Prelude.{◌≡◌, ◌++◌, ◌+◌, ◌≤◌, ◌<◌, length, get_or, take, drop};
 ghost use Rattle.definition.specs.Convert.{folds_test, spread};
 ghost use Rattle.definition.specs.Sheet.{edition2, sheet_of};

@@ -1,4 +1,6 @@
 // The sheet of a run of the load, which is of edition 1, drawn word by word among the values that its rules permit.
+#![tactic(auto)]
+
 ghost use Rattle.std.specs.Prelude.{◌≡◌, ◌≤◌, ◌<◌, length, get_or, take, set};
 ghost use Rattle.layouts.specs.SheetByWord.{Kept};
 ghost use Rattle.definition.specs.Load.{candidates, permits as permits_in, permitted as permitted_in, worked_sheet, draw_sheet};

@@ -1,4 +1,6 @@
 // What a start tests of a file of edition 1: reading, and then the out coins, refusals 7 and 14. They are all that comes before the first shift or final coin.
+#![tactic(auto)]
+
 ghost use Rattle.std.specs.Prelude.{◌≡◌, ◌*◌, ◌/◌, ◌≤◌, min, length};
 ghost use Rattle.definition.specs.Block.{stream_of};
 ghost use Rattle.definition.specs.Deciding.{out_tests};

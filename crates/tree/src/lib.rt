@@ -1,4 +1,6 @@
 // The tree of a table: the root by halves, without an array of nodes, and the root that an opening's path leads to.
+#![tactic(auto)]
+
 ghost use Rattle.std.specs.Prelude.{◌≡◌, ◌+◌, ◌*◌, ◌^◌, ◌≤◌, length, take, drop};
 ghost use mathlib.Core.List.{flat_map};
 ghost use Rattle.definition.specs.Block.{bytes_of};

@@ -1,7 +1,13 @@
 // The program `check`: judges a transcript file on standard input and prints the verdict.
-use edition::Edition;
-use libc::STDIN_FILENO;
+#![tactic(auto)]
 
-fn main() {
-    report::check(Edition::One, STDIN_FILENO);
+use edition::Edition;
+
+fn main(rt: HostRuntime) {
+    report::check(
+        Edition::One,
+        &mut rt.stdin(),
+        &mut rt.stdout(),
+        &mut rt.stderr(),
+    );
 }

@@ -1,7 +1,13 @@
 // The program `check2`: judges a transcript file of edition 2 on standard input and prints the verdict.
-use edition::Edition;
-use libc::STDIN_FILENO;
+#![tactic(auto)]
 
-fn main() {
-    report::check(Edition::Two, STDIN_FILENO);
+use edition::Edition;
+
+fn main(rt: HostRuntime) {
+    report::check(
+        Edition::Two,
+        &mut rt.stdin(),
+        &mut rt.stdout(),
+        &mut rt.stderr(),
+    );
 }

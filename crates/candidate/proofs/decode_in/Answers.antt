@@ -1,0 +1,53 @@
+use Prim.Native.Nat.{ℕ, ◌+◌, ◌-◌, ◌/◌}
+use native.Mathlib.Omega.{arith}
+use mathlib.Core.Path.{sym, ap, ◌∙◌}
+use lib.ListN.{length, set, length-set, length-replicate}
+use lib.Seq.{length-take-le}
+use Rattle.decoding.specs.Start.{length_unity}
+use Rattle.definition.specs.Field.{field_of}
+use Rattle.algebra.specs.PrimeField.{laws}
+use Rattle.decoder.specs.Answer.{polynomial_of}
+use Rattle.candidate.proofs.Begin.{made_v, ready, candidate_is}
+use Rattle.candidate.proofs.decode_in.Goals as goal
+
+pub slice_bounds-through-end-2 : goal.slice_bounds-through-end-2
+slice_bounds-through-end-2 c = sym (length-take-le (length c.args.pw.now) c.args.s.now (omega (arith, c.requires.places.for_s)))
+
+pub through-requires : goal.through-requires
+through-requires c =
+    let p = c.requires in record { halves = (p.sized.0.halves, p.sized.1); values_len = (length-take-le (length c.args.pw.now) c.args.s.now (omega (arith, p.places.for_s)), p.places.for_t) }
+
+pub bounds-v-0 : goal.bounds-v-0
+bounds-v-0 c = omega (arith, ap length c.requires.places.for_v, length-replicate {A = ℕ} ((length c.args.pw.now - length c.args.out.now) / 2 + 1) 0)
+
+pub solve-requires : goal.solve-requires
+solve-requires c =
+    let a = c.args in
+    let n = length a.pw.now in
+    let z = c.requires.sized.0 in
+    let p = c.requires.places in
+    let t = c.through in
+    let u = c.set_unity in record {
+      reducible = ready a.field n (length a.out.now) u.new.s a.w.now t.new.out (set a.v.now 0 c.reduce.result) z t.ensures.elements
+          (t.auto.out ∙ p.for_t) u.ensures p.for_w (made_v a.field ((n - length a.out.now) / 2) n a.v.now p.for_v c.reduce.ensures);
+      s_len = (omega (arith, ap length u.ensures, length_unity (field_of a.field) (laws a.field) (n - 1), z.two), (t.auto.out ∙ p.for_t, omega (arith, z.even, z.fewer)));
+      out_nonzero = (z.some, omega (arith, z.even));
+    }
+
+pub shape_of-v : goal.shape_of-v
+shape_of-v c = c.solve.auto.v ∙ length-set c.args.v.now 0 c.reduce.result
+
+pub returns : goal.returns
+returns c =
+    let a = c.args in
+    let n = length a.pw.now in
+    let z = c.requires.sized.0 in
+    let p = c.requires.places in
+    let t = c.through in
+    let u = c.set_unity in
+    let o = c.solve in record {
+      candidate = candidate_is a.field a.pw.now a.table.now u.new.s a.w.now t.new.out (set a.v.now 0 c.reduce.result) (length a.out.now)
+          (polynomial_of o.result o.new.out) z c.requires.sized.1 t.ensures.through u.ensures p.for_w
+          (made_v a.field ((n - length a.out.now) / 2) n a.v.now p.for_v c.reduce.ensures) o.ensures.decodes;
+      of_elements = o.ensures.of_elements;
+    }

@@ -1,0 +1,23 @@
+use Prim.Native.Nat.{ℕ, ◌-◌, ◌≤◌}
+use mathlib.Core.Path.{◌≡◌}
+use mathlib.Core.List.{List}
+use lib.ListN.{length}
+use Rattle.list_laws.specs.Filled.{FilledOver}
+use Rattle.spelling.specs.ByField.{ElementOf, field_at, elements_at}
+use Rattle.quartic.specs.declared.Four.{Four}
+use Rattle.elements.specs.Meaning.{value_at}
+use Rattle.combination.specs.Added.{entry_at}
+use Rattle.combination.proofs.add_polynomial.Given as goal
+
+-- `combination::add_polynomial` meets its contract: the coefficients below j are as they are to be, and the others as they were. Assumes nothing.
+-- coefficient j afterwards
+abbrev pub coefficient : (field : ℕ) → Four → List ℕ → List ℕ → ℕ → ElementOf field
+coefficient field s f old j =
+    (field_at field).◌⊕◌ (entry_at field f j) ((field_at field).◌⊗◌ (value_at field s) (entry_at field old j))
+
+abbrev pub invariant-loop-j : goal.invariant-loop-j
+invariant-loop-j l =
+    (l.j ≤ l.n) × ((l.n ≡ length (elements_at l.field l.initial.out)) × ((length l.out ≡ length l.initial.out) × FilledOver (field_at l.field).𝟘 (coefficient l.field l.s l.f l.initial.out) (elements_at l.field l.initial.out) (elements_at l.field l.out) l.j))
+
+abbrev pub decreases-loop-j : goal.decreases-loop-j
+decreases-loop-j l = l.n - l.j

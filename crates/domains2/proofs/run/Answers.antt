@@ -1,0 +1,12 @@
+-- What was written is made of the buffer's front, which is what could be read.
+use Rattle.std.proofs.Common.{sym, ap, ◌∙◌}
+use Rattle.definition.specs.Sheet.{edition2}
+use Rattle.input.proofs.Told.{on_ok, told}
+use Rattle.listing.specs.Listing.{listing}
+use Rattle.domains2.proofs.run.Goals as goal
+
+pub returns : goal.returns
+returns g c = λ ok.
+    told 16384 (listing edition2) _ _ _ c.in-Bytes.n _ _ c.in-Bytes.ensures.buffer_len_unchanged c.in-Bytes.ensures.front
+    (c.output_2-length.ensures.out_after ∙ ap (listing edition2) c.front.ensures)
+    (on_ok _ (sym c.is_ok.ensures.value ∙ ok) c.send.ensures)

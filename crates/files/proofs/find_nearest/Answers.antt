@@ -1,0 +1,15 @@
+-- What was written is made of the buffer's front, which is what could be read.
+use Rattle.std.proofs.Common.{ap, ◌∙◌}
+use Rattle.nearest_bytes.specs.NearestInput.{nearest_written}
+use Rattle.input.proofs.Told.{told}
+use Rattle.files.proofs.find_nearest.Goals as goal
+
+pub returns-clause-output : goal.returns-clause-output
+returns-clause-output g c = λ ok.
+    told 32768 (λ bytes. (nearest_written bytes).output) _ _ _ c.in-Bytes.n _ _ c.in-Bytes.ensures.buffer_len_unchanged c.in-Bytes.ensures.front
+    (c.find-written.ensures.output_after ∙ ap (λ bytes. (nearest_written bytes).output) c.front.ensures) (c.deliver_words.ensures.output ok)
+
+pub returns-clause-error : goal.returns-clause-error
+returns-clause-error g c = λ ok.
+    told 32768 (λ bytes. (nearest_written bytes).error) _ _ _ c.in-Bytes.n _ _ c.in-Bytes.ensures.buffer_len_unchanged c.in-Bytes.ensures.front
+    (c.find-written.ensures.error_value ∙ ap (λ bytes. (nearest_written bytes).error) c.front.ensures) (c.deliver_words.ensures.error ok)

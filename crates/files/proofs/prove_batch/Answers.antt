@@ -1,0 +1,15 @@
+-- What was written is made of the buffer's front, which is what could be read.
+use Rattle.std.proofs.Common.{ap, ◌∙◌}
+use Rattle.program_output.specs.Output.{batch_written}
+use Rattle.input.proofs.Told.{told}
+use Rattle.files.proofs.prove_batch.Goals as goal
+
+pub returns-clause-output : goal.returns-clause-output
+returns-clause-output g c = λ ok.
+    told 32768 (λ bytes. (batch_written bytes).output) _ _ _ c.in-Bytes.n _ _ c.in-Bytes.ensures.buffer_len_unchanged c.in-Bytes.ensures.front
+    (c.prove_batch-written.ensures.output_after ∙ ap (λ bytes. (batch_written bytes).output) c.front.ensures) (c.deliver_batch.ensures.output ok)
+
+pub returns-clause-error : goal.returns-clause-error
+returns-clause-error g c = λ ok.
+    told 32768 (λ bytes. (batch_written bytes).error) _ _ _ c.in-Bytes.n _ _ c.in-Bytes.ensures.buffer_len_unchanged c.in-Bytes.ensures.front
+    (c.prove_batch-written.ensures.error_value ∙ ap (λ bytes. (batch_written bytes).error) c.front.ensures) (c.deliver_batch.ensures.error ok)

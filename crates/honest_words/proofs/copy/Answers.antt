@@ -1,0 +1,22 @@
+use native.Mathlib.Omega.{arith}
+use mathlib.Core.Path.{◌∙◌, refl}
+use mathlib.Core.List.{map-id}
+use lib.ListN.{length-set}
+use Rattle.honest_words.proofs.Filling.{fill_start, fill_turn, fill_end}
+use Rattle.honest_words.proofs.copy.Goals as goal
+
+pub loop-i-init : goal.loop-i-init
+loop-i-init c = let a = c.args in (omega arith, (refl, fill_start (λ x. x) a.src.now a.out.now (omega arith)))
+
+pub loop-i-preserved : goal.loop-i-preserved
+loop-i-preserved c =
+    let l = c.loop-i in
+    let a = c.args in
+    let n = l.invariant.1 in
+    (omega arith, (simp length-set n.0, fill_turn (λ x. x) a.src.now 0 l.out l.i (omega arith) l.invariant.0 (omega arith) n.1 refl))
+
+pub returns : goal.returns
+returns c =
+    let l = c.loop-i in
+    let src = c.args.src.now in
+    fill_end (λ x. x) src l.out l.i (omega arith) l.invariant.1.1 ∙ map-id src

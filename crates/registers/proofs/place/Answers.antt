@@ -1,0 +1,22 @@
+use Rattle.registers.specs.Meaning.{phase_of}
+use Rattle.device_definition.specs.Device.{fault_place}
+use Rattle.outcome.specs.Meaning.{outcome_of}
+use Rattle.registers.proofs.place.Goals as goal
+
+pub returns-in-Idle : goal.returns-in-Idle
+unfolding fault_place phase_of outcome_of
+returns-in-Idle c = rw c.in-Idle.is
+
+pub returns-in-Busy : goal.returns-in-Busy
+unfolding fault_place phase_of outcome_of
+returns-in-Busy c = rw c.in-Busy.is
+
+pub returns-in-Accepted : goal.returns-in-Accepted
+unfolding fault_place phase_of outcome_of
+returns-in-Accepted c =
+    rw (c.in-Done.is, c.in-Accepted.is)
+
+pub returns-in-Refused : goal.returns-in-Refused
+unfolding fault_place phase_of outcome_of
+returns-in-Refused c =
+    rw (c.in-Done.is, c.in-Refused.is)

@@ -1,0 +1,4 @@
+use Rattle.tree.proofs.+root.Given as goal
+
+abbrev pub decreases-root : goal.decreases-root
+decreases-root l = l.height
