@@ -2,8 +2,9 @@
 
 At a fact: a goal of the code is not proved, two types, sides or values differ, `omega` has numbers at which a goal fails, `search`, `grind` or `cc` finds no proof, `rw` finds
 nothing to rewrite, or it or `simp` leaves something open. Of shape is whatever else the prover says of a text that it cannot read or that does not fit: no expression
-where one is expected, a name that is not in scope or not there, such as a fact of code of another shape, a tuple or a part of one where the type has none. So is an
-equation where an order is wanted, or an order for an equation. An error that only says that something else was not admitted is neither: it passes another one on.
+where one is expected, a name that is not in scope, a tuple or a part of one where the type has none. So is an equation where an order is wanted, or an order for an
+equation. Neither is an error that only says that something else was not admitted, which passes another one on, nor one of a name that a proof has of the code as it
+was, since Rattle makes such names from the code's text, so that `x < 3` and `x < 4` have others: it shows nothing of a wrong answer.
 
 Refusals reads the whole of what a check said; Told reads what rt ci and rt must-fail say of each edit: one line, with the first of these alone.
 """
@@ -24,6 +25,7 @@ FACT = re.compile(
     r"|`rw`: no occurrence of "
     r"|give a proof of that as the last argument, `(?:rw|simp)"
 )
+GONE = re.compile(r"`[^`]*`(?:: module `[^`]*`)? (?:has no field|has no `|is not in scope)|(?:record|module) `[^`]*` has no ")
 WHOLE = re.compile(
     r"the two types are `([^`]*)` \(expected\) and `([^`]*)` \(found\)"
     r"|one has `([^`]*)` \(expected\), at the start, and the other has `([^`]*)` \(found\)"
@@ -38,7 +40,7 @@ class Error(NamedTuple):
     path: str  # below the crate's folder
     line: int
     said: str
-    kind: str  # fact, shape or passed on
+    kind: str  # fact, shape, name or passed on
 
     @property
     def function(self):
@@ -61,16 +63,19 @@ def other_relation(said):
     return any(EQUATION.match(one) and ORDER.match(other) for one, other in (sides, sides[::-1]))
 
 
-def kind(said):
-    if "was not admitted" in said.split("\n")[0]:
+def kind(path, said):
+    first = said.split("\n")[0]
+    if "was not admitted" in first:
         return "passed on"
+    if path.startswith("proofs/") and GONE.search(first):
+        return "name"
     return "fact" if FACT.match(said) and not other_relation(said) else "shape"
 
 
 class Refusals:
     def __init__(self, log):
         self.proved = not re.search(r"^logic=not-proved", log, re.M)
-        self.errors = [Error(below(path), int(line), said.split("\n")[0], kind(said)) for path, line, _, said in ERROR.findall(log)]
+        self.errors = [Error(below(path), int(line), said.split("\n")[0], kind(below(path), said)) for path, line, _, said in ERROR.findall(log)]
         # what is left to prove of the code, at the line that asks for it
         self.errors += [Error(below(path), int(line), said, "fact") for path, line, said in GOAL.findall(log)]
         # A function that has no answers for some goals is proved by `search`.
