@@ -3,7 +3,7 @@
  * -2 for a file of edition 2; or `verify -b [FILE]` for a batch, `verify -o [FILE]` for an opening file. The exit status is
  * 0 for accepted, 1 for refused, 2 where the file cannot be read.
  *
- * To build it, at the top of the repository, after `rt staticlib tevrolig`; or anywhere, after `tools/install`:
+ * To build it, at the top of the repository, after `tools/archive`; or anywhere, after `tools/install`:
  *
  *   cc examples/verify.c -Iinclude target/staticlib/libtevrolig.a -o verify
  *   cc verify.c $(pkg-config --cflags --libs tevrolig) -o verify */

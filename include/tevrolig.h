@@ -1,7 +1,7 @@
 /* Tevrolig: the verifier for STIR transcripts, the prover that it answers, the builder of opening files, and the four
  * fields below them, called from C.
  *
- * The functions stand in libtevrolig.a, which `rt staticlib tevrolig` writes to target/staticlib for x86-64 Linux. They
+ * The functions stand in libtevrolig.a, which `tools/archive` writes to target/staticlib for x86-64 Linux. They
  * call memcpy and memset and nothing else from outside. They are proved against the written definition: on every input
  * each one ends, and what it answers and writes is what the definition says (docs/STATEMENTS.md).
  *

@@ -1,4 +1,4 @@
-// Links the archive that `rt staticlib tevrolig` writes to target/staticlib, or the one in the folder that TEVROLIG_LIB_DIR names.
+// Links the archive that `tools/archive` writes to target/staticlib, or the one in the folder that TEVROLIG_LIB_DIR names.
 use std::path::{Path, PathBuf};
 use std::process::exit;
 
@@ -17,7 +17,7 @@ fn main() {
     let archive = folder.join("libtevrolig.a");
     if !folder.is_absolute() || !archive.is_file() {
         eprintln!(
-            "tevrolig: there is no archive {}: run `rt staticlib tevrolig` first,",
+            "tevrolig: there is no archive {}: run `tools/archive` first,",
             archive.display()
         );
         eprintln!("or set {VARIABLE} to the folder that has libtevrolig.a, as an absolute path");

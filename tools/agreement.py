@@ -10,49 +10,43 @@ HEX` what the builder makes of these bytes and an output of so many bytes 165. A
 batches, orders, nearest, openings and builder, and the folder to write to."""
 import sys
 
-HEAD = """use Prim.Native.Nat.{ℕ}
-use mathlib.Core.Path.{_≡_, refl}
-use mathlib.Core.List.{List, [], _∷_}
+HEAD = """use Rattle.std.specs.Prelude.{ℕ, ◌≡◌, refl, List, [], ◌∷◌, replicate}
 """
-WORKED = "use Rattle·definition.specs.WorkedTranscript.{definitions}\n"
-VERDICTS = """use Rattle·definition.specs.Sheet.{edition1, edition2}
-use Rattle·definition.specs.Verdict.{accepted, refused}
-use Rattle·definition.specs.Verify.{verifyIn}
+WORKED = "use Rattle.definition.specs.WorkedTranscript.{definitions}\n"
+VERDICTS = """use Rattle.definition.specs.Sheet.{edition1, edition2}
+use Rattle.definition.specs.Verdict.{accepted, refused}
+use Rattle.definition.specs.Verify.{verify_in}
 """
-STEPS = """use Rattle·definition.specs.Reading.{reading}
-use Rattle·definition.specs.Sheet.{edition1, edition2}
-use Rattle·definition.specs.Verdict.{accepted, refused}
-use Rattle·definition.specs.Verify.{decideFile}
+STEPS = """use Rattle.definition.specs.Reading.{reading}
+use Rattle.definition.specs.Sheet.{edition1, edition2}
+use Rattle.definition.specs.Verdict.{accepted, refused}
+use Rattle.definition.specs.Verify.{decide_file}
 """
-CONVERSIONS = """use lib.ListN.{replicate}
-use Rattle·definition.specs.Prove.{done, refusal}
-use Rattle·definition.specs.Convert.{toEdition1, toEdition2}
+CONVERSIONS = """use Rattle.definition.specs.Prove.{done, refusal}
+use Rattle.definition.specs.Convert.{to_edition1, to_edition2}
 """
-BATCHES = """use Rattle·definition.specs.Verdict.{accepted, refused}
-use Rattle·batch_definition.specs.Batch.{verifyBatch}
-use Rattle·batch_definition.specs.BatchCases.{batchDefinitions}
+BATCHES = """use Rattle.definition.specs.Verdict.{accepted, refused}
+use Rattle.batch_definition.specs.Batch.{verify_batch}
+use Rattle.batch_definition.specs.BatchCases.{batch_definitions}
 """
-ORDERS = """use lib.ListN.{replicate}
-use Rattle·definition.specs.Prove.{done, refusal}
-use Rattle·batch_definition.specs.Batch.{proveBatch}
-use Rattle·batch_definition.specs.BatchCases.{batchDefinitions}
+ORDERS = """use Rattle.definition.specs.Prove.{done, refusal}
+use Rattle.batch_definition.specs.Batch.{prove_batch}
+use Rattle.batch_definition.specs.BatchCases.{batch_definitions}
 """
-NEAREST = """use lib.ListN.{replicate}
-use Rattle·definition.specs.Prove.{done, refusal}
-use Rattle·nearest_definition.specs.Nearest.{nearest}
-use Rattle·nearest_definition.specs.NearestCases.{nearestDefinitions}
+NEAREST = """use Rattle.definition.specs.Prove.{done, refusal}
+use Rattle.nearest_definition.specs.Nearest.{nearest}
+use Rattle.nearest_definition.specs.NearestCases.{nearest_definitions}
 """
-OPENINGS = """use Rattle·definition.specs.Verdict.{accepted, refused}
-use Rattle·openings.specs.Openings.{verifyOpenings}
-use Rattle·openings.specs.OpeningCases.{definitions}
+OPENINGS = """use Rattle.definition.specs.Verdict.{accepted, refused}
+use Rattle.openings.specs.Openings.{verify_openings}
+use Rattle.openings.specs.OpeningCases.{definitions}
 """
-BUILDER = """use lib.ListN.{replicate}
-use Rattle·definition.specs.Prove.{done, refusal}
-use Rattle·openings.specs.Openings.{buildOpenings}
-use Rattle·openings.specs.OpeningCases.{definitions}
+BUILDER = """use Rattle.definition.specs.Prove.{done, refusal}
+use Rattle.openings.specs.Openings.{build_openings}
+use Rattle.openings.specs.OpeningCases.{definitions}
 """
-DRAWS = """use Rattle·definition.specs.Load.{drawInput}
-use Rattle·definition.specs.LoadCases.{loadDefinitions}
+DRAWS = """use Rattle.definition.specs.Load.{draw_input}
+use Rattle.definition.specs.LoadCases.{load_definitions}
 """
 
 
@@ -84,7 +78,7 @@ def step(line):
     edition, name, file, *outcome, reads = line.split()
     if name == "read":
         return f"reading edition{edition} ({data(file)})", said(*outcome)
-    return f"decideFile edition{edition} ({data(file)})", f"record {{ outcome = {said(*outcome)}; reads = {reads} }}"
+    return f"decide_file edition{edition} ({data(file)})", f"record {{ outcome = {said(*outcome)}; reads = {reads} }}"
 
 
 def written(length, answer, number, place, output):
@@ -98,14 +92,14 @@ def written(length, answer, number, place, output):
 def conversion(line):
     edition, file, *answer, output = line.split()
     before, result = written(*answer, numbers(output))
-    return f"toEdition{edition} ({data(file)}) ({before})", result
+    return f"to_edition{edition} ({data(file)}) ({before})", result
 
 
 def order(line):
     *lists, rest = line.split("|")
     *answer, output = rest.split()
     before, result = written(*answer, numbers(output))
-    return f"proveBatch {arguments(lists)} ({before})", result
+    return f"prove_batch {arguments(lists)} ({before})", result
 
 
 def search(line):
@@ -121,28 +115,28 @@ def arguments(lists):
 def built(line):
     file, *answer, output = line.split()
     before, result = written(*answer, numbers(output))
-    return f"buildOpenings ({data(file)}) ({before})", result
+    return f"build_openings ({data(file)}) ({before})", result
 
 
 def drawn_input(line):
     v, after, *parts = line.split("|")
     sheet, coefficients, coins = (listed(part.split()) for part in parts)
     drawn = f"record {{ sheet = {sheet}; coefficients = {coefficients}; coins = {coins} }}"
-    return f"drawInput {v.strip()}", f"record {{ value = {drawn}; next = {after.strip()} }}"
+    return f"draw_input {v.strip()}", f"record {{ value = {drawn}; next = {after.strip()} }}"
 
 
 def main():
     lines, folder = sys.argv[1:]
     modules = [
-        ("one", "One", VERDICTS + WORKED, "definitions", verdict("verifyIn edition1")),
-        ("two", "Two", VERDICTS + WORKED, "definitions", verdict("verifyIn edition2")),
-        ("steps", "Steps", STEPS + WORKED, "definitions decideFile", step),
+        ("one", "One", VERDICTS + WORKED, "definitions", verdict("verify_in edition1")),
+        ("two", "Two", VERDICTS + WORKED, "definitions", verdict("verify_in edition2")),
+        ("steps", "Steps", STEPS + WORKED, "definitions decide_file", step),
         ("convert", "Conversions", CONVERSIONS + WORKED, "definitions", conversion),
-        ("inputs", "Inputs", DRAWS, "loadDefinitions", drawn_input),
-        ("batches", "Batches", BATCHES + WORKED, "definitions batchDefinitions", verdict("verifyBatch")),
-        ("orders", "Orders", ORDERS + WORKED, "definitions batchDefinitions", order),
-        ("nearest", "Nearest", NEAREST + WORKED, "definitions nearestDefinitions", search),
-        ("openings", "Openings", OPENINGS, "definitions", verdict("verifyOpenings")),
+        ("inputs", "Inputs", DRAWS, "load_definitions", drawn_input),
+        ("batches", "Batches", BATCHES + WORKED, "definitions batch_definitions", verdict("verify_batch")),
+        ("orders", "Orders", ORDERS + WORKED, "definitions batch_definitions", order),
+        ("nearest", "Nearest", NEAREST + WORKED, "definitions nearest_definitions", search),
+        ("openings", "Openings", OPENINGS, "definitions", verdict("verify_openings")),
         ("builder", "Builder", BUILDER, "definitions", built),
     ]
     for name, module, head, unfolded, theorem in modules:

@@ -7,6 +7,7 @@ import sys
 PRIME = 2013265921
 GENERATOR = 31
 SIZE = 4096
+WIDTH = 99
 n0 = int(sys.argv[1])
 
 root = pow(GENERATOR, (PRIME - 1) // SIZE, PRIME)
@@ -18,6 +19,12 @@ taken = powers[:: SIZE // n0]
 step = "The" if n0 == SIZE else f"Every {SIZE // n0}th of the"
 print(f"// {step} {SIZE} powers of {root}, modulo {PRIME}. Written by tools/powers.py {n0}.")
 print(f"pub const POWERS: [u32; {n0}] = [")
+# rt fmt has as many in a line as fit
+line = "   "
 for power in taken:
-    print(f"    {power},")
+    if len(line) + len(f" {power},") > WIDTH:
+        print(line)
+        line = "   "
+    line += f" {power},"
+print(line)
 print("];")

@@ -10,26 +10,26 @@ from collections import defaultdict
 WORD = re.compile(r"[^\s(){}\[\],;.λ\"|]+")
 NAMED = re.compile(r"\s*(?:(?:pub|unfoldable|abbrev)\s+)*(?:([^\s(){}:=]+) :|(?:record|data) ([^\s(){}:=]+)) ")
 CASE, PROVED = re.compile(r"  pub ([^\s:]+) : (.*)"), re.compile(r"  ([^\s:=]+) = ")
-TAKEN = re.compile(r"use Rattle·\w+·specs\.specs\.(\w+)(?:\.\{(.*)\})?")
 
 
 def parts(name):
     """A name and, where it is an operator's, the words between its places."""
-    return {name, *name.split("_")} - {""}
+    return {name, *name.split("◌")} - {""}
 
 
 class Reach:
     def __init__(self, specs):
         self.texts, self.files, self.number, self.lines, self.case, self.cases = [], [], {}, {}, {}, {}
         taken = defaultdict(list)
+        own = re.compile(rf"(?:pub )?use Rattle\.{specs.parent.name}\.specs\.(\w+)(?:\.\{{(.*)\}})?")
         for path in sorted(specs.glob("*.antt")):
             start, case = True, None
             for line, text in enumerate(path.read_text().split("\n"), 1):
                 if not text.strip():
                     start = True
-                elif found := TAKEN.match(text):
+                elif found := own.match(text):
                     taken[path.name].append((found[1] + ".antt", found[2]))
-                elif not re.match(r"use |\s*--", text):
+                elif not re.match(r"(?:pub )?use |\s*--", text):
                     if start:
                         self.texts.append("")
                         self.files.append(path.name)
@@ -53,7 +53,7 @@ class Reach:
         self.known = {file: {word: set(numbers) for word, numbers in declared[file].items()} for file in {*self.files}}
         for file, uses in taken.items():
             for other, names in uses:
-                words = declared[other] if names is None else set().union(*(parts(name.strip()) for name in names.split(",")))
+                words = declared[other] if names is None else set().union(*(parts(name.split(" as ")[0].strip()) for name in names.split(",")))
                 for word in words:
                     self.known[file].setdefault(word, set()).update(declared[other].get(word, set()))
         self.named = [self.names(file, declaration) for file, declaration in zip(self.files, self.texts)]

@@ -1,44 +1,57 @@
-"""What the prover said of a must-fail edit: its errors, and which of them are refusals at a fact.
+"""What the prover said of a must-fail edit: its errors and open goals, and which of them are refusals at a fact.
 
-At a fact: two types, sides or values differ, `omega` has numbers at which a goal fails, `search` finds no proof, `rw` finds nothing to rewrite, or it or `simp` leaves
-something open. Of shape is whatever else the prover says of a text that it cannot read or that does not fit: no expression where one is expected, a name that is not in scope
-or not there, such as a need of code of another shape, a tuple or a part of one where the type has none. So are two that differ where the needs of a function are put
-together, in its `-spec`, since then there are others than the proof has, and an equation where an order is wanted, or an order for an equation. An error that
-only says that something else was not admitted is neither: it passes another one on.
+At a fact: a goal of the code is not proved, two types, sides or values differ, `omega` has numbers at which a goal fails, `search`, `grind` or `cc` finds no proof, `rw` finds
+nothing to rewrite, or it or `simp` leaves something open. Of shape is whatever else the prover says of a text that it cannot read or that does not fit: no expression
+where one is expected, a name that is not in scope, a tuple or a part of one where the type has none. So is an equation where an order is wanted, or an order for an
+equation. Neither is an error that only says that something else was not admitted, which passes another one on, nor one of a name that a proof has of the code as it
+was, since Rattle makes such names from the code's text, so that `x < 3` and `x < 4` have others: it shows nothing of a wrong answer.
+
+Refusals reads the whole of what a check said; Told reads what rt ci and rt must-fail say of each edit: one line, with the first of these alone.
 """
 import re
 from typing import NamedTuple
 
-ERROR = re.compile(r"^(\S+?):(\d+):\d+: error(?:\[[\w-]+\])?: (?:`([^`]*)`: )?(.*(?:\n  .*)*)", re.M)
+AT = r"(?:\./)?(\S+?):(\d+):\d+: "
+ERROR = re.compile(rf"^{AT}error(?:\[[\w-]+\])?: (?:`([^`]*)`: )?(.*(?:\n  .*)*)", re.M)
+GOAL = re.compile(rf"^note: {AT}(it is not proved that .*)", re.M)
 TREE = re.compile(r"(?:^|.*/)((?:src|specs|proofs)/.*)")
 FACT = re.compile(
     r"as printed, the two (?:types|sides|values) "
     r"|computed as far as they go, the two (?:types|sides|values) "
     r"|expected type `"
     r"|`omega`: the (?:goal|part `[^`]*` of the goal) does not follow "
-    r"|`search`: no proof of "
+    r"|`(?:search|grind|cc)`: no proof of "
+    r"|`(?:search|grind|cc|omega)`? gave up "
     r"|`rw`: no occurrence of "
     r"|give a proof of that as the last argument, `(?:rw|simp)"
 )
+GONE = re.compile(r"`[^`]*`(?:: module `[^`]*`)? (?:has no field|has no `|is not in scope)|(?:record|module) `[^`]*` has no ")
 WHOLE = re.compile(
     r"the two types are `([^`]*)` \(expected\) and `([^`]*)` \(found\)"
     r"|one has `([^`]*)` \(expected\), at the start, and the other has `([^`]*)` \(found\)"
 )
-EQUATION, ORDER = re.compile(r"(?:\S*\.)?(?:Path|_≡_)(?=\s|$)"), re.compile(r"(?:\S*\.)?(?:_≤_|_<_)(?=\s|$)")
-UNCLOSED = re.compile(r"^fn (\w+)::(?:\w+::)*(\w+): no proof.*`search` does not close", re.M)
+EQUATION, ORDER = re.compile(r"(?:\S*\.)?(?:Path|◌≡◌)(?=\s|$)"), re.compile(r"(?:\S*\.)?(?:◌≤◌|◌<◌)(?=\s|$)")
+UNCLOSED = re.compile(r"^fn (\w+)::(?:\w+::)*(\w+): .*`search` did not prove ", re.M)
+TOLD = re.compile(r"^(?:rt: )?must-fail (\w+)/([\w.-]+)\.edit: (.*)", re.M)
+PLACE = re.compile(rf"refused, as it must be[^:]*: (?:note: )?{AT}")
 
 
 class Error(NamedTuple):
     path: str  # below the crate's folder
     line: int
     said: str
-    kind: str  # fact, shape or passed on
+    kind: str  # fact, shape, name or passed on
 
     @property
     def function(self):
         """The function whose own proof it is in."""
         found = re.fullmatch(r"proofs/(?:\w+/)*\+?(\w+)/\w+\.antt", self.path)
         return found and found[1]
+
+
+def below(path):
+    found = TREE.match(path)
+    return found[1] if found else path
 
 
 def other_relation(said):
@@ -50,27 +63,45 @@ def other_relation(said):
     return any(EQUATION.match(one) and ORDER.match(other) for one, other in (sides, sides[::-1]))
 
 
-def kind(declaration, said):
-    if "was not admitted" in said.split("\n")[0]:
+def kind(path, said):
+    first = said.split("\n")[0]
+    if "was not admitted" in first:
         return "passed on"
-    return "fact" if FACT.match(said) and not declaration.endswith("-spec") and not other_relation(said) else "shape"
+    if path.startswith("proofs/") and GONE.search(first):
+        return "name"
+    return "fact" if FACT.match(said) and not other_relation(said) else "shape"
 
 
 class Refusals:
     def __init__(self, log):
         self.proved = not re.search(r"^logic=not-proved", log, re.M)
-        self.errors = []
-        for path, line, declaration, said in ERROR.findall(log):
-            below = TREE.match(path)
-            self.errors.append(Error(below[1] if below else path, int(line), said.split("\n")[0], kind(declaration, said)))
-        # A function that has no proof file is proved by `search`.
+        self.errors = [Error(below(path), int(line), said.split("\n")[0], kind(below(path), said)) for path, line, _, said in ERROR.findall(log)]
+        # what is left to prove of the code, at the line that asks for it
+        self.errors += [Error(below(path), int(line), said, "fact") for path, line, said in GOAL.findall(log)]
+        # A function that has no answers for some goals is proved by `search`.
         self.unclosed = {function for _, function in UNCLOSED.findall(log)}
-
-    def of_function(self, function):
-        return [error for error in self.errors if error.function == function]
 
     def facts(self):
         return [error for error in self.errors if error.kind == "fact"]
 
     def shapes(self):
         return [error for error in self.errors if error.kind == "shape"]
+
+
+class Told:
+    """What one line says of an edit: whether it was refused, what is wrong with that, and the place of the first refusal."""
+
+    def __init__(self, said):
+        self.fault, self.place = "", None
+        if not said.startswith("refused, as it must be"):
+            self.fault = f"rt says {said[:120]}"
+        elif "only because a proof file names" in said:
+            self.fault = "it is refused for a name alone that a proof file has"
+        elif at := PLACE.match(said):
+            self.place = Error(below(at[1]), int(at[2]), "", "fact")
+        self.by_limit = "only by a limit" in said
+
+
+def told(log):
+    """What a run of rt says of the edits, by crate and name."""
+    return {(crate, name): Told(said) for crate, name, said in TOLD.findall(log)}

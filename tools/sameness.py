@@ -5,8 +5,8 @@ It sees no more than that: a line that it takes for another may still mean the s
 import re
 
 CODE = re.compile(r"\d\w*|\w+(?:::\w+)*|<<|>>|<=|>=|==|!=|&&|\|\||=>|->|[-+*/%^|&]=|\S")
-FORMAL = re.compile(r"[(){}\[\],;⌜⌝]|[^\s(){}\[\],;⌜⌝]+")
-OPEN, CLOSE = "([{⌜", ")]}⌝"
+FORMAL = re.compile(r"[(){}\[\],;]|[^\s(){}\[\],;]+")
+OPEN, CLOSE = "([{", ")]}"
 PARTS = set("if else while let mut return match loop for in break continue => = += -= *= /= ; , : λ → ↔ ensures requires where".split())
 # From the loosest on; in a class of which only the first is used, the order of operands does not count.
 LEVELS = [["||"], ["&&"], ["×"], ["≡"], ["=="], ["!="], ["<", "<=", ">", ">=", "≤", "≥"], ["|"], ["^"], ["&"], ["<<", ">>"], ["++"], ["∷"], ["+", "-"], ["*", "/", "%"]]
@@ -97,7 +97,7 @@ def form(sequence):
         only = sequence[0]
         if isinstance(only, list):
             inner = form(only[1:])
-            return inner if only[0] in "(⌜" else ("group", only[0], inner)
+            return inner if only[0] == "(" else ("group", only[0], inner)
         return ("number", int(only)) if only.isdigit() else ("name", only)
     return ("all", *(form([part]) for part in sequence))
 

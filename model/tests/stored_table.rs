@@ -8,11 +8,13 @@ use tevrolig_model::field::Field;
 const TABLE: &str = include_str!("../../crates/powers/src/table.rt");
 const FEW: &str = include_str!("../../crates/powers/src/few.rt");
 
-/// The numbers of such a source, each in a line of its own with a comma.
+/// The numbers of such a source: some in a line, each with a comma behind it.
 fn numbers(source: &str) -> Vec<u64> {
     source
         .lines()
-        .filter_map(|line| line.trim().strip_suffix(',')?.parse().ok())
+        .filter_map(|line| line.trim().strip_suffix(','))
+        .flat_map(|line| line.split(", "))
+        .map(|number| number.parse().unwrap())
         .collect()
 }
 

@@ -3,7 +3,7 @@
 //! The archive's functions are proved against the written definition for every input; they allocate nothing and keep no state. What
 //! stands here only hands slices over and names the answers: it has no rule of its own.
 //!
-//! To depend on it, write the archive with `rt staticlib tevrolig` at the top of the repository, and name this folder in `Cargo.toml`:
+//! To depend on it, write the archive with `tools/archive` at the top of the repository, and name this folder in `Cargo.toml`:
 //! `tevrolig = { path = "../tevrolig/rust" }`. Where the archive stands elsewhere, as after `tools/install`, the environment variable
 //! `TEVROLIG_LIB_DIR` names its folder (`TEVROLIG_LIB_DIR=/usr/local/lib cargo build`).
 //!
