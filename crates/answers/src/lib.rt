@@ -1,5 +1,7 @@
 // G of a round, and the first final index at which the final polynomial differs, with places of their own for the fractions: numerators and denominators. There are
 // three sizes, so that a small round is spared the clearing of many places.
+#![tactic(auto)]
+
 ghost use Rattle.std.specs.Prelude.{◌≡◌, ◌+◌, ◌*◌, ◌≤◌, length};
 ghost use Rattle.spelling.specs.ByField.{elements_at, words_at};
 ghost use Rattle.elements.specs.Meaning.{value_at};

@@ -1,5 +1,7 @@
 // The nearest polynomial to table 0 of a sheet: an order is refused with number and place and no word is written, or the coefficients, the count of the points
 // where they differ from the table, and the numbers of these points stand at the front of the output.
+#![tactic(auto)]
+
 ghost use Rattle.std.specs.Prelude.{◌≡◌, ◌+◌, ◌-◌, ◌/◌, ◌≤◌, length, get_or};
 ghost use Rattle.definition.specs.Reading.{sheet_test};
 ghost use Rattle.definition.specs.Sheet.{edition1, sheet_of};

@@ -1,4 +1,6 @@
 // What an operation answers as numbers, for callers from C, by value: whoever is lent places writes them himself, since a loan passed on makes a proof longer.
+#![tactic(auto)]
+
 ghost use Rattle.std.specs.Prelude.{◌≡◌};
 ghost use Rattle.field.specs.Answer.{element_of, powered_of, inverted_of};
 ghost use Rattle.outcome.specs.Meaning.{answer_of, outcome_of, verdict_of};

@@ -13,10 +13,10 @@ ghost use Rattle.spelling.specs.ByField.{field_at, elements_at, words_at};
 ghost use Rattle.root_quotients.specs.Rooted.{Rooted, vanishing_in, numerator_in};
 
 // Places for the values at the roots of a shift point, at most 16.
-const ROOTS: usize = 16;
+pub const ROOTS: usize = 16;
 
 // The same for values of four words.
-const FOUR_ROOTS: usize = 64;
+pub const FOUR_ROOTS: usize = 64;
 
 // The values of a polynomial at the k roots of a point, whose powers are given, into the first k words of out. Its coefficients are the first words of f, k for each
 // power. The roots stand in pw from place `at` on, step places apart. k sums of products give a polynomial of k coefficients that has its values there, and its

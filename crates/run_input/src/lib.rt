@@ -1,4 +1,6 @@
 // What a run of the stated load draws: a sheet of edition 1, then its coefficients, then its coins.
+#![tactic(auto)]
+
 ghost use Rattle.std.specs.Prelude.{◌≡◌, ℕ, ◌≤◌, ◌<◌, length, get_or, take};
 ghost use Rattle.definition.specs.Layout.{coin_kinds, layout};
 ghost use Rattle.definition.specs.Load.{draw_input, draw_sheet};
