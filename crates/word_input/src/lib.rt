@@ -6,19 +6,29 @@ ghost use Rattle.definition.specs.Sheet.{sheet_length};
 ghost use Rattle.edition.specs.Meaning.{edition_of};
 ghost use Rattle.outcome.specs.Meaning.{answer_of};
 ghost use Rattle.list_laws.specs.Overwriting.{overwrite};
-ghost use Rattle.word_input.specs.Input.{words_of, place_words, take_words, sheet_part, coefficient_words, coefficients_part, coins_part};
+ghost use Rattle.word_input.specs.Input.{taken as taken_of, words_of, place_words, take_words, sheet_part, coefficient_words, coefficients_part, coins_part};
 
 use edition::Edition;
 use outcome::Answer;
 
-// The bytes that count: the first `most`, or all.
-fn taken(bytes: &[u8], most: usize) -> &[u8]
-    ensures { result.now ≡ take most bytes.now }
+// The bytes that count: the first 16,384, or all.
+fn taken(bytes: &[u8]) -> &[u8]
+    ensures { result.now ≡ taken_of bytes.now }
 {
-    if bytes.len() <= most {
+    if bytes.len() <= 16384 {
         return bytes;
     }
-    &bytes[..most]
+    &bytes[..16384]
+}
+
+// The bytes that count of an order for a batch: the first 32,768, or all.
+fn taken_of_a_batch(bytes: &[u8]) -> &[u8]
+    ensures { result.now ≡ take 32768 bytes.now }
+{
+    if bytes.len() <= 32768 {
+        return bytes;
+    }
+    &bytes[..32768]
 }
 
 // The words of the bytes, at the front of the output.
@@ -52,7 +62,7 @@ pub fn words(bytes: &[u8], output: &mut [u32; 4096]) -> Answer
     ensures result_value { answer_of result ≡ (take_words bytes.now output.old).answer }
     ensures output_after { output.new ≡ (take_words bytes.now output.old).output }
 {
-    whole_words(taken(bytes, 16384), output)
+    whole_words(taken(bytes), output)
 }
 
 // The words of an input that is an order for a batch, of which twice as many bytes count.
@@ -60,7 +70,7 @@ pub fn batch_words(bytes: &[u8], output: &mut [u32; 8192]) -> Answer
     ensures result_value { answer_of result ≡ (place_words (take 32768 bytes.now) output.old).answer }
     ensures output_after { output.new ≡ (place_words (take 32768 bytes.now) output.old).output }
 {
-    whole_words(taken(bytes, 32768), output)
+    whole_words(taken_of_a_batch(bytes), output)
 }
 
 // The first `count` words, or all.

@@ -8,6 +8,7 @@ use Rattle.word_input.specs.Input.{place_words, taken}
 use Rattle.word_input.proofs.words.Goals as goal
 
 pub whole_words-requires : goal.whole_words-requires
+unfolding taken
 whole_words-requires c =
     let a = c.args in
     let long : length a.output.now ≡ 4096 = search rules in
