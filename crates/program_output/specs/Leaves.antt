@@ -17,7 +17,7 @@ pub record Leaves (answer : Answer) (r : Written) : Type 0 where
 
 -- an operation whose answer and output are the definition's, on an output of as many bytes as every file fits in
 module _ {most : ℕ} {result : List ℕ → Result} {before after : List ℕ} {answer : Answer} (alike : Alike most result) (long : length before ≡ most) (gives : Gives result before answer after) where
-  left_fits : (n : ℕ) → answer ≡ done n → 512 * n ≤ most
+  pub left_fits : (n : ℕ) → answer ≡ done n → 512 * n ≤ most
   left_fits n e = omega (arith, alike.fits before n (sym gives.answer ∙ e), long)
 
   pub left_small : most ≤ 65536 → (n : ℕ) → answer ≡ done n → 512 * n ≤ 65536
