@@ -22,10 +22,10 @@ use quartic::FourInverse;
 // The number of this interface, of which the symbol's name has it too: the header and the Rust interface refer to the symbol, so that neither links with an archive
 // of another number.
 #[unsafe(no_mangle)]
-pub extern "C" fn tevrolig_interface_13() -> u32
-    ensures { result ≡ 13 }
+pub extern "C" fn tevrolig_interface_10() -> u32
+    ensures { result ≡ 10 }
 {
-    13
+    10
 }
 
 // Judges a file of edition 1. Answers 0 for accepted, else the fault's number, and writes the fault's place (0 where accepted) and the count of reads.
