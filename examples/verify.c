@@ -1,7 +1,7 @@
 /* Verifies the file named on the command line, or standard input, and says what the verdict means:
  * `verify [-r | -d] [-2] [FILE]`, where -r is for the first of verify's two steps, reading, -d for the second, deciding, and
- * -2 for a file of edition 2; or `verify -b [FILE]` for a batch, `verify -o [FILE]` for an opening file. The exit status is
- * 0 for accepted, 1 for refused, 2 where the file cannot be read.
+ * -2 for a file of edition 2; or `verify -b [FILE]` for a batch. The exit status is 0 for accepted, 1 for refused, 2 where
+ * the file cannot be read.
  *
  * To build it, at the top of the repository, after `tools/archive`; or anywhere, after `tools/install`:
  *
@@ -13,11 +13,8 @@
 
 #include "tevrolig.h"
 
-/* A file is read so far and no further, as the programs `check` and `check-openings` do it: no accepted file is so long. */
+/* A file is read so far and no further, as the program `check` does it: no accepted file is so long. */
 #define MAX_BYTES 65536
-#define MAX_OPENING_BYTES (TEVROLIG_BLOCK_BYTES * (TEVROLIG_MAX_OPENING_BLOCKS + 1))
-
-static uint8_t file[MAX_OPENING_BYTES];
 
 /* Edition 1 has the first twelve. */
 static const char *const SHEET_WORD[TEVROLIG_SHEET_WORDS_2] = {
@@ -25,7 +22,7 @@ static const char *const SHEET_WORD[TEVROLIG_SHEET_WORDS_2] = {
     "k_1", "k_2", "k_3", "k_4", "k_5", "the edition"};
 
 /* One sentence on a refusal. */
-static void explain(size_t length, uint32_t number, uint64_t place)
+static void explain(const uint8_t *file, size_t length, uint32_t number, uint64_t place)
 {
     /* For the numbers 5, 6, 7 and 14 the place is a word's number, and the file has that word. For others it may have none,
      * and then nothing is written. What 15 is about stands after the sheet: the number of tables, and then the bounds. */
@@ -55,19 +52,13 @@ static void explain(size_t length, uint32_t number, uint64_t place)
         printf("Word %" PRIu64 " of the stream is %" PRIu32 ", which is out of range.\n", place, word);
         break;
     case TEVROLIG_FILL:
-        printf("Word %" PRIu64 " has no use and is %" PRIu32 ", not 0.\n", place, word);
+        printf("Word %" PRIu64 " comes after the stream's end and is %" PRIu32 ", not 0.\n", place, word);
         break;
     case TEVROLIG_OUT_COIN:
         printf("Word %" PRIu64 " of the stream is %" PRIu32 ", an out coin inside its round's domain.\n", place, word);
         break;
     case TEVROLIG_EQUAL_OUT:
         printf("Word %" PRIu64 " of the stream is %" PRIu32 ", as is the out coin before it in its round.\n", place, word);
-        break;
-    case TEVROLIG_OPENINGS:
-        printf("The openings are not those of the places used, from opening %" PRIu64 " on.\n", place);
-        break;
-    case TEVROLIG_PATH:
-        printf("The path of opening %" PRIu64 " misses its table's root.\n", place);
         break;
     case TEVROLIG_CLASH:
         printf("In round %" PRIu64 " two equal points have different values.\n", place);
@@ -78,11 +69,11 @@ static void explain(size_t length, uint32_t number, uint64_t place)
     }
 }
 
-/* What is asked of a file: verify, or one of its steps; or verify as a batch or an opening file. */
-enum step { VERIFY, READ, DECIDE, BATCH, OPENINGS };
+/* What is asked of a file: verify, or one of its steps; or verify as a batch. */
+enum step { VERIFY, READ, DECIDE, BATCH };
 
 /* The answer to it, in the edition given; reading has no reads. */
-static uint32_t answer(enum step step, int edition, size_t length, uint64_t *place, uint64_t *reads)
+static uint32_t answer(enum step step, int edition, const uint8_t *file, size_t length, uint64_t *place, uint64_t *reads)
 {
     switch (step) {
     case READ:
@@ -90,8 +81,6 @@ static uint32_t answer(enum step step, int edition, size_t length, uint64_t *pla
         return edition == 2 ? tevrolig_read_2(file, length, place) : tevrolig_read(file, length, place);
     case BATCH:
         return tevrolig_verify_batch(file, length, place, reads);
-    case OPENINGS:
-        return tevrolig_verify_openings(file, length, place, reads);
     case DECIDE:
         return edition == 2 ? tevrolig_decide_2(file, length, place, reads) : tevrolig_decide(file, length, place, reads);
     default:
@@ -102,7 +91,7 @@ static uint32_t answer(enum step step, int edition, size_t length, uint64_t *pla
 int main(int argc, char **argv)
 {
     enum step step = VERIFY;
-    int edition = 1, alone = 0, known = 1, next = 1;
+    int edition = 1, batch = 0, known = 1, next = 1;
     for (; next < argc && argv[next][0] == '-'; next++) {
         if (strcmp(argv[next], "-r") == 0)
             step = READ;
@@ -110,15 +99,14 @@ int main(int argc, char **argv)
             step = DECIDE;
         else if (strcmp(argv[next], "-2") == 0)
             edition = 2;
-        else if (strcmp(argv[next], "-b") == 0 || strcmp(argv[next], "-o") == 0) {
-            step = argv[next][1] == 'b' ? BATCH : OPENINGS;
-            alone = 1;
-        } else
+        else if (strcmp(argv[next], "-b") == 0)
+            batch = 1;
+        else
             known = 0;
     }
-    /* Of a batch and of an opening file there are neither steps nor editions. */
-    if (!known || (alone && next > 2)) {
-        fprintf(stderr, "usage: verify [-r | -d] [-2] [FILE], or verify -b [FILE], or verify -o [FILE]\n");
+    /* Of a batch there are neither steps nor editions. */
+    if (!known || (batch && next > 2)) {
+        fprintf(stderr, "usage: verify [-r | -d] [-2] [FILE], or verify -b [FILE]\n");
         return 2;
     }
     const char *name = next < argc ? argv[next] : NULL;
@@ -127,7 +115,8 @@ int main(int argc, char **argv)
         perror(name);
         return 2;
     }
-    size_t length = fread(file, 1, step == OPENINGS ? MAX_OPENING_BYTES : MAX_BYTES, input);
+    uint8_t file[MAX_BYTES];
+    size_t length = fread(file, 1, sizeof file, input);
     if (ferror(input)) {
         perror(name != NULL ? name : "standard input");
         return 2;
@@ -135,12 +124,12 @@ int main(int argc, char **argv)
     fclose(input);
 
     uint64_t place, reads;
-    uint32_t number = answer(step, edition, length, &place, &reads);
+    uint32_t number = answer(batch ? BATCH : step, edition, file, length, &place, &reads);
     const char *outcome = number == TEVROLIG_ACCEPTED ? "accepted" : "refused";
     /* As `check` prints it; the reads are the different table places opened. */
     printf("%s %" PRIu32 " %" PRIu64 " %" PRIu64 "\n", outcome, number, place, reads);
     if (number == TEVROLIG_ACCEPTED)
         return 0;
-    explain(length, number, place);
+    explain(file, length, number, place);
     return 1;
 }

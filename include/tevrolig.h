@@ -1,5 +1,5 @@
-/* Tevrolig: the verifier for STIR transcripts, the prover that it answers, the builder of opening files, and the four
- * fields below them, called from C.
+/* Tevrolig: the verifier for STIR transcripts, the prover that it answers, and the four fields below them, called from
+ * C.
  *
  * The functions stand in libtevrolig.a, which `tools/archive` writes to target/staticlib for x86-64 Linux. They
  * call memcpy and memset and nothing else from outside. They are proved against the written definition: on every input
@@ -28,8 +28,8 @@
  *   `turns` are written where the function answers 0; else nothing is written there, and they keep what they had.
  * - The stack that a call takes is bounded: below TEVROLIG_VERIFY_STACK bytes for tevrolig_verify and tevrolig_decide,
  *   below TEVROLIG_READ_STACK for tevrolig_read, likewise for prove, encode and the converters, in both editions, for the
- *   two functions of batches, for tevrolig_nearest and for the two functions of opening files, below TEVROLIG_SHA256_STACK
- *   for tevrolig_sha256, and below 1,024 for all others. This is measured, not proved.
+ *   two functions of batches, for tevrolig_nearest and for those of the device, and below 1,024 for all others. This is
+ *   measured, not proved.
  *
  * Words are unsigned 32-bit numbers. Numbers, places and positions count from 0.
  *
@@ -40,8 +40,7 @@
  * There are two editions of a file, with a sheet of 12 words and one of 18. A file does not say of which it is: the
  * caller does, by the function that is called. Those without an edition in their name are of edition 1. A batch, with
  * several polynomials in one run, is a kind of file of its own: it has a sheet of edition 1, and is verified and proved by
- * tevrolig_verify_batch and tevrolig_prove_batch alone. So is an opening file, with roots in the place of tables, which
- * tevrolig_verify_openings and tevrolig_build_openings are for.
+ * tevrolig_verify_batch and tevrolig_prove_batch alone.
  *
  * THE EDITION, AND EACH KIND OF FILE THAT A REQUEST ADDS, IS FIXED OUTSIDE THE FILE: NEVER TRY ONE AND THEN THE OTHER. One
  * file may be accepted as both editions with two meanings, that is, with another table 0, another fold coin and another
@@ -60,11 +59,11 @@ extern "C" {
 
 /* The version; rust/Cargo.toml and tevrolig.pc have the same, which tools/try-install checks. Its second number is that of
  * the interface: one more for each change to what a function answers or writes (CHANGELOG.md says what to change). */
-#define TEVROLIG_VERSION "0.13.0"
+#define TEVROLIG_VERSION "0.10.0"
 
 /* Answers the interface's number. Every object file that this header is compiled into refers to it, whatever else it calls,
  * so that it does not link with an archive of another interface: the linker then names the function that it misses. */
-uint32_t tevrolig_interface_13(void);
+uint32_t tevrolig_interface_10(void);
 
 #ifdef __has_attribute
 #if __has_attribute(retain)
@@ -74,18 +73,16 @@ uint32_t tevrolig_interface_13(void);
 #ifndef TEVROLIG_RETAIN
 #define TEVROLIG_RETAIN
 #endif
-static uint32_t (*const tevrolig_interface)(void) __attribute__((used)) TEVROLIG_RETAIN = tevrolig_interface_13;
+static uint32_t (*const tevrolig_interface)(void) __attribute__((used)) TEVROLIG_RETAIN = tevrolig_interface_10;
 #undef TEVROLIG_RETAIN
 
 /* A file is blocks of 512 bytes: 127 words of the stream, each least significant byte first, and a check word. */
 #define TEVROLIG_BLOCK_BYTES 512
 #define TEVROLIG_BLOCK_WORDS 127
 
-/* No file with more blocks is accepted, and no file that is proved or converted needs more; of batches, and of opening files
- * that are accepted or built, so many more. */
+/* No file with more blocks is accepted, and no file that is proved or converted needs more; of batches so many more. */
 #define TEVROLIG_MAX_BLOCKS 67
 #define TEVROLIG_MAX_BATCH_BLOCKS 99
-#define TEVROLIG_MAX_OPENING_BLOCKS 1199
 
 /* No batch has more tables. */
 #define TEVROLIG_MAX_TABLES 8
@@ -95,6 +92,10 @@ static uint32_t (*const tevrolig_interface)(void) __attribute__((used)) TEVROLIG
 
 /* No polynomial that is found as the nearest, with the points where it differs, takes more words. */
 #define TEVROLIG_MAX_NEAREST 3073
+
+/* The words of a device's state, and the bytes of its buffer. */
+#define TEVROLIG_DEVICE_WORDS 1160
+#define TEVROLIG_DEVICE_BUFFER 65536
 
 /* The sheet:
  *
@@ -130,9 +131,7 @@ static uint32_t (*const tevrolig_interface)(void) __attribute__((used)) TEVROLIG
 #define TEVROLIG_VERIFY_BATCH_STACK 196608
 #define TEVROLIG_PROVE_BATCH_STACK 131072
 #define TEVROLIG_NEAREST_STACK 131072
-#define TEVROLIG_VERIFY_OPENINGS_STACK 196608
-#define TEVROLIG_BUILD_OPENINGS_STACK 196608
-#define TEVROLIG_SHA256_STACK 4096
+#define TEVROLIG_DEVICE_STACK 131072
 
 /* What the functions answer: 0, or why not. The place that belongs to each number stands at the function. */
 enum {
@@ -141,9 +140,9 @@ enum {
     TEVROLIG_LENGTH = 1,     /* the file is empty, or its length is no multiple of 512 bytes */
     TEVROLIG_CHECK = 2,      /* a block's check word is wrong */
     TEVROLIG_SHEET = 3,      /* a sheet word breaks its rule */
-    TEVROLIG_BLOCKS = 4,     /* the sheet, with the number of openings, needs another number of blocks */
+    TEVROLIG_BLOCKS = 4,     /* the sheet needs another number of blocks */
     TEVROLIG_RANGE = 5,      /* a word after the sheet is out of range: not below p, or no index that is due */
-    TEVROLIG_FILL = 6,       /* a word after the end of the stream, or of an unused node, is not zero */
+    TEVROLIG_FILL = 6,       /* a word after the end of the stream is not zero */
     TEVROLIG_OUT_COIN = 7,   /* an out coin of round i lies in domain i */
     TEVROLIG_CLASH = 8,      /* two equal points of a round have different values */
     TEVROLIG_FINAL = 9,      /* the final polynomial differs from the fold at a final index's point */
@@ -152,8 +151,7 @@ enum {
     TEVROLIG_FOLDS = 13,     /* the folding numbers differ, so that there is no such file of edition 1 */
     TEVROLIG_EQUAL_OUT = 14, /* two out coins of a round are equal */
     TEVROLIG_BATCH = 15,     /* the number of a batch's tables breaks its rule, or one of their bounds */
-    TEVROLIG_PATH = 17,      /* the path of an opening misses its table's root */
-    TEVROLIG_OPENINGS = 18,  /* the openings are not exactly those of the places used */
+    TEVROLIG_DEVICE = 16,    /* the device refuses the call, or a length is another */
     TEVROLIG_NOT_NEAR = 19,  /* no polynomial is so near to the table */
 
     /* of word and the field operations; no refusals of a file or an input, and so apart from those */
@@ -286,43 +284,6 @@ uint32_t tevrolig_to_edition_2(const uint8_t *file, size_t length, uint8_t *outp
 uint32_t tevrolig_to_edition_1(const uint8_t *file, size_t length, uint8_t *output, size_t output_length,
                                uint64_t *value);
 
-/* An opening file is for whoever cannot carry whole tables. It has a sheet of 12 words. Its stream is that of a plain file
- * with eight words in the place of each table, the root of its tree; after the final indices come the number of openings
- * and the openings, one for each place that a shift or final coin reaches, by table and then by point. An opening has a
- * table number, a point number, the entry's word or four, and log2(n0) sibling nodes of eight words from the leaf up, of
- * which the last i have no use in table i and are zero. A leaf is the SHA-256 of a byte 0 and the entry's bytes as they
- * stand in the file, in the order of the points; a node that of a byte 1 and its two children, the one of the lower points
- * first. The bytes of a hash stand in the file in their order.
- *
- * Verifies an opening file of any length and content. Answers and writes as tevrolig_verify does, and 18 and 17 after 14
- * and before 8, with 0 reads:
- *
- *   number   place
- *   4        the blocks needed by the sheet and by the number of openings given; in a file too short to hold that number
- *            the blocks up to and with the one that would
- *   5        as in tevrolig_verify; no root, node, number of openings, table number or point number is tested
- *   6        the first word of an unused node, opening after opening, or of the fill; for a table number above M no node is
- *            unused
- *   18       the number of openings before the first that is not the one due there, or is missing, or is one too many
- *   17       the number of openings before the first whose path misses the root
- *
- * The stream that numbers and places count is the opening file's own. Of a file that passes 18 and 17 the answer from 8 on,
- * and the reads, are those of a plain file with the opened entries. One of more than TEVROLIG_MAX_OPENING_BLOCKS blocks is
- * never accepted. */
-uint32_t tevrolig_verify_openings(const uint8_t *file, size_t length, uint64_t *place, uint64_t *reads);
-
-/* Writes the opening file of a full file of edition 1 that tevrolig_verify accepts: tevrolig_verify_openings accepts it
- * with the same reads, which are as many as its openings. Answers 0 for done: `value` is the number of blocks, which stand
- * at the front of the output, and the bytes after them are as before. Else it answers the number of the first test that
- * fails, and no byte of the output is written: 1 to 9 and 14 as tevrolig_verify refuses the file, with the place in
- * `value`, then 11 with the number of blocks needed. So an output of size 0 asks for the size, and
- * TEVROLIG_MAX_OPENING_BLOCKS blocks are enough for every file. */
-uint32_t tevrolig_build_openings(const uint8_t *file, size_t length, uint8_t *output, size_t size, uint64_t *value);
-
-/* Writes the 32 bytes of a message's SHA-256 (FIPS 180-4). Of a message of 2^61 bytes or more the length counts modulo
- * 2^61. */
-void tevrolig_sha256(const uint8_t *message, size_t length, uint8_t out[32]);
-
 /* Writes table 0 alone, the values of the polynomial at the n0 points of domain 0. Answers 0 for done: `value` is the
  * number of words written, n0 or in field 3 4*n0, and the words after them are as before. Else it answers the number of
  * the first test that fails, and no word of the output is written: 10 with 0, 3, 10 with 1 and 5 as in tevrolig_prove,
@@ -349,6 +310,34 @@ uint32_t tevrolig_encode(const uint32_t *sheet, size_t sheet_length, const uint3
  * So an output of length 0 asks for the size, and TEVROLIG_MAX_NEAREST words are enough for every input. */
 uint32_t tevrolig_nearest(const uint32_t *sheet, size_t sheet_length, const uint32_t *table, size_t table_length,
                           uint32_t *output, size_t output_length, uint64_t *value);
+
+/* A device: verify of edition 1 behind registers of a byte each, whose state of TEVROLIG_DEVICE_WORDS words and whose
+ * buffer of TEVROLIG_DEVICE_BUFFER bytes are lent to each call. Here are its registers and its start alone: the call that
+ * goes on with a run, coin by coin, is not part of this version.
+ *
+ *   register   written                                       read
+ *   0          1 starts: the bytes taken are read; 2 clears  0
+ *   1                                                        bit 0: busy; bit 1: done
+ *   2          bit 0: interrupt enable                       the same
+ *   3          a 1 in bit 0 clears the interrupt flag        the flag, which done sets
+ *   4                                                        the number of the refusal, 0 where there is none
+ *   5 to 8                                                   its place, low byte first
+ *   9          a byte of the file                            0
+ *
+ * Fresh: nothing taken, neither busy nor done. Answers 0; or TEVROLIG_DEVICE where the state has another length, and the
+ * words are as before. */
+uint32_t tevrolig_device_fresh(uint32_t *state, size_t state_length);
+
+/* Writes a byte to a register. Answers 0, with 0 in `place`; or TEVROLIG_DEVICE, and both state and buffer are as before:
+ * 2 in `place` where the state or the buffer has another length, 0 for a byte of the file or a start while busy, 1 for a
+ * byte of the file where the buffer is full. */
+uint32_t tevrolig_device_write(uint32_t *state, size_t state_length, uint8_t register_number, uint8_t value,
+                               uint8_t *buffer, size_t buffer_length, uint64_t *place);
+
+/* A register read, and the interrupt line, 1 where both the flag and the enable are set. 0 where the state has another
+ * length. */
+uint8_t tevrolig_device_read(const uint32_t *state, size_t state_length, uint8_t register_number);
+uint8_t tevrolig_device_line(const uint32_t *state, size_t state_length);
 
 /* The operations of a field of one word, given by its number as in word 0 of the sheet: 0, 1 or 2. They take a and b
  * modulo p first, so any words will do; an exponent is taken as it is. 0 to the power 0 is 1. Each answers 0 for done, and

@@ -1,7 +1,6 @@
 /* Measures how much stack calls take, of verify, its two steps and the converter, in both editions, of verify as a batch, and of tevrolig_word and tevrolig_sheet_of,
  * on each file named and on what is proved here; of prove, in both editions and of batches, and tevrolig_encode on the largest inputs; of tevrolig_nearest on tables of
- * every n0 and d0; of the builder of opening files and of their verify on what is proved and built here, and of tevrolig_sha256; and of the field operations. It fails
- * where one is not below the header's figure. A call runs on a stack of its own, painted before, and the deepest byte that lost its paint is looked for. */
+ * every n0 and d0; and of the field operations. It fails where one is not below the header's figure. A call runs on a stack of its own, painted before, and the deepest byte that lost its paint is looked for. */
 #include <stdio.h>
 #include <stdlib.h>
 #include <string.h>
@@ -27,8 +26,10 @@ static const uint32_t SHEETS[SHEET_COUNT][TEVROLIG_SHEET_WORDS_2] = {
 /* One that has room for the most tables. */
 static const uint32_t MANY_TABLES[TEVROLIG_SHEET_WORDS_2] = {2, 1024, 512, 4, 2, 2, 20, 9, 12, 0, 0, 0, 4, 4, 0, 0, 0, 2};
 
-static uint8_t file[MAX_BYTES], output[MAX_BYTES], opening_file[TEVROLIG_BLOCK_BYTES * TEVROLIG_MAX_OPENING_BLOCKS];
-static size_t length, opening_length;
+static uint8_t file[MAX_BYTES], output[MAX_BYTES];
+static size_t length;
+static uint32_t device[TEVROLIG_DEVICE_WORDS];
+static uint8_t device_buffer[TEVROLIG_DEVICE_BUFFER];
 static const uint32_t *sheet;
 static uint32_t coefficients[TEVROLIG_MAX_TABLE], coins[MAX_COINS], table[TEVROLIG_MAX_TABLE];
 static size_t coin_count;
@@ -44,32 +45,6 @@ static void verify(void)
 {
     uint64_t place, reads;
     answer = tevrolig_verify(file, length, &place, &reads);
-}
-
-static void verify_openings(void)
-{
-    uint64_t place, reads;
-    answer = tevrolig_verify_openings(opening_file, opening_length, &place, &reads);
-}
-
-static void verify_file_as_openings(void)
-{
-    uint64_t place, reads;
-    answer = tevrolig_verify_openings(file, length, &place, &reads);
-}
-
-static void build_openings(void)
-{
-    uint64_t value;
-    answer = tevrolig_build_openings(file, length, opening_file, sizeof opening_file, &value);
-    opening_length = answer == TEVROLIG_DONE ? TEVROLIG_BLOCK_BYTES * (size_t)value : 0;
-}
-
-static void sha256(void)
-{
-    uint8_t out[32];
-    tevrolig_sha256(file, length, out);
-    answer = TEVROLIG_DONE;
 }
 
 static void verify_2(void)
@@ -88,6 +63,23 @@ static void decide_2(void)
 {
     uint64_t place, reads;
     answer = tevrolig_decide_2(file, length, &place, &reads);
+}
+
+static void device_fresh(void)
+{
+    answer = tevrolig_device_fresh(device, TEVROLIG_DEVICE_WORDS);
+}
+
+/* A start, of the file: word 6 of a state is the count of the bytes taken. */
+static void device_start(void)
+{
+    uint64_t place;
+    answer = tevrolig_device_write(device, TEVROLIG_DEVICE_WORDS, 0, 1, device_buffer, sizeof device_buffer, &place);
+}
+
+static void device_read(void)
+{
+    answer = tevrolig_device_read(device, TEVROLIG_DEVICE_WORDS, 1) + tevrolig_device_line(device, TEVROLIG_DEVICE_WORDS);
 }
 
 static void read_file(void)
@@ -190,7 +182,7 @@ static void elements(void)
     answer = tevrolig_sum(2, 5, 7, &element) + tevrolig_difference(2, 5, 7, &element) + tevrolig_product(2, 5, 7, &element)
         + tevrolig_power(2, 5, 7, &element) + tevrolig_power_turns(2, 5, 7, &element, &turns) + tevrolig_inverse(2, 5, &element)
         + tevrolig_sum_3(a, b, out) + tevrolig_difference_3(a, b, out) + tevrolig_product_3(a, b, out) + tevrolig_power_3(a, 7, out)
-        + tevrolig_power_turns_3(a, 7, out, &turns) + tevrolig_inverse_3(a, out) + (tevrolig_interface_13() != 13);
+        + tevrolig_power_turns_3(a, 7, out, &turns) + tevrolig_inverse_3(a, out) + (tevrolig_interface_10() != 10);
 }
 
 /* Bytes of the stack that a call changes. What the start of a context takes is among them. */
@@ -259,7 +251,7 @@ static size_t done(const char *name, void (*call)(void))
 }
 
 /* The most of each, over all calls. */
-static size_t verifying, reading, proving, encoding, converting, verifying_batch, proving_batch, finding, verifying_openings, building, hashing, small;
+static size_t verifying, reading, proving, encoding, converting, verifying_batch, proving_batch, finding, devices, small;
 
 /* What takes a file, of either edition. */
 static void verify_and_convert(void)
@@ -269,11 +261,10 @@ static void verify_and_convert(void)
     reading = larger(reading, larger(depth(read_file), depth(read_file_2)));
     converting = larger(converting, larger(depth(to_edition_1), depth(to_edition_2)));
     verifying_batch = larger(verifying_batch, depth(verify_batch));
-    verifying_openings = larger(verifying_openings, depth(verify_file_as_openings));
-    building = larger(building, depth(build_openings));
-    if (opening_length > 0)
-        verifying_openings = larger(verifying_openings, done("verify, opening file", verify_openings));
-    hashing = larger(hashing, done("sha256", sha256));
+    devices = larger(devices, depth(device_fresh));
+    memcpy(device_buffer, file, length);
+    device[6] = (uint32_t)length;
+    devices = larger(devices, larger(depth(device_start), depth(device_read)));
     small = larger(small, larger(depth(word), depth(sheet_of)));
 }
 
@@ -360,9 +351,9 @@ int main(int argc, char **argv)
     printf("stack: verify and decide %zu, read %zu, prove %zu, encode %zu, convert %zu, others %zu bytes at most\n", verifying, reading, proving, encoding, converting, small);
     printf("stack of batches: verify %zu, prove %zu bytes at most\n", verifying_batch, proving_batch);
     printf("stack of the nearest polynomial: %zu bytes at most\n", finding);
-    printf("stack of opening files: verify %zu, build %zu bytes at most, sha256 %zu\n", verifying_openings, building, hashing);
+    printf("stack of the device: %zu bytes at most\n", devices);
     return verifying < TEVROLIG_VERIFY_STACK && reading < TEVROLIG_READ_STACK && proving < TEVROLIG_PROVE_STACK && encoding < TEVROLIG_ENCODE_STACK
         && converting < TEVROLIG_CONVERT_STACK && verifying_batch < TEVROLIG_VERIFY_BATCH_STACK
-        && proving_batch < TEVROLIG_PROVE_BATCH_STACK && finding < TEVROLIG_NEAREST_STACK && verifying_openings < TEVROLIG_VERIFY_OPENINGS_STACK
-        && building < TEVROLIG_BUILD_OPENINGS_STACK && hashing < TEVROLIG_SHA256_STACK && small < 1024 ? 0 : 1;
+        && proving_batch < TEVROLIG_PROVE_BATCH_STACK && finding < TEVROLIG_NEAREST_STACK
+        && devices < TEVROLIG_DEVICE_STACK && small < 1024 ? 0 : 1;
 }

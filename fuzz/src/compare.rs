@@ -4,7 +4,6 @@ use crate::fence::Fence;
 use crate::input::{Input, ProverInput, TableInput};
 use std::cell::RefCell;
 use tevrolig::convert::{to_edition_1, to_edition_2};
-use tevrolig::openings::{build_openings, sha256, verify_openings};
 use tevrolig::{batch, edition2, nearest, quartic, Field, Outcome, Refusal, Verdict};
 use tevrolig_model::baseline;
 use tevrolig_model::batch::{prove_batch, verify_batch};
@@ -74,13 +73,11 @@ pub fn agree(input: &Input) {
         Input::Raw(file) | Input::WithChecks(file) => {
             verdicts(fences, file);
             conversions(fences, file);
-            openings(fences, file);
         }
         Input::Prover(given) => proofs(fences, given),
         Input::Field(words) => elements(fences, *words),
         Input::Quartic(words) => elements_of_four(fences, *words),
         Input::Table(given) => nearest_polynomials(fences, given),
-        Input::Message(message) => hash(fences, message),
     });
 }
 
@@ -118,7 +115,7 @@ fn outcome(outcome: Outcome) -> model::Outcome {
     }
 }
 
-/// The verdicts of both and their two steps in each edition, those on the file as a batch and as an opening file, and some words of the stream: the places of the refusals, the words at the
+/// The verdicts of both and their two steps in each edition, those on the file as a batch, and some words of the stream: the places of the refusals, the words at the
 /// end, one that the file itself names, and the sheet.
 fn verdicts(fences: &mut Fences, file: &[u8]) {
     let lent: &[u8] = fences.file.lend(file);
@@ -132,9 +129,6 @@ fn verdicts(fences: &mut Fences, file: &[u8]) {
     });
     let of_batch = batch::verify(lent);
     assert_eq!(of_batch.line(), model::line(verify_batch(file)));
-    let of_openings = verify_openings(lent);
-    let expected = model::line(model::verify_openings(file));
-    assert_eq!(of_openings.line(), expected);
 
     let end = (file.len() / stream::BLOCK_BYTES * stream::BLOCK_WORDS) as u64;
     let named = file
@@ -142,9 +136,8 @@ fn verdicts(fences: &mut Fences, file: &[u8]) {
         .take(8)
         .fold(0, |sum, &byte| sum << 8 | u64::from(byte));
     let [place, place_2] = places;
-    let others = [of_batch, of_openings].map(place_of);
-    let around = [end.wrapping_sub(1), end, named];
-    for number in [place, place_2].into_iter().chain(others).chain(around) {
+    let place_3 = place_of(of_batch);
+    for number in [place, place_2, place_3, end.wrapping_sub(1), end, named] {
         let word = (number < end).then(|| stream::read_word(file, number as usize));
         assert_eq!(tevrolig::word(lent, number), word, "word {number}");
         let place = fences.table.lend(&[BEFORE]);
@@ -176,51 +169,18 @@ fn conversions(fences: &mut Fences, file: &[u8]) {
         for length in [length + 513, length, length.saturating_sub(1), 0] {
             let mut expected = vec![0xA5; length];
             let output = fences.output.lend(&expected);
-            let converted = convert(lent, output);
-            let answer = answered(converted.map_err(|r| (r.number(), r.place())));
+            let answer = match convert(lent, output) {
+                Ok(blocks) => Answer::Done(blocks as u64),
+                Err(refusal) => Answer::Refused {
+                    number: refusal.number(),
+                    place: refusal.place(),
+                },
+            };
             assert_eq!(answer, convert_to(to, file, &mut expected));
             assert!(output == expected, "the converter's output differs");
         }
     }
     assert_eq!(lent, file, "the file is only read");
-}
-
-/// The builders of both, with outputs of as many blocks as are due, of a byte less, of a few bytes more, and with none; what is built is verified too, with the full
-/// file's verdict.
-fn openings(fences: &mut Fences, file: &[u8]) {
-    let lent: &[u8] = fences.file.lend(file);
-    let due = match model::build_openings(file, &mut []) {
-        Answer::Refused { number: 11, place } => place as usize * tevrolig::BLOCK_BYTES,
-        _ => 512,
-    };
-    let mut built = Vec::new();
-    for length in [0, due - 1, due, due + 61] {
-        let mut expected = vec![0xA5; length];
-        let output = fences.output.lend(&expected);
-        let opened = build_openings(lent, output);
-        let answer = answered(opened.map_err(|r| (r.number(), r.place())));
-        assert_eq!(answer, model::build_openings(file, &mut expected));
-        assert!(output == expected, "the builder's output differs");
-        if let Answer::Done(blocks) = answer {
-            expected.truncate(blocks as usize * tevrolig::BLOCK_BYTES);
-            built = expected;
-        }
-    }
-    assert_eq!(lent, file, "the file is only read");
-    if !built.is_empty() {
-        let full = tevrolig::verify(file);
-        assert_eq!(full.outcome, Outcome::Accepted, "only such are built");
-        let lent: &[u8] = fences.file.lend(&built);
-        assert_eq!(verify_openings(lent), full, "the file that is built");
-        assert_eq!(model::line(model::verify_openings(&built)), full.line());
-    }
-}
-
-/// The hashes of both.
-fn hash(fences: &mut Fences, message: &[u8]) {
-    let lent: &[u8] = fences.file.lend(message);
-    assert_eq!(sha256(lent), model::sha256::sha256(message));
-    assert_eq!(lent, message, "the message is only read");
 }
 
 /// Prove of both in each edition and of batches, the verdicts on the files that come of it and their conversions, and encode of both.
@@ -286,7 +246,6 @@ fn proofs(fences: &mut Fences, given: &ProverInput) {
         assert_eq!(verdict.outcome, Outcome::Accepted, "the prover's file");
         verdicts(fences, &file);
         conversions(fences, &file);
-        openings(fences, &file);
     }
 }
 
@@ -328,14 +287,12 @@ const NOTHING_NEAR: Answer = Answer::Refused {
 
 /// An answer in the model's terms.
 fn model_answer(answer: Result<usize, tevrolig::InputRefusal>) -> Answer {
-    answered(answer.map_err(|refusal| (refusal.number(), refusal.place())))
-}
-
-/// The same from a refusal's number and place.
-fn answered(answer: Result<usize, (u32, u64)>) -> Answer {
     match answer {
         Ok(size) => Answer::Done(size as u64),
-        Err((number, place)) => Answer::Refused { number, place },
+        Err(refusal) => Answer::Refused {
+            number: refusal.number(),
+            place: refusal.place(),
+        },
     }
 }
 

@@ -6,7 +6,7 @@ use std::slice;
 
 const PAGE: usize = 4096;
 /// Bytes between the two pages: more than any input or output has.
-const ROOM: usize = 1 << 20;
+const ROOM: usize = 1 << 18;
 
 const NOTHING: c_int = 0;
 const READ_WRITE: c_int = 1 | 2;

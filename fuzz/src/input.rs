@@ -1,4 +1,4 @@
-//! What the bytes of an input stand for. Its first byte chooses between seven forms.
+//! What the bytes of an input stand for. Its first byte chooses between six forms.
 
 use tevrolig_model::generate;
 
@@ -34,8 +34,6 @@ pub enum Input {
     /// Two times four words for field 3, and an exponent.
     Quartic([u32; 9]),
     Table(TableInput),
-    /// A message that is hashed.
-    Message(Vec<u8>),
 }
 
 impl Input {
@@ -44,7 +42,7 @@ impl Input {
         let Some((form, rest)) = bytes.split_first() else {
             return Input::Raw(Vec::new());
         };
-        match form % 7 {
+        match form % 6 {
             0 => Input::Raw(rest.to_vec()),
             1 => {
                 let mut file = rest.to_vec();
@@ -54,8 +52,7 @@ impl Input {
             2 => Input::Prover(ProverInput::read(rest)),
             3 => Input::Field(first_words(rest)),
             4 => Input::Quartic(first_words(rest)),
-            5 => Input::Table(TableInput::read(rest)),
-            _ => Input::Message(rest.to_vec()),
+            _ => Input::Table(TableInput::read(rest)),
         }
     }
 
@@ -67,7 +64,6 @@ impl Input {
             Input::Field(words) => [&[3][..], &bytes(words)].concat(),
             Input::Quartic(words) => [&[4][..], &bytes(words)].concat(),
             Input::Table(given) => [&[5][..], &given.write()].concat(),
-            Input::Message(message) => [&[6][..], message].concat(),
         }
     }
 }

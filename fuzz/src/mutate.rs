@@ -8,7 +8,6 @@ use tevrolig_model::generate::batch::{
     aim_batch, honest_batch, most_tables, order, Order, BATCH_REFUSALS,
 };
 use tevrolig_model::generate::nearest;
-use tevrolig_model::generate::openings::{aim_openings, any_openings, OPENING_REFUSALS};
 use tevrolig_model::generate::repeats::repeat;
 use tevrolig_model::generate::{self, aim, coefficients, coins, honest_file, known, Rng};
 use tevrolig_model::layout::{Layout, Part};
@@ -36,19 +35,15 @@ pub fn mutate(bytes: &[u8], seed: u32, change: impl Fn(&mut [u8])) -> Vec<u8> {
         Input::Field(words) => change_word(&mut rng, words),
         Input::Quartic(words) => change_word(&mut rng, words),
         Input::Table(given) => change_table(&mut rng, given),
-        Input::Message(message) => change_message(&mut rng, message),
     }
     input.write()
 }
 
-/// An honest file of either edition, a batch or an opening file, whole or damaged, an allowed input of the prover or of that of batches, words for a field or for
-/// field 3, a table, or a message.
+/// An honest file of either edition or a batch, whole or damaged, an allowed input of the prover or of that of batches, words for a field or for field 3, or a table.
 fn fresh(rng: &mut Rng) -> Input {
-    match rng.below(12) {
-        0..=3 => return fresh_batch(rng),
-        4 | 5 => return Input::Table(fresh_table(rng)),
-        6 | 7 => return fresh_openings(rng),
-        8 if rng.one_in(4) => return Input::Message(message(rng)),
+    match rng.below(6) {
+        0 | 1 => return fresh_batch(rng),
+        2 => return Input::Table(fresh_table(rng)),
         _ => {}
     }
     let (edition, given) = allowed(rng);
@@ -134,42 +129,6 @@ fn change_table(rng: &mut Rng, given: &mut TableInput) {
     }
 }
 
-/// An opening file, whole or damaged.
-fn fresh_openings(rng: &mut Rng) -> Input {
-    let most_n0 = rng.pick(&[8, 16, 16, 32]);
-    let mut file = any_openings(rng, most_n0);
-    if rng.one_in(8) {
-        return Input::Raw(file);
-    }
-    if rng.one_in(4) {
-        let number = rng.pick(&OPENING_REFUSALS);
-        aim_openings(rng, &mut file, number);
-    }
-    Input::WithChecks(file)
-}
-
-/// Any bytes, mostly as many as end around a block of the hash.
-fn message(rng: &mut Rng) -> Vec<u8> {
-    let around = 64 * rng.place(4) + 50 + rng.place(20);
-    let any = rng.place(2000);
-    let length = rng.pick(&[around, around, any]);
-    (0..length).map(|_| rng.bits() as u8).collect()
-}
-
-/// Another byte, or another length.
-fn change_message(rng: &mut Rng, bytes: &mut Vec<u8>) {
-    if bytes.is_empty() || rng.one_in(4) {
-        *bytes = message(rng);
-        return;
-    }
-    let at = rng.place(bytes.len());
-    match rng.below(3) {
-        0 => bytes.truncate(at),
-        1 => bytes.insert(at, rng.bits() as u8),
-        _ => bytes[at] ^= 1 << rng.below(8),
-    }
-}
-
 /// An order of a batch as the prover's input, with no output.
 fn batch_input(order: Order) -> ProverInput {
     ProverInput {
@@ -244,12 +203,6 @@ fn change_file(rng: &mut Rng, file: &mut Vec<u8>) {
     if rng.one_in(4) {
         let number = rng.pick(&BATCH_REFUSALS);
         if aim_batch(rng, file, number) {
-            return;
-        }
-    }
-    if rng.one_in(4) {
-        let number = rng.pick(&OPENING_REFUSALS);
-        if aim_openings(rng, file, number) {
             return;
         }
     }

@@ -1,5 +1,4 @@
-//! Verify, prove and encode in the archive, verify and prove of batches, the nearest polynomial, and verify and the builder of opening files with their hash, beside the
-//! same algorithms in Rust, in one run: ratios first.
+//! Verify, prove and encode in the archive, verify and prove of batches, and the nearest polynomial, beside the same algorithms in Rust, in one run: ratios first.
 //!
 //! Two baselines take turns with the archive: plain Rust, and Rust tuned by hand (one remainder for a product and a sum, two points in one
 //! walk); and of verify a third, by the coefficient lists of the proved code. Where elements have four words there is one, plain Rust by coefficient lists. Each figure is
@@ -10,19 +9,15 @@ use std::fmt::Write as _;
 use std::hint::black_box;
 use std::path::PathBuf;
 use std::time::Instant;
-use tevrolig::openings::{build_openings, sha256, verify_openings};
 use tevrolig::{batch, edition2, nearest};
 use tevrolig_model::baseline::{self, Lists, Newton};
 use tevrolig_model::batch::verify_batch;
 use tevrolig_model::generate::batch::{honest_batch, order_of, Order};
 use tevrolig_model::generate::nearest::{noise, planted_in_every_word, Case};
 use tevrolig_model::generate::{self, Rng};
-use tevrolig_model::layout::{Layout, Part};
-use tevrolig_model::openings::shut;
-use tevrolig_model::sheet::{Edition, Sheet};
+use tevrolig_model::sheet::Edition;
 use tevrolig_model::stream;
 use tevrolig_model::verify::verify_in;
-use tevrolig_model::verify_openings as verify_by_model;
 
 /// The least time of one call in microseconds, for each of the functions, which take turns.
 fn least<const N: usize>(calls: usize, mut work: [&mut dyn FnMut(); N]) -> [f64; N] {
@@ -277,151 +272,6 @@ fn find(case: &Case) -> [f64; 3] {
     best
 }
 
-/// An accepted full file and its opening file.
-struct OpeningRun {
-    full: Vec<u8>,
-    file: Vec<u8>,
-}
-
-impl OpeningRun {
-    /// With coins that lead to as many places as there may be.
-    fn new(sheet: &[u32]) -> Self {
-        let mut run = HonestRun::new(sheet);
-        let mut at = 0;
-        for section in Layout::new(&Sheet::read(sheet).expect("a sheet")).coin_sections() {
-            if matches!(section.part, Part::ShiftIndices(_) | Part::FinalIndices) {
-                for i in 0..section.count() {
-                    run.coins[at + i] = (i as u64 % section.limit) as u32;
-                }
-            }
-            at += section.words.len();
-        }
-        let full = generate::honest_file(sheet, &run.coefficients, &run.coins);
-        let file = shut(&full).expect("a file that is read");
-        OpeningRun { full, file }
-    }
-
-    fn verify(&self) -> [f64; 4] {
-        let file = self.file.as_slice();
-        let [plain, tuned, lists] = [
-            baseline::verify_openings::<Newton, false>,
-            baseline::verify_openings::<Newton, true>,
-            baseline::verify_openings::<Lists, true>,
-        ];
-        let verdict = verify_by_model(file);
-        assert_eq!(verify_openings(file).outcome, tevrolig::Outcome::Accepted);
-        assert_eq!(verify_openings(file).reads, verdict.reads);
-        for baseline in [plain, tuned, lists] {
-            assert_eq!(baseline(file), verdict);
-        }
-        least(
-            calls(file),
-            [
-                &mut || {
-                    black_box(verify_openings(black_box(file)));
-                },
-                &mut || {
-                    black_box(plain(black_box(file)));
-                },
-                &mut || {
-                    black_box(tuned(black_box(file)));
-                },
-                &mut || {
-                    black_box(lists(black_box(file)));
-                },
-            ],
-        )
-    }
-
-    fn build(&self) -> [f64; 4] {
-        let full = self.full.as_slice();
-        let mut outputs = [(); 4].map(|()| vec![0; self.file.len()]);
-        let [proved, plain, tuned, lists] = &mut outputs;
-        let best = least(
-            calls(&self.file),
-            [
-                &mut || {
-                    let answer = build_openings(black_box(full), proved);
-                    black_box(answer.expect("an accepted file"));
-                },
-                &mut || {
-                    let full = black_box(full);
-                    black_box(baseline::build_openings::<Newton, false>(full, plain));
-                },
-                &mut || {
-                    let full = black_box(full);
-                    black_box(baseline::build_openings::<Newton, true>(full, tuned));
-                },
-                &mut || {
-                    let full = black_box(full);
-                    black_box(baseline::build_openings::<Lists, true>(full, lists));
-                },
-            ],
-        );
-        for output in &outputs {
-            assert!(*output == self.file);
-        }
-        best
-    }
-}
-
-/// The hash of a message of so many bytes, and of as many of 65, as a node has; there is one baseline. The archive has the root of a table in its builder alone, so
-/// that here stands the time of that many hashes: 4,096 of 5 bytes for the leaves and 4,095 of 65 for the nodes.
-fn hashes() {
-    let message: Vec<u8> = (0..65_536_u32).map(|i| (i * i) as u8).collect();
-    assert_eq!(sha256(&message), baseline::sha256(&message));
-    for (what, length, calls) in [
-        ("sha256 of 65,536 bytes", 65_536, 20),
-        ("sha256 of 65 bytes", 65, 20_000),
-        ("sha256 of 5 bytes", 5, 20_000),
-    ] {
-        let message = &message[..length];
-        let times = least(
-            calls,
-            [
-                &mut || {
-                    black_box(sha256(black_box(message)));
-                },
-                &mut || {
-                    black_box(baseline::sha256(black_box(message)));
-                },
-            ],
-        );
-        show_hashes(what, length, times);
-    }
-    let table: Vec<u32> = (0..4096).map(|i| i * i).collect();
-    let bytes: Vec<u8> = table.iter().flat_map(|word| word.to_le_bytes()).collect();
-    let times = least(
-        5,
-        [
-            &mut || {
-                black_box(root(black_box(&bytes)));
-            },
-            &mut || {
-                black_box(baseline::root(black_box(&table), 1));
-            },
-        ],
-    );
-    assert_eq!(root(&bytes), baseline::root(&table, 1));
-    show_hashes("root of 4,096 entries", bytes.len(), times);
-}
-
-/// The root over entries of four bytes, by the archive's hash.
-fn root(table: &[u8]) -> [u8; 32] {
-    if table.len() == 4 {
-        return sha256(&[&[0], table].concat());
-    }
-    let (left, right) = table.split_at(table.len() / 2);
-    sha256(&[&[1][..], &root(left), &root(right)].concat())
-}
-
-fn show_hashes(what: &str, bytes: usize, [proved, plain]: [f64; 2]) {
-    let ratio = proved / plain;
-    println!(
-        "{ratio:5.2}     -     -  {proved:9.1} {plain:9.1}         -         -  {bytes:6}  {what}"
-    );
-}
-
 /// A row: the ratios of the first time to each other, the times, and the sheet. With elements of four words there is one baseline.
 fn show(what: &str, sheet: &[u32], bytes: usize, times: &[f64]) {
     let times = if sheet[0] == 3 { &times[..2] } else { times };
@@ -505,14 +355,6 @@ fn main() {
             show(&format!("nearest, {what}: "), &sheet, bytes, &find(&case));
         }
     }
-
-    // The largest opening file, the largest with elements of four words, and a small one.
-    for sheet in [named[1], named[8], named[6]] {
-        let run = OpeningRun::new(sheet);
-        show("openings: verify ", sheet, run.file.len(), &run.verify());
-        show("openings: build ", sheet, run.file.len(), &run.build());
-    }
-    hashes();
 
     // What the pass over the file and its ranges takes: a file whose first out coin lies in its domain is refused right after it.
     let mut run = HonestRun::new(named[0]);

@@ -4,7 +4,6 @@
 use crate::batch::prove_batch_with;
 use crate::convert::{converted, ConvertRefusal};
 use crate::nearest::find_with;
-use crate::openings::{built, BuildRefusal};
 use crate::prove::{answered, prove_with, Operation};
 use crate::steps::read_with;
 use crate::verdict::verify_with;
@@ -22,7 +21,7 @@ const UNKNOWN: &str = "which has no name here";
 
 #[test]
 fn of_a_file() {
-    let named: Vec<u32> = (1..=9).chain([14, 15, 17, 18]).collect();
+    let named: Vec<u32> = (1..=9).chain([14, 15]).collect();
     for number in numbers() {
         for place in PLACES {
             let refusal = Refusal::from_answer(number, place);
@@ -68,19 +67,6 @@ fn of_a_conversion() {
             let refusal = ConvertRefusal::from_answer(number, place);
             assert_eq!((refusal.number(), refusal.place()), (number, place));
             let known = [2, 3, 4, 5, 6, 11, 13].contains(&number) || (number, place) == (1, 0);
-            assert_eq!(!refusal.to_string().ends_with(UNKNOWN), known);
-        }
-    }
-}
-
-#[test]
-fn of_a_builder() {
-    for number in numbers() {
-        for place in PLACES {
-            let refusal = BuildRefusal::from_answer(number, place);
-            assert_eq!((refusal.number(), refusal.place()), (number, place));
-            let named = (2..=9).chain([11, 14]).any(|named| named == number);
-            let known = named || (number, place) == (1, 0);
             assert_eq!(!refusal.to_string().ends_with(UNKNOWN), known);
         }
     }
@@ -189,6 +175,4 @@ fn of_other_functions() {
     }
     let conversion = converted(convert, &[], &mut []);
     assert_eq!(conversion, Err(ConvertRefusal::Unknown { number, place }));
-    let opening_file = built(convert, &[], &mut []);
-    assert_eq!(opening_file, Err(BuildRefusal::Unknown { number, place }));
 }

@@ -3,7 +3,7 @@
 //! Every pointer that the crate hands over comes from a slice or a reference, so it is aligned, not null and lent for the call, and what
 //! is written overlaps nothing else; a slice without elements has such a pointer too.
 
-/// Verifies or decides a file in one of the editions, or verifies a batch or an opening file: number, place and reads.
+/// Verifies or decides a file in one of the editions, or verifies a batch: number, place and reads.
 pub type Verify = unsafe extern "C" fn(*const u8, usize, &mut u64, &mut u64) -> u32;
 
 /// Reads a file in one of the editions: number and place.
@@ -37,7 +37,7 @@ pub type ProveBatch = unsafe extern "C" fn(
     &mut u64,
 ) -> u32;
 
-/// Converts a file, or builds the opening file of one: file and output, each with its length, and the value.
+/// Converts a file: file and output, each with its length, and the value.
 pub type Convert = unsafe extern "C" fn(*const u8, usize, *mut u8, usize, &mut u64) -> u32;
 
 /// Finds the nearest polynomial: sheet, table and output, each with its length, and the value.
@@ -47,10 +47,10 @@ pub type Nearest =
 /// Refers to the function that has the interface's number in its name, whatever else is called: so that this crate does not link with an archive of another
 /// interface.
 #[used]
-static INTERFACE: unsafe extern "C" fn() -> u32 = tevrolig_interface_13;
+static INTERFACE: unsafe extern "C" fn() -> u32 = tevrolig_interface_10;
 
 extern "C" {
-    pub fn tevrolig_interface_13() -> u32;
+    pub fn tevrolig_interface_10() -> u32;
 
     pub fn tevrolig_verify(file: *const u8, length: usize, place: &mut u64, reads: &mut u64)
         -> u32;
@@ -166,23 +166,6 @@ extern "C" {
         output_length: usize,
         value: &mut u64,
     ) -> u32;
-
-    pub fn tevrolig_verify_openings(
-        file: *const u8,
-        length: usize,
-        place: &mut u64,
-        reads: &mut u64,
-    ) -> u32;
-
-    pub fn tevrolig_build_openings(
-        file: *const u8,
-        length: usize,
-        output: *mut u8,
-        size: usize,
-        value: &mut u64,
-    ) -> u32;
-
-    pub fn tevrolig_sha256(message: *const u8, length: usize, out: &mut [u8; 32]);
 
     pub fn tevrolig_encode(
         sheet: *const u32,

@@ -1,4 +1,4 @@
-//! The proved verifier for STIR transcripts, the prover that it answers, the builder of opening files, and the four fields below them, called from Rust.
+//! The proved verifier for STIR transcripts, the prover that it answers, and the four fields below them, called from Rust.
 //!
 //! The archive's functions are proved against the written definition for every input; they allocate nothing and keep no state. What
 //! stands here only hands slices over and names the answers: it has no rule of its own.
@@ -27,15 +27,14 @@
 //! [`verify`] may be asked in two steps: [`read`] where a file comes in, and [`decide`] where it counts.
 //!
 //! An answer of the archive that has no name here is a value too (`Unknown`, with its number and place), and no panic. With an archive of another interface than
-//! this crate's, `rustc` does not link: it misses `tevrolig_interface_13`. `CHANGELOG.md` says what to change from one version to the next.
+//! this crate's, `rustc` does not link: it misses `tevrolig_interface_10`. `CHANGELOG.md` says what to change from one version to the next.
 //!
 //! An element of field 0, 1 or 2 is one word, one of field 3 is four: lengths and positions count words everywhere, and reads count table entries. [`Field`] has the
 //! operations of the fields of one word, [`quartic`] those of field 3.
 //!
 //! What stands here is for files of edition 1. [`edition2`] has verify, its two steps and prove for edition 2, with a folding number for each round,
-//! and [`convert`] the way from one to the other. [`batch`] has verify and prove for several polynomials in one run, [`nearest`] finds the polynomial of a table with
-//! spoiled entries, and [`openings`] has verify and the builder for files that have roots in the place of tables. **The edition, and each kind of file that a request
-//! adds, is fixed outside the file:** never try one and then the other, since one file may be accepted as both with two meanings.
+//! and [`convert`] the way from one to the other. [`batch`] has verify and prove for several polynomials in one run, and [`nearest`] finds the polynomial of a table with spoiled entries. **The edition, and each kind of file that a request adds, is fixed outside the file:** never try one
+//! and then the other, since one file may be accepted as both with two meanings.
 
 #[cfg(test)]
 mod any_answer;
@@ -45,7 +44,6 @@ pub mod convert;
 pub mod edition2;
 mod field;
 pub mod nearest;
-pub mod openings;
 mod prove;
 pub mod quartic;
 mod steps;
@@ -68,7 +66,7 @@ pub const BLOCK_WORDS: usize = 127;
 /// Words of the sheet.
 pub const SHEET_WORDS: usize = 12;
 
-/// No plain file with more blocks is accepted, and no file that is proved or converted needs more.
+/// No file with more blocks is accepted, and no file that is proved or converted needs more.
 pub const MAX_BLOCKS: usize = 67;
 
 /// What the documents call the words of the sheet; the last six are of edition 2 alone.

@@ -27,20 +27,16 @@ pub enum Refusal {
     TableCount,
     /// 15 of a batch: the bound of this table, counted from 1, is not from 1 to d0.
     Bound { table: u64 },
-    /// 4: the file has another number of blocks than the sheet needs, and in an opening file its number of openings.
+    /// 4: the file has another number of blocks than the sheet needs.
     Blocks { needed: u64 },
     /// 5: this word of the stream is not below p, or no index that is due.
     Range { word: u64 },
-    /// 6: this word comes after the stream's end, or in an opening file is of a node without use, and is not zero.
+    /// 6: this word comes after the stream's end and is not zero.
     Fill { word: u64 },
     /// 7: this word of the stream is an out coin of a round i, or in field 3 its first word, and the coin lies in domain i.
     OutCoin { word: u64 },
     /// 14: this word of the stream is, likewise, the second out coin of a round, which equals the first.
     EqualOut { word: u64 },
-    /// 18 of an opening file: the opening of this number is not the one due there, or is missing, or is one too many.
-    OpeningsNotThoseUsed { opening: u64 },
-    /// 17 of an opening file: the path of the opening of this number misses its table's root.
-    PathMissesRoot { opening: u64 },
     /// 8: two equal points of this round have different values.
     Clash { round: u64 },
     /// 9: the final polynomial differs from the fold at the point of the final index at this position.
@@ -62,8 +58,6 @@ impl Refusal {
             Refusal::Fill { .. } => 6,
             Refusal::OutCoin { .. } => 7,
             Refusal::EqualOut { .. } => 14,
-            Refusal::OpeningsNotThoseUsed { .. } => 18,
-            Refusal::PathMissesRoot { .. } => 17,
             Refusal::Clash { .. } => 8,
             Refusal::Final { .. } => 9,
             Refusal::Unknown { number, .. } => number,
@@ -82,9 +76,6 @@ impl Refusal {
             | Refusal::Fill { word }
             | Refusal::OutCoin { word }
             | Refusal::EqualOut { word } => word,
-            Refusal::OpeningsNotThoseUsed { opening } | Refusal::PathMissesRoot { opening } => {
-                opening
-            }
             Refusal::Clash { round } => round,
             Refusal::Final { position } => position,
             Refusal::Unknown { place, .. } => place,
@@ -106,8 +97,6 @@ impl Refusal {
             (14, word) => Refusal::EqualOut { word },
             (15, 0) => Refusal::TableCount,
             (15, table) => Refusal::Bound { table },
-            (17, opening) => Refusal::PathMissesRoot { opening },
-            (18, opening) => Refusal::OpeningsNotThoseUsed { opening },
             _ => Refusal::Unknown { number, place },
         }
     }
@@ -134,7 +123,7 @@ impl Display for Refusal {
             }
             Refusal::Range { word } => write!(f, "word {word} of the stream is out of range"),
             Refusal::Fill { word } => {
-                write!(f, "word {word} has no use and is not zero")
+                write!(f, "word {word} comes after the stream's end and is not zero")
             }
             Refusal::OutCoin { word } => write!(
                 f,
@@ -144,13 +133,6 @@ impl Display for Refusal {
                 f,
                 "word {word} of the stream is an out coin and equals the one before it in its round"
             ),
-            Refusal::OpeningsNotThoseUsed { opening } => write!(
-                f,
-                "the openings are not those of the places used, from opening {opening} on"
-            ),
-            Refusal::PathMissesRoot { opening } => {
-                write!(f, "the path of opening {opening} misses its table's root")
-            }
             Refusal::Clash { round } => {
                 write!(f, "in round {round} two equal points have different values")
             }
@@ -260,7 +242,7 @@ pub fn verify(file: &[u8]) -> Verdict {
     verify_with(archive::tevrolig_verify, file)
 }
 
-/// Verifies a file in the edition, or as a batch or an opening file, whose function this is.
+/// Verifies a file in the edition, or as a batch, whose function this is.
 pub(crate) fn verify_with(verify: archive::Verify, file: &[u8]) -> Verdict {
     let (mut place, mut reads) = (0, 0);
     // SAFETY: as the archive's module says.

@@ -2,7 +2,6 @@
 
 use std::error::Error;
 use tevrolig::convert::ConvertRefusal;
-use tevrolig::openings::BuildRefusal;
 use tevrolig::{InputRefusal, Outcome, Refusal, Verdict};
 
 #[test]
@@ -66,7 +65,7 @@ fn refusals_of_verify() {
             Refusal::Fill { word: 45 },
             6,
             45,
-            "word 45 has no use and is not zero",
+            "word 45 comes after the stream's end and is not zero",
         ),
         (
             Refusal::OutCoin { word: 37 },
@@ -79,18 +78,6 @@ fn refusals_of_verify() {
             14,
             38,
             "word 38 of the stream is an out coin and equals the one before it in its round",
-        ),
-        (
-            Refusal::OpeningsNotThoseUsed { opening: 3 },
-            18,
-            3,
-            "the openings are not those of the places used, from opening 3 on",
-        ),
-        (
-            Refusal::PathMissesRoot { opening: 2 },
-            17,
-            2,
-            "the path of opening 2 misses its table's root",
         ),
         (
             Refusal::Clash { round: 1 },
@@ -287,7 +274,7 @@ fn refusals_of_the_converter() {
             ConvertRefusal::File(Refusal::Fill { word: 51 }),
             6,
             51,
-            "word 51 has no use and is not zero",
+            "word 51 comes after the stream's end and is not zero",
         ),
         (
             ConvertRefusal::Folds { round: 5 },
@@ -303,38 +290,6 @@ fn refusals_of_the_converter() {
         ),
         (
             ConvertRefusal::Unknown {
-                number: 77,
-                place: 5,
-            },
-            77,
-            5,
-            "refusal 77 at 5, which has no name here",
-        ),
-    ];
-    for (refusal, number, place, text) in all {
-        let error: &dyn Error = &refusal;
-        assert_eq!(error.to_string(), text);
-        assert_eq!((refusal.number(), refusal.place()), (number, place));
-    }
-}
-
-#[test]
-fn refusals_of_the_builder() {
-    let all = [
-        (
-            BuildRefusal::File(Refusal::Final { position: 0 }),
-            9,
-            0,
-            "the final polynomial differs from the fold at position 0 of the final indices",
-        ),
-        (
-            BuildRefusal::OutputBlocks { needed: 1199 },
-            11,
-            1199,
-            "the output is too short for the blocks needed: 1199",
-        ),
-        (
-            BuildRefusal::Unknown {
                 number: 77,
                 place: 5,
             },

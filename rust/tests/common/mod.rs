@@ -3,7 +3,6 @@
 
 pub mod batch;
 pub mod nearest;
-pub mod openings;
 
 use std::ops::Range;
 use tevrolig::InputRefusal;
