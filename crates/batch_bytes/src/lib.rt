@@ -1,4 +1,6 @@
 // What the program `prove-batch` answers to the bytes that it reads. No public operation asks anything of its caller.
+#![tactic(auto)]
+
 ghost use Rattle.std.specs.Prelude.{◌≡◌, ◌≤◌, length, take};
 ghost use Rattle.outcome.specs.Meaning.{answer_of};
 ghost use Rattle.batch_bytes.specs.BatchInput.{table_count, bounds_part, coefficient_words, prove_batch_words, prove_batch_input};

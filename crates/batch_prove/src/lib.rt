@@ -1,4 +1,6 @@
 // Prove, of a batch: an order is refused with number and place and no byte is written, or the honest batch's file stands at the front of the output.
+#![tactic(auto)]
+
 ghost use Rattle.std.specs.Prelude.{◌≡◌, ◌++◌, ◌*◌, ◌≤◌, length, drop, get_or};
 ghost use Rattle.definition.specs.Block.{block_count, file_of};
 ghost use Rattle.definition.specs.Field.{elements_in, number_in, words_of};

@@ -1,4 +1,6 @@
 // Verify, of a batch: reading leaves its plain stream, which is decided as any other; then places and reads are told as the batch's.
+#![tactic(auto)]
+
 ghost use Rattle.std.specs.Prelude.{◌≡◌, ◌||◌, ◌≤◌, ◌<◌, eqb, drop};
 ghost use Rattle.batch_definition.specs.Batch.{batch_reading, verify_batch};
 ghost use Rattle.batches.specs.Batched.{batch_number, batch_sheet, higher_by, plain_words};

@@ -1,5 +1,7 @@
 // Refusals 8 and 9 and the reads, from a level on: the rounds after it and the final comparison, by the words w of a stream of edition e. pw is the table of the
 // points of domain 0.
+#![tactic(auto)]
+
 ghost use Rattle.std.specs.Prelude.{◌≡◌, ◌*◌, ◌≤◌, length};
 ghost use Rattle.definition.specs.Sheet.{sheet_of};
 ghost use Rattle.layouts.specs.Levels.{rounds_of, words_for};

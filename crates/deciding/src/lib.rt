@@ -1,4 +1,6 @@
 // Deciding, of the words w of a stream of edition e that passes reading: refusals 7, 14, 8 and 9, and the reads. pw is the table of the points of domain 0.
+#![tactic(auto)]
+
 ghost use Rattle.std.specs.Prelude.{◌≡◌, ◌≤◌, length, get_or, drop};
 ghost use Rattle.definition.specs.Deciding.{counted, decide as decide_by, deciding as deciding_of, out_test};
 ghost use Rattle.definition.specs.Layout.{layout, read_transcript, words_due};

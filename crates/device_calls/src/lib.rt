@@ -1,4 +1,6 @@
 // The device's operations over a lent state of words: what the C functions call. A call that is refused changes nothing, neither state nor buffer.
+#![tactic(auto)]
+
 ghost use Rattle.std.specs.Prelude.{◌≡◌, ◌<◌, length};
 ghost use Rattle.definition.specs.Verdict.{accepted};
 ghost use Rattle.device_definition.specs.Device.{fresh as fresh_device, write as write_by};

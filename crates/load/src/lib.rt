@@ -1,4 +1,6 @@
 // The stated load, whose sheets are of edition 1: one run, the lines of a thousand, and what the program prints.
+#![tactic(auto)]
+
 ghost use Rattle.std.specs.Prelude.{◌≡◌, ℕ, ◌+◌, ◌*◌, ◌≤◌, take};
 ghost use mathlib.Core.List.{flat_map};
 ghost use Rattle.definition.specs.Load.{draw_input, load_lines, load_output, verdict_on};

@@ -1,5 +1,7 @@
 // What the programs for the shell write, as functions of the bytes that they read. No operation asks anything of its caller; the programs read, call one of these
 // and write what it answers.
+#![tactic(auto)]
+
 ghost use Rattle.std.specs.Prelude.{◌≡◌, ℕ, ◌*◌, ◌≤◌, take};
 ghost use Rattle.definition.specs.Prove.{done};
 ghost use Rattle.edition.specs.Meaning.{edition_of};

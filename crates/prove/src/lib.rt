@@ -1,4 +1,6 @@
 // Prove: an order is refused with number and place and no byte is written, or the honest file stands at the front of the output.
+#![tactic(auto)]
+
 ghost use Rattle.std.specs.Prelude.{◌≡◌, ◌++◌, ◌*◌, ◌≤◌, length, drop};
 ghost use Rattle.definition.specs.Block.{block_count, file_of};
 ghost use Rattle.definition.specs.Layout.{words_due};

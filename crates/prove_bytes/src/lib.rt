@@ -1,4 +1,6 @@
 // What the programs `prove` and `prove2` answer to the bytes that they read. No operation asks anything of its caller.
+#![tactic(auto)]
+
 ghost use Rattle.std.specs.Prelude.{◌≡◌, take};
 ghost use Rattle.definition.specs.Sheet.{edition2};
 ghost use Rattle.edition.specs.Meaning.{edition_of};

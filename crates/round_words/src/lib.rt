@@ -1,5 +1,7 @@
 // What the words w of a stream of edition e give at a level: G of the next round, what its table is corrected by, and the final difference. pw is the table of the
 // points of domain 0.
+#![tactic(auto)]
+
 ghost use Rattle.std.specs.Prelude.{◌≡◌, ◌≤◌, length, get_or, drop};
 ghost use Rattle.definition.specs.Field.{elements_in};
 ghost use Rattle.definition.specs.Polynomial.{pair};

@@ -1,4 +1,6 @@
 // Demand 3 in code: an order is proved, and what was written is judged.
+#![tactic(auto)]
+
 ghost use Rattle.std.specs.Prelude.{◌≡◌, ℕ, ◌*◌, take};
 ghost use Rattle.definition.specs.Prove.{done, prove, prove_in};
 ghost use Rattle.definition.specs.Sheet.{edition1, edition2, sheet_of};

@@ -1,4 +1,6 @@
 // Verify in two steps, for whoever receives a file long before he may decide: reading, and deciding. Both take the file's bytes, and nothing is handed over.
+#![tactic(auto)]
+
 ghost use Rattle.std.specs.Prelude.{◌≡◌};
 ghost use Rattle.definition.specs.Reading.{reading};
 ghost use Rattle.definition.specs.Sheet.{edition1, edition2};

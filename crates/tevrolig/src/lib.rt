@@ -1,4 +1,6 @@
 // The operations as C functions. Nothing is allocated and no state is kept; what is lent is lent for the call alone.
+#![tactic(auto)]
+
 ghost use Rattle.std.specs.Prelude.{◌≡◌, length};
 ghost use Rattle.definition.specs.Reading.{reading};
 ghost use Rattle.definition.specs.Verify.{decide_file, verify, verify_in};

@@ -1,4 +1,6 @@
 // Verify: a transcript file of any length and content, of either edition, accepted or refused with number and place, and the count of reads.
+#![tactic(auto)]
+
 ghost use Rattle.std.specs.Prelude.{◌≡◌, ◌*◌, ◌/◌, ◌≤◌, min, length};
 ghost use Rattle.definition.specs.Reading.{reading};
 ghost use Rattle.definition.specs.Sheet.{edition2};

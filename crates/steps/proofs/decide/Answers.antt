@@ -1,0 +1,6 @@
+use Rattle.edition.specs.Meaning.{edition_of}
+use Rattle.steps.proofs.decide.Goals as goal
+
+pub returns : goal.returns
+unfolding edition_of
+returns c = c.decide_in.ensures

@@ -1,0 +1,6 @@
+use Rattle.edition.specs.Meaning.{edition_of}
+use Rattle.steps.proofs.read_then_decide_2.Goals as goal
+
+pub returns : goal.returns
+unfolding edition_of
+returns c = c.read_then_decide_in.ensures

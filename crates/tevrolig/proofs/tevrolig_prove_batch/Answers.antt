@@ -1,0 +1,9 @@
+use Rattle.batch_definition.specs.Batch.{prove_batch}
+use Rattle.outcome.specs.Gives.{Gives, gives}
+use Rattle.tevrolig.proofs.Numbered.{given_written}
+use Rattle.tevrolig.proofs.tevrolig_prove_batch.Goals as goal
+
+pub returns : goal.returns
+returns c =
+    let a = c.args in
+    let g : Gives (prove_batch a.sheet.now a.bounds.now a.coefficients.now a.coins.now) a.output.now _ _ = gives (c.prove_batch-answer.ensures.result_value, c.prove_batch-answer.ensures.output_after) in let both = given_written (c.of_answer-n.ensures.number_value, c.of_answer-n.ensures.value_value) g in record { value = both.0; value_after = both.1.0; output_after = both.1.1 }
