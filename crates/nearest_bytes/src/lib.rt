@@ -1,4 +1,6 @@
 // What the program `nearest` writes, as a function of the bytes that it reads. No public operation asks anything of its caller.
+#![tactic(auto)]
+
 ghost use Rattle.std.specs.Prelude.{◌≡◌, ◌+◌, ◌*◌, ◌≤◌, length, take};
 ghost use mathlib.Core.List.{flat_map};
 ghost use Rattle.definition.specs.Block.{bytes_of};
