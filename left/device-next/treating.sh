@@ -1,7 +1,7 @@
 # Blocks for crate treating, to be filled by tools fx.py after `rt dev treating --generated target/gen` and tmpl.py (names of needs may differ by one or two).
-cd ${TREE:-/work/h/device-base}
-python3 /work/helpers/device-next/tmpl.py treating coins fold_first fold_after fold_of settled_of treat_next treat
-FX="python3 /work/shared/tools/fx.py treating"
+cd "${TREE:-.}"
+python3 tmpl.py treating coins fold_first fold_after fold_of settled_of treat_next treat
+FX="python3 fx.py treating"
 $FX coins "search needs" <<'E'
 USE
 -- `treating::coins` meets its contract. Assumes nothing.
