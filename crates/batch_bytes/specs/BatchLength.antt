@@ -4,13 +4,13 @@ use Rattle.std.specs.Prelude.{ℕ, ◌+◌, ◌%◌, ◌≤◌, ◌≡◌, List,
 use Rattle.std.proofs.Common.{arith, length-drop, length-take}
 use Rattle.definition.specs.Prove.{done}
 use Rattle.definition.specs.Sheet.{edition1, sheet_of}
-use Rattle.layouts.specs.DueSizes.{coins_most}
+use Rattle.layouts.proofs.DueSizes.{coins_most}
 use Rattle.layouts.specs.Spellings.{count_one}
 use Rattle.layouts.specs.Tests.{equal_passes}
-use Rattle.batches.specs.AllowedBatches.{batch_count, batch_enough, batch_number, batch_words_lem}
-use Rattle.batches.specs.BatchCompleteness.{done_allowed}
+use Rattle.batches.proofs.AllowedBatches.{batch_count, batch_enough, batch_number, batch_words_lem}
+use Rattle.batches.proofs.BatchCompleteness.{done_allowed}
 use Rattle.batches.specs.Batched.{AllowedBatch}
-use Rattle.batches.specs.ProverTests.{coins_long}
+use Rattle.batches.proofs.ProverTests.{coins_long}
 use Rattle.batch_sheet.proofs.SizeLaws.{coefficients_small}
 use Rattle.word_input.specs.Input.{sheet_part, whole_words_test, words_of}
 use Rattle.word_input.specs.InputWords.{done_after}

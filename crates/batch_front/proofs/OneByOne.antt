@@ -20,9 +20,9 @@ use Rattle.list_laws.specs.Lists.{part_length_lem}
 use Rattle.list_laws.specs.Zeros.{zeros}
 use Rattle.algebra.specs.Laws.{FieldLaws}
 use Rattle.algebra.specs.Quartic.{quad_path}
-use Rattle.layouts.specs.Lawful.{lawful}
+use Rattle.layouts.proofs.Lawful.{lawful}
 use Rattle.layouts.specs.Levels.{sheet_field, sheet_root, words_for}
-use Rattle.layouts.specs.PlainSheet.{sheet_plain}
+use Rattle.layouts.proofs.PlainSheet.{sheet_plain}
 use Rattle.layouts.specs.Spellings.{count_add, count_mono}
 use Rattle.batches.specs.BatchRules.{bounds_within, entries_few, entry_words_lem}
 use Rattle.spelling.specs.ByField.{laws_at}

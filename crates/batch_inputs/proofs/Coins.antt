@@ -16,12 +16,12 @@ use Rattle.definition.specs.Sheet.{edition1, sheet_length, sheet_of, Sheet}
 use Rattle.definition.specs.Verdict.{accepted, refused, ◌then◌}
 use Rattle.list_laws.specs.First.{first_below}
 use Rattle.list_laws.specs.Lists.{zip_short}
-use Rattle.layouts.specs.DueSizes.{coins_most}
+use Rattle.layouts.proofs.DueSizes.{coins_most}
 use Rattle.layouts.specs.Levels.{words_for}
 use Rattle.layouts.specs.Spellings.{count_one}
-use Rattle.batches.specs.AllowedBatches.{batch_coins}
+use Rattle.batches.proofs.AllowedBatches.{batch_coins}
 use Rattle.batches.specs.Batched.{higher}
-use Rattle.batches.specs.ProverTests.{out_place, outs_after}
+use Rattle.batches.proofs.ProverTests.{out_place, outs_after}
 use Rattle.input_tests.specs.Places.{in_front, in_neither, in_others}
 use Rattle.outcome.specs.declared.Outcome.{Outcome as Answered}
 use Rattle.outcome.specs.declared.Outcome.TheVariants.{Accepted, Refused}

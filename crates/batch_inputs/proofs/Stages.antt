@@ -14,7 +14,7 @@ use Rattle.definition.specs.Reading.{out_of_range}
 use Rattle.definition.specs.Sheet.{Sheet, edition1, sheet_of}
 use Rattle.definition.specs.Verdict.{Outcome, accepted, refused, refuse_at, ◌then◌}
 use Rattle.layouts.specs.Levels.{words_for}
-use Rattle.batches.specs.ProverTests.{coins_long}
+use Rattle.batches.proofs.ProverTests.{coins_long}
 use Rattle.batch_sheet.specs.Rules.{refusal_of}
 use Rattle.input_tests.specs.OneByOne.{agree, clear, differ, enough, found, short}
 use Rattle.outcome.specs.declared.Found.{Found}

@@ -10,7 +10,7 @@ use Rattle.definition.specs.Field.{Element, elements_in, number_in, spelling_of,
 use Rattle.definition.specs.Sheet.{Sheet, edition1, sheet_of}
 use Rattle.layouts.specs.Levels.{sheet_field, words_for}
 use Rattle.layouts.specs.Spellings.{count_least, words_read}
-use Rattle.batches.specs.AllowedBatches.{batch_bounds, batch_enough, batch_number, batch_sum}
+use Rattle.batches.proofs.AllowedBatches.{batch_bounds, batch_enough, batch_number, batch_sum}
 use Rattle.batches.specs.Batched.{AllowedBatch}
 use Rattle.spelling.specs.ByField.{ElementOf, elements_at, field_at}
 use Rattle.spelling.specs.Words.{elements_many}

@@ -14,10 +14,10 @@ use Rattle.definition.specs.Prover.{honest_stream}
 use Rattle.definition.specs.Sheet.{Sheet, edition1, first_level, later_levels, sheet_of}
 use Rattle.layouts.specs.Levels.{words_for}
 use Rattle.layouts.specs.Spellings.{one_back, words_length}
-use Rattle.batches.specs.AllowedBatches.{batch_long, batch_number, batch_some, batch_words_lem}
+use Rattle.batches.proofs.AllowedBatches.{batch_long, batch_number, batch_some, batch_words_lem}
 use Rattle.batches.specs.Batched.{AllowedBatch, fold_number, higher_by}
-use Rattle.batches.specs.PlainProver.{combined_words, prover_as_plain}
-use Rattle.batches.specs.PlainStream.{words_higher}
+use Rattle.batches.proofs.PlainProver.{combined_words, prover_as_plain}
+use Rattle.batches.proofs.PlainStream.{words_higher}
 use Rattle.batch_front.specs.Words.{Ordered, tables_of}
 use Rattle.batch_front.proofs.OneByOne.{tables_words}
 

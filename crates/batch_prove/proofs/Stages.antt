@@ -13,7 +13,7 @@ use Rattle.definition.specs.Verdict as definition
 use Rattle.definition.specs.Verdict.{◌then◌}
 use Rattle.layouts.specs.Tests.{if_passes}
 use Rattle.batch_definition.specs.Batch.{batch_input_tests, batch_words, honest_batch, prove_batch}
-use Rattle.batches.specs.BatchCompleteness.{done_allowed}
+use Rattle.batches.proofs.BatchCompleteness.{done_allowed}
 use Rattle.batches.specs.Batched.{AllowedBatch}
 use Rattle.outcome.specs.declared.Outcome.{Outcome}
 use Rattle.outcome.specs.declared.Outcome.TheVariants.{Accepted, Refused}

@@ -12,9 +12,9 @@ use lib.ListN.{length, get_or, take, drop}
 use lib.Seq.{get_or-take, length-take-le, take-take}
 use Rattle.batch_definition.specs.Batch.{batch_rules, batch_test, batch_words, most_entries}
 use Rattle.batches.specs.BatchRules.{entries_few, tables_few}
-use Rattle.batches.specs.BatchSizes.{batch_blocks}
+use Rattle.batches.proofs.BatchSizes.{batch_blocks}
 use Rattle.batches.specs.Batched.{higher_by}
-use Rattle.batches.specs.PlainStream.{words_higher}
+use Rattle.batches.proofs.PlainStream.{words_higher}
 use Rattle.definition.specs.Block.{block_count}
 use Rattle.definition.specs.Layout.{words_due}
 use Rattle.definition.specs.Lists.{first_of, first_true}

@@ -9,8 +9,9 @@ use lib.Seq.{drop_at, drop-drop, length-take-le}
 use borrow.Rule.Slice.PartMut.{put_mid}
 use Rattle.batch_definition.specs.Batch.{batch_start, read_batch}
 use Rattle.batches.specs.Batched.{combined_table, fold_number, higher, higher_by, plain_words}
-use Rattle.batches.specs.PlainBody.{batch_body, body_higher, plain_body, tables_refuse, tables_test}
-use Rattle.batches.specs.PlainStream as plain
+use Rattle.batches.proofs.PlainBody.{body_higher, tables_refuse}
+use Rattle.batches.specs.BodyTests.{batch_body, plain_body, tables_test}
+use Rattle.batches.proofs.PlainStream as plain
 use Rattle.definition.specs.Field.{prime_of, spelling_of, word_count, words_of}
 use Rattle.definition.specs.Layout.{words_due}
 use Rattle.definition.specs.Lists.{first_true}

@@ -11,9 +11,9 @@ use lib.ListN.{length, get_or, take, drop, length-drop, length-map}
 use lib.Seq.{length-take-le, take_all, take_at}
 use Rattle.batch_definition.specs.Batch.{batch_reading, batch_test, batch_tests, batch_words}
 use Rattle.batches.specs.Batched.{higher, higher_by}
-use Rattle.batches.specs.PlainBody.{batch_body, plain_body}
-use Rattle.batches.specs.PlainStream.{first_moved, moved}
-use Rattle.completeness.specs.Answers.{Refuses, at_refuses, then_refuses}
+use Rattle.batches.specs.BodyTests.{batch_body, plain_body}
+use Rattle.batches.proofs.PlainStream.{first_moved, moved}
+use Rattle.completeness.proofs.Answers.{Refuses, at_refuses, then_refuses}
 use Rattle.definition.specs.Block.{stream_of}
 use Rattle.definition.specs.Field.{prime_of}
 use Rattle.definition.specs.Layout.{layout, words_due}

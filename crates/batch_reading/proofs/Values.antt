@@ -11,16 +11,16 @@ use Rattle.algebra.specs.FieldIn.{zero_in}
 use Rattle.batch_definition.specs.Batch.{Batch, batch_function, combine_at, most_entries, read_batch}
 use Rattle.batches.specs.BatchRules.{bounds_within, entries_few, entry_words_lem, tables_few}
 use Rattle.batches.specs.Batched.{combined_table}
-use Rattle.batches.specs.PlainStream as plain
+use Rattle.batches.proofs.PlainStream as plain
 use Rattle.combination.specs.Asked.{Bounded, Tabled, TablesFit}
 use Rattle.definition.specs.Domain.{point}
 use Rattle.definition.specs.Field.{Element, Field, Spelling, elements_in, field_of, four, number_in, one, power, prime_field, spelling_of, word_count, words_of}
 use Rattle.definition.specs.Lists.{chunks, range}
 use Rattle.definition.specs.Sheet.{Sheet, edition1, first_level, root_of_unity, sheet_of}
 use Rattle.domain.specs.Powers.{Powers}
-use Rattle.layouts.specs.Lawful.{Lawful, lawful}
+use Rattle.layouts.proofs.Lawful.{Lawful, lawful}
 use Rattle.layouts.specs.Levels.{sheet_field, sheet_root, words_for}
-use Rattle.layouts.specs.PlainSheet.{sheet_plain}
+use Rattle.layouts.proofs.PlainSheet.{sheet_plain}
 use Rattle.layouts.specs.Spellings.{count_add, count_least, words_read}
 use Rattle.list_laws.specs.All.{All}
 use Rattle.list_laws.specs.Lists.{by_number, get_d_map_range, rest_all}

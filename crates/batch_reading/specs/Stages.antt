@@ -2,7 +2,7 @@
 use Rattle.std.specs.Prelude.{ℕ, ◌*◌, ◌/◌, ◌≤◌, List, ◌≡◌, length, get_or, take, drop}
 use Rattle.batch_definition.specs.Batch.{batch_reading, batch_test, batch_tests, batch_words}
 use Rattle.batches.specs.Batched.{batch_number, batch_sheet, higher_by, plain_words}
-use Rattle.batches.specs.PlainBody.{batch_body}
+use Rattle.batches.specs.BodyTests.{batch_body}
 use Rattle.definition.specs.Block.{stream_of}
 use Rattle.definition.specs.Reading.{blocks_test, sheet_test}
 use Rattle.definition.specs.Sheet.{edition1, sheet_of}

@@ -10,7 +10,7 @@ ghost use Rattle.definition.specs.Sheet.{edition1, sheet_of};
 ghost use Rattle.definition.specs.Verdict.{accepted};
 ghost use Rattle.batch_definition.specs.Batch.{read_batch};
 ghost use Rattle.batches.specs.Batched.{combined_table, fold_number, higher, higher_by, plain_words};
-ghost use Rattle.batches.specs.PlainBody.{plain_body};
+ghost use Rattle.batches.specs.BodyTests.{plain_body};
 ghost use Rattle.outcome.specs.Meaning.{outcome_of, place_of};
 ghost use Rattle.reading.specs.Stages.{Loads};
 ghost use Rattle.batch_reading.specs.Stages.{BodyRead, ReadBatch, Ruled, StreamRead, number_tests};

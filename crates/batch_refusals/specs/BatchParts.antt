@@ -15,19 +15,19 @@ use Rattle.definition.specs.Reading.{out_of_range, sheet_test}
 use Rattle.definition.specs.Sheet.{Sheet, edition1, first_level, later_levels, sheet_of}
 use Rattle.definition.specs.Verdict.{accepted}
 use Rattle.list_laws.specs.Lists.{get_d_after_run, get_d_run}
-use Rattle.layouts.specs.LayoutByRound.{starts_grow}
-use Rattle.layouts.specs.Lawful.{Lawful, lawful}
+use Rattle.layouts.proofs.LayoutByRound.{starts_grow}
+use Rattle.layouts.proofs.Lawful.{Lawful, lawful}
 use Rattle.layouts.specs.Levels.{level_of, round_count, round_start, rounds_of, words_for}
-use Rattle.layouts.specs.LevelsByNumber.{Paired, level_first}
+use Rattle.layouts.proofs.LevelsByNumber.{Paired, level_first}
 use Rattle.layouts.specs.Spellings.{count_add, count_one}
 use Rattle.completeness.specs.Faults.{Part, PartDue, combination, finals, fold, outs, part_length, part_limit, part_start, shifts, words}
 use Rattle.completeness.specs.Numbered.{count_of, final, replies, start_of, table}
 use Rattle.completeness.specs.PartsByNumber.{due_is, every_word, part_below, part_kind_lem}
 use Rattle.completeness.specs.TestsByNumber.{zip_at, zip_length}
-use Rattle.completeness.specs.VerifyExactly.{kind_limit}
-use Rattle.batches.specs.AllowedBatches.{runs}
+use Rattle.completeness.proofs.VerifyExactly.{kind_limit}
+use Rattle.batches.proofs.AllowedBatches.{runs}
 use Rattle.batches.specs.Batched.{higher_by}
-use Rattle.batches.specs.PlainStream.{at_is, enough, higher_is, words_higher}
+use Rattle.batches.proofs.PlainStream.{at_is, enough, higher_is, words_higher}
 use Rattle.batch_refusals.specs.BatchFaults.{BatchRangeFault, batch_due, batch_part_length, batch_part_limit, batch_part_start, joint, run, tables}
 use Rattle.batch_refusals.specs.DecidedFaults.{Finds}
 

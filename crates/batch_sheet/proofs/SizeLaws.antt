@@ -12,7 +12,7 @@ use Rattle.definition.specs.Reading.{sheet_test}
 use Rattle.definition.specs.Sheet.{Sheet, edition1, sheet_of}
 use Rattle.definition.specs.Verdict.{accepted}
 use Rattle.list_laws.specs.All.{All}
-use Rattle.layouts.specs.PlainSheet.{sheet_plain}
+use Rattle.layouts.proofs.PlainSheet.{sheet_plain}
 use Rattle.layouts.specs.Spellings.{count_add, count_least}
 use Rattle.batches.specs.BatchRules.{bounds_within, entries_few, sum_most}
 use Rattle.batches.specs.Batched.{fold_number, higher_by}

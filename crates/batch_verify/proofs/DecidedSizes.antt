@@ -20,16 +20,16 @@ use Rattle.definition.specs.Transcript
 use Rattle.definition.specs.Verdict.{Outcome, accepted, refused, then_verdict}
 use Rattle.list_laws.specs.Lists.{zip_short}
 use Rattle.list_laws.specs.Members.{different_most}
-use Rattle.layouts.specs.Lawful.{Lawful, lawful, rounds_word}
+use Rattle.layouts.proofs.Lawful.{Lawful, lawful, rounds_word}
 use Rattle.layouts.specs.Levels.{level_of, rounds_of, sheet_field, sheet_root}
-use Rattle.layouts.specs.LevelsByNumber.{Paired}
-use Rattle.layouts.specs.PlainSheet.{sheet_plain}
+use Rattle.layouts.proofs.LevelsByNumber.{Paired}
+use Rattle.layouts.proofs.PlainSheet.{sheet_plain}
 use Rattle.layouts.specs.Spellings.{begun_length}
-use Rattle.completeness.specs.Answers.{Refuses, at_refuses, then_refuses}
+use Rattle.completeness.proofs.Answers.{Refuses, at_refuses, then_refuses}
 use Rattle.completeness.specs.DecidedByNumber.{clashes, decide_rounds, decided, final_tests, rest_final, rest_round, rest_after}
 use Rattle.completeness.specs.EqualOuts.{repeated_most}
 use Rattle.completeness.specs.Faults.{finals, fold, function_in, pairs_in, part_element, part_length, part_words, shifts}
-use Rattle.completeness.specs.Places.{coin_places_count}
+use Rattle.completeness.proofs.Places.{coin_places_count}
 
 treated_few : (js : List ℕ) (f : Option ℕ) → length (treated js f) ≤ length js
 unfolding treated

@@ -9,8 +9,8 @@ use borrow.Author.Tests.{le-ltb}
 use Rattle.batch_definition.specs.Batch.{batch_reading, most_entries, verify_batch}
 use Rattle.batches.specs.BatchRules.{entries_few, tables_few}
 use Rattle.batches.specs.Batched.{higher_by, plain_words}
-use Rattle.batches.specs.PlainStream.{enough}
-use Rattle.batches.specs.PlainVerdict.{full, some, tests}
+use Rattle.batches.proofs.PlainStream.{enough}
+use Rattle.batches.proofs.PlainVerdict.{full, some, tests}
 use Rattle.definition.specs.Block.{stream_of}
 use Rattle.definition.specs.Prove.{finish, output_test}
 use Rattle.definition.specs.Sheet.{Sheet, edition1, sheet_of}

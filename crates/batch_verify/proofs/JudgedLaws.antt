@@ -6,7 +6,7 @@ use mathlib.Core.Path.{◌≡◌, sym, ap, ◌∙◌, subst}
 use lib.Dec.{eqb}
 use lib.ListN.{length}
 use Rattle.batches.specs.Batched.{placed}
-use Rattle.completeness.specs.Answers.{Refuses}
+use Rattle.completeness.proofs.Answers.{Refuses}
 use Rattle.definition.specs.Deciding.{deciding}
 use Rattle.definition.specs.Sheet.{edition1}
 use Rattle.definition.specs.Verdict as definition

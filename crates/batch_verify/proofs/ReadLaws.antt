@@ -5,10 +5,10 @@ use mathlib.Core.List.{List}
 use mathlib.Core.Path.{◌≡◌, sym, ap, ◌∙◌}
 use lib.ListN.{length, get_or, take, drop}
 use Rattle.batch_definition.specs.Batch.{batch_deciding, batch_reading, batch_words, verify_batch}
-use Rattle.batches.specs.BatchSizes.{batch_blocks}
+use Rattle.batches.proofs.BatchSizes.{batch_blocks}
 use Rattle.batches.specs.Batched.{batch_number, batch_sheet, higher_by, plain_words}
-use Rattle.batches.specs.PlainStream.{enough}
-use Rattle.batches.specs.PlainVerdict.{full, some, tests}
+use Rattle.batches.proofs.PlainStream.{enough}
+use Rattle.batches.proofs.PlainVerdict.{full, some, tests}
 use Rattle.batch_reading.specs.Stages.{ReadBatch}
 use Rattle.definition.specs.Block.{block_count, stream_of}
 use Rattle.definition.specs.Reading.{blocks_test}

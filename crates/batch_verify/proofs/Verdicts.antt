@@ -10,9 +10,9 @@ use lib.ListN.{length, get_or}
 use borrow.Author.Tests.{eqb-false, eqb-true}
 use Rattle.batch_definition.specs.Batch.{batch_reading, verify_batch}
 use Rattle.batches.specs.Batched.{higher_by, plain_words}
-use Rattle.batches.specs.PlainStream.{plain_due}
-use Rattle.batches.specs.PlainVerdict.{Others, decided_as_plain, full, outs_passed, outs_unread, plain_ready, reads_with_rounds, reads_without_rounds, some, tests}
-use Rattle.completeness.specs.Answers.{Refuses}
+use Rattle.batches.proofs.PlainStream.{plain_due}
+use Rattle.batches.proofs.PlainVerdict.{Others, decided_as_plain, full, outs_passed, outs_unread, plain_ready, reads_with_rounds, reads_without_rounds, some, tests}
+use Rattle.completeness.proofs.Answers.{Refuses}
 use Rattle.completeness.specs.Faults.{part_words, shifts}
 use Rattle.completeness.specs.Numbered.{level_reads}
 use Rattle.definition.specs.Block.{stream_of}

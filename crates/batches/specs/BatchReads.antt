@@ -20,7 +20,7 @@ use Rattle.layouts.specs.Levels.{level_of, rounds_of, sheet_field, sheet_root, t
 use Rattle.completeness.specs.DecidingAccepts.{Admissible, all_places}
 use Rattle.completeness.specs.Numbered.{coins_of, final_indices, indices_of, level_reads, shift_indices}
 use Rattle.completeness.specs.Openings.{in_tables, own_table, reads_next, tables_read}
-use Rattle.completeness.specs.Reads.{shift_points}
+use Rattle.completeness.proofs.ReadsCounted.{shift_points}
 use Rattle.batches.specs.Batched.{batch_reads}
 
 -- the numbers in a range are different

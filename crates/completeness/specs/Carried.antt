@@ -23,7 +23,7 @@ use Rattle.layouts.specs.FileTrip.{fill_count, filled}
 use Rattle.layouts.specs.FileWords.{stream_length}
 use Rattle.layouts.specs.Levels.{sheet_field, sheet_root}
 use Rattle.layouts.specs.Passed.{Passed, passed}
-use Rattle.layouts.specs.SheetLevels.{sheet_front}
+use Rattle.layouts.proofs.SheetLevels.{sheet_front}
 use Rattle.layouts.specs.Spellings.{begun_length}
 use Rattle.layouts.specs.Tests.{at_passes}
 use Rattle.layouts.specs.WholeCoins.{layout_whole}

@@ -17,7 +17,7 @@ use Rattle.list_laws.specs.All.{All, all_append}
 use Rattle.layouts.specs.EachWord.{Each, InRange, each_length, each_none}
 use Rattle.layouts.specs.FileTrip.{Word, file_checks, file_length, file_stream, fill_count, filled}
 use Rattle.completeness.specs.Ready.{layout_fits, ready}
-use Rattle.layouts.specs.SheetLevels.{rules_front, sheet_front}
+use Rattle.layouts.proofs.SheetLevels.{rules_front, sheet_front}
 use Rattle.layouts.specs.SheetRules.{sheet_words_lem}
 use Rattle.layouts.specs.Tests.{at_none, if_false, none_true}
 

@@ -7,7 +7,7 @@ use Rattle.definition.specs.Field.{Element, Spelling, begun_by, elements_in, num
 use Rattle.definition.specs.Layout.{Kind, coin, index, later_count, layout, message, out, read_rest, read_transcript, rest_layout, round_coins}
 use Rattle.definition.specs.Sheet.{Level, Sheet, final_count, first_level, later_levels}
 use Rattle.definition.specs.Transcript.{final, round}
-use Rattle.layouts.specs.LayoutFacts.{final_length, layout_length, rest_length}
+use Rattle.layouts.proofs.LayoutFacts.{final_length, layout_length, rest_length}
 use Rattle.layouts.specs.Levels.{element_at}
 use Rattle.layouts.specs.Spellings.{at_take, begun_at, count_zero, read_drop, read_from}
 use Rattle.layouts.specs.WholeCoins.{IsOut, Whole, whole_inside}

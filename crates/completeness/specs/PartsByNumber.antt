@@ -13,10 +13,11 @@ use Rattle.definition.specs.Layout.{Kind, coin, index, later_count, layout, mess
 use Rattle.definition.specs.Sheet.{Edition, Level, Sheet, final_count, sheet_length, shift_count}
 use Rattle.list_laws.specs.Lists.{get_d_after_run, get_d_run}
 use Rattle.list_laws.specs.NumberedParts.{joined}
-use Rattle.layouts.specs.LayoutByRound.{after_start, after_kinds, kinds_length, last_kinds, round_kinds, starts_after, starts_grow, words_due_lem}
-use Rattle.layouts.specs.LayoutFacts.{later_layout, outs_length}
+use Rattle.layouts.proofs.LayoutByRound.{after_start, after_kinds, kinds_length, last_kinds, round_kinds, starts_after, starts_grow, words_due_lem}
+use Rattle.layouts.proofs.LayoutFacts.{outs_length}
+use Rattle.layouts.specs.KindsAfter.{later_layout}
 use Rattle.layouts.specs.Levels.{level_of, out_coin_count, round_count, round_start, rounds_of, words_for}
-use Rattle.layouts.specs.LevelsByNumber.{Paired}
+use Rattle.layouts.proofs.LevelsByNumber.{Paired}
 use Rattle.layouts.specs.Spellings.{count_add, count_one}
 use Rattle.completeness.specs.Faults.{Part, PartDue, combination, due_of, finals, fold, outs, part_length, part_start, shifts, words}
 use Rattle.completeness.specs.Numbered.{count_of, final, replies, start_of, table}

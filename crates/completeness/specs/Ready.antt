@@ -13,11 +13,11 @@ use Rattle.algebra.specs.Laws.{FieldLaws}
 use Rattle.algebra.specs.PowerBySquaring.{power_mod_is}
 use Rattle.algebra.specs.PrimeField.{Suited, fitting_root, prime_field_lem, suited}
 use Rattle.algebra.specs.RootsOfUnity.{minus_one}
-use Rattle.layouts.specs.Lawful.{lawful}
-use Rattle.layouts.specs.LayoutFacts.{layout_all}
+use Rattle.layouts.proofs.Lawful.{lawful}
+use Rattle.layouts.proofs.LayoutFacts.{layout_all}
 use Rattle.layouts.specs.LevelSizes.{Chain, Sized}
 use Rattle.layouts.specs.Levels.{level_of, rounds_of, sheet_field, sheet_root}
-use Rattle.layouts.specs.SheetLevels.{Steps, sheet_chain, sheet_steps, sized}
+use Rattle.layouts.proofs.SheetLevels.{Steps, sheet_chain, sheet_steps, sized}
 
 pub record Ready (h : Sheet) : Type 0 where
   pub laws : FieldLaws (sheet_field h)

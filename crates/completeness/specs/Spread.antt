@@ -19,8 +19,8 @@ use Rattle.definition.specs.Verdict.{accepted}
 use Rattle.list_laws.specs.All.{at_place}
 use Rattle.list_laws.specs.Lists.{get_d_map}
 use Rattle.layouts.specs.PlainRules.{LaterWords, PlainSheet, PlainWords}
-use Rattle.layouts.specs.PlainSheet.{first_word, fold_one, later_word, plain_sheet, sheet_plain}
-use Rattle.layouts.specs.SheetLevels.{sheet_moved}
+use Rattle.layouts.proofs.PlainSheet.{first_word, fold_one, later_word, plain_sheet, sheet_plain}
+use Rattle.layouts.proofs.SheetLevels.{sheet_moved}
 use Rattle.layouts.specs.SheetRules.{fold_count, rounds_most}
 use Rattle.layouts.specs.Tests.{all_false}
 

@@ -8,7 +8,7 @@ use lib.Seq.{drop-drop, take_at, take-take}
 use Rattle.definition.specs.Convert.{backward, body_of, forward, spread}
 use Rattle.definition.specs.Layout.{layout, words_due}
 use Rattle.definition.specs.Sheet.{edition1, edition2, sheet_of}
-use Rattle.completeness.specs.Conversion.{spread_words}
+use Rattle.completeness.proofs.Conversion.{spread_words}
 use Rattle.list_laws.specs.Lists.{drop_take}
 
 -- a list that begins with s, past its first words

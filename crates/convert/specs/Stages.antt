@@ -12,7 +12,7 @@ use Rattle.definition.specs.Reading.{reading, sheet_test}
 use Rattle.definition.specs.Sheet.{Edition, edition1, edition2, sheet_length, sheet_of}
 use Rattle.definition.specs.Verdict as definition
 use Rattle.definition.specs.Verdict.{◌then◌, refuse_at, refuse_if}
-use Rattle.completeness.specs.Conversion.{backward_length, forward_length}
+use Rattle.completeness.proofs.Conversion.{backward_length, forward_length}
 use Rattle.layouts.specs.Tests.{if_passes, then_passes}
 use Rattle.outcome.specs.declared.Answer.{Answer}
 use Rattle.outcome.specs.declared.Answer.TheVariants.{Done, Refusal}

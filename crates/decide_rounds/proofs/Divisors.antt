@@ -22,8 +22,8 @@ use Rattle.algebra.specs.FieldIn.{read_below, reduced_in}
 use Rattle.algebra.specs.Laws.{FieldLaws}
 use Rattle.algebra.specs.RootsOfUnity.{minus_one, odd_even_differ, power_mul}
 use Rattle.list_laws.specs.All.{All, all_append, all_map, all_map₂, all_of_map, everywhere}
-use Rattle.completeness.specs.Divisors as completeness
-use Rattle.completeness.specs.AdmissibleCoins.{outside_differs}
+use Rattle.completeness.proofs.Divisors as completeness
+use Rattle.completeness.proofs.AdmissibleCoins.{outside_differs}
 use Rattle.layouts.specs.EachWord.{InRange, each_outs, in_range}
 use Rattle.layouts.specs.Levels.{element_at, rounds_of, sheet_field, sheet_root, words_for}
 use Rattle.layouts.specs.Spellings.{count_add, count_zero, read_drop}

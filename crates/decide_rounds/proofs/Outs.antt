@@ -6,7 +6,8 @@ use mathlib.Core.Bool.{false}
 use mathlib.Core.List.{List, ◌++◌, zip_with, append_assoc}
 use lib.ListN.{drop, replicate, length-append, length-replicate}
 use Rattle.list_laws.specs.All.{all_append, all_replicate}
-use Rattle.layouts.specs.LayoutFacts.{later_layout, later_length}
+use Rattle.layouts.proofs.LayoutFacts.{later_length}
+use Rattle.layouts.specs.KindsAfter.{later_layout}
 use Rattle.layouts.specs.Levels.{rounds_of, words_for}
 use Rattle.layouts.specs.Spellings.{begun_length}
 use Rattle.definition.specs.Deciding.{out_in_domain}

@@ -1,9 +1,9 @@
 -- The sizes of a sheet by level.
 use Rattle.std.specs.Prelude.{ℕ, ◌+◌, ◌*◌, ◌/◌, ◌^◌, ◌≤◌, ◌≡◌, get_or}
 use Rattle.std.proofs.Common.{mul_comm, pow-suc, add-one, arith, sym, ap, ◌∙◌}
-use Rattle.layouts.specs.LevelsByNumber.{halved}
+use Rattle.layouts.proofs.LevelsByNumber.{halved}
 use Rattle.layouts.specs.Levels.{rounds_of}
-use Rattle.layouts.specs.SheetLevels.{sized}
+use Rattle.layouts.proofs.SheetLevels.{sized}
 use Rattle.definition.specs.Sheet.{Sheet}
 use Rattle.decide_rounds.specs.Invariant.{Shaped}
 

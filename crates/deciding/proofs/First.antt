@@ -7,8 +7,8 @@ use mathlib.Core.Option.{none}
 use lib.ListN.{length, get_or, take, drop, replicate, length-append, length-drop, length-replicate}
 use lib.Seq.{drop-drop, get_or-take}
 use Rattle.list_laws.specs.Lists.{tail_drop}
-use Rattle.layouts.specs.Lawful.{lawful, rounds_word, times_word}
-use Rattle.layouts.specs.LevelsByNumber.{undivided}
+use Rattle.layouts.proofs.Lawful.{lawful, rounds_word, times_word}
+use Rattle.layouts.proofs.LevelsByNumber.{undivided}
 use Rattle.layouts.specs.EachWord.{Front, InRange, front_at, front_false, front_none}
 use Rattle.layouts.specs.Levels.{element_at, rounds_of, sheet_field, sheet_root, words_for}
 use Rattle.layouts.specs.Spellings.{count_zero, read_drop}

@@ -11,5 +11,4 @@ pub mod Decoded
 pub mod Transform
 pub mod Start
 pub mod AllElements
-pub mod Exactly
 pub mod FourPlanes

@@ -63,7 +63,7 @@ four_words_2 =
     ∷ 1 ∷ 0 ∷ 1735186995 ∷ 952934839 ∷ 1162518953 ∷ 77074547 ∷ 1 ∷ []
 
 pub record Field3Cases : Type 0 where
-  -- the operations of field 3, each word first taken modulo p: X-as-X³ = 11; (1 + X)·(1 - X + X² - X³) = -10
+  -- the operations of field 3, each word first taken modulo p: X·X³ = 11; (1 + X)·(1 - X + X² - X³) = -10
   pub sum : sum3 (quad 2013265920 5 2013265921 4294967295) (quad 2 2013265916 1 4294967294) ≡ quad 1 0 1 536870905
   pub difference : difference3 (quad 0 1 2013265924 7) (quad 1 4294967295 2013265921 9) ≡ quad 2013265920 1744830469 3 2013265919
   pub fourth_power : product3 (quad 0 1 0 0) (quad 0 0 0 1) ≡ quad 11 0 0 0

@@ -19,7 +19,7 @@ use Rattle.algebra.specs.Different.{Apart}
 use Rattle.algebra.specs.Laws.{FieldLaws}
 use Rattle.list_laws.specs.All.{All}
 use Rattle.layouts.specs.Tests.{all_false, at_none, none_true}
-use Rattle.completeness.specs.Divisors.{samples_apart}
+use Rattle.completeness.proofs.Divisors.{samples_apart}
 use Rattle.dependence.specs.Orders.{perm_all, perm_clash, perm_corrected, perm_distinct, perm_map}
 
 -- a round with other shift coins

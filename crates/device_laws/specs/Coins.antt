@@ -15,10 +15,10 @@ use Rattle.definition.specs.Sheet.{Edition, Level, Sheet, final_count, first_lev
 use Rattle.definition.specs.Verdict.{accepted}
 use Rattle.list_laws.specs.All.{All, all_of_map, all_range}
 use Rattle.list_laws.specs.Lists.{range_length}
-use Rattle.layouts.specs.Lawful.{Lawful, lawful}
-use Rattle.layouts.specs.LayoutFacts.{final_length, layout_length, rest_length}
+use Rattle.layouts.proofs.Lawful.{Lawful, lawful}
+use Rattle.layouts.proofs.LayoutFacts.{final_length, layout_length, rest_length}
 use Rattle.layouts.specs.Levels.{level_of, rounds_of}
-use Rattle.layouts.specs.LevelsByNumber.{as_listed}
+use Rattle.layouts.proofs.LevelsByNumber.{as_listed}
 use Rattle.layouts.specs.Passed.{Passed, passed}
 use Rattle.coinwise.specs.Folds.{Coined}
 

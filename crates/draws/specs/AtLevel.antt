@@ -14,13 +14,13 @@ use Rattle.definition.specs.Load.{smallest_allowed}
 use Rattle.definition.specs.Reading.{sheet_test}
 use Rattle.definition.specs.Sheet.{Level, edition1, root_of_unity, sheet_of, shift_count}
 use Rattle.definition.specs.Verdict.{accepted}
-use Rattle.layouts.specs.Lawful.{lawful, rounds_word, times_word}
+use Rattle.layouts.proofs.Lawful.{lawful, rounds_word, times_word}
 use Rattle.layouts.specs.LevelSizes.{positive_sizes}
 use Rattle.layouts.specs.Levels.{level_of, rounds_of}
 use Rattle.layouts.specs.OneWord.{one_word}
-use Rattle.layouts.specs.PlainSheet.{fold_one}
-use Rattle.completeness.specs.Premises.{smallest_second}
-use Rattle.layouts.specs.SheetLevels.{level_is, sized}
+use Rattle.layouts.proofs.PlainSheet.{fold_one}
+use Rattle.completeness.proofs.Premises.{smallest_second}
+use Rattle.layouts.proofs.SheetLevels.{level_is, sized}
 use Rattle.layouts.specs.SheetRules.{first_fold, folding_large, front_words, rounds_most, small_repetitions}
 use Rattle.domain.specs.Powers.{Powers}
 use Rattle.draws.specs.OutCoin.{StandsFor, Suits}

@@ -10,7 +10,7 @@ ghost use Rattle.definition.specs.Load.{draw_kinds};
 ghost use Rattle.definition.specs.Reading.{sheet_test};
 ghost use Rattle.definition.specs.Sheet.{Sheet, edition1, sheet_of};
 ghost use Rattle.definition.specs.Verdict.{accepted};
-ghost use Rattle.layouts.specs.CoinsAfter.{kinds_after, later_kinds, out_kinds};
+ghost use Rattle.layouts.specs.KindsAfter.{kinds_after, later_kinds, out_kinds};
 ghost use Rattle.layouts.specs.Levels.{level_of};
 ghost use Rattle.draws.specs.AtLevel.{AtLevel};
 ghost use Rattle.draws.specs.OutCoin.{MayBe, OutDrawn};

@@ -5,7 +5,7 @@ use Rattle.std.proofs.Common.{div-one, add-one, arith, sym, ap, ◌∙◌}
 use Rattle.std.proofs.lemmas.List.{get_or-replicate}
 use Rattle.definition.specs.Lists.{product_of, range}
 use Rattle.definition.specs.Sheet.{Edition, edition1, edition2, fold_places, fold_words, sheet_length}
-use Rattle.layouts.specs.LevelsByNumber.{product_next}
+use Rattle.layouts.proofs.LevelsByNumber.{product_next}
 use Rattle.list_laws.specs.Lists.{get_d_map, get_d_range}
 use Rattle.layouts.specs.SheetRules.{fold_count}
 use Rattle.edition.specs.declared.Edition.TheVariants.{One, Two}

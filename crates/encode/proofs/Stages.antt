@@ -13,7 +13,7 @@ use Rattle.definition.specs.Reading.{sheet_test}
 use Rattle.definition.specs.Sheet.{edition1, sheet_of}
 use Rattle.definition.specs.Verdict as definition
 use Rattle.definition.specs.Verdict.{◌then◌}
-use Rattle.layouts.specs.Lawful.{lawful}
+use Rattle.layouts.proofs.Lawful.{lawful}
 use Rattle.layouts.specs.Tests.{equal_passes, if_passes, then_passes}
 use Rattle.outcome.specs.declared.Outcome.{Outcome}
 use Rattle.outcome.specs.declared.Outcome.TheVariants.{Accepted, Refused}

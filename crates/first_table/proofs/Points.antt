@@ -9,7 +9,7 @@ use Rattle.definition.specs.Prover.{table_words}
 use Rattle.definition.specs.Reading.{sheet_test}
 use Rattle.definition.specs.Sheet.{edition1, first_level, root_of_unity, sheet_of}
 use Rattle.definition.specs.Verdict as definition
-use Rattle.layouts.specs.Lawful.{lawful}
+use Rattle.layouts.proofs.Lawful.{lawful}
 use Rattle.layouts.specs.Spellings.{read_length, words_read}
 use Rattle.domain.specs.Powers.{Powers}
 use Rattle.plane_tables.specs.FourTable.{DomainTableAt}

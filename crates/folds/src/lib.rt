@@ -2,7 +2,7 @@
 //
 // pw is the table of the powers of ω, from the first power on to the n0-th, which is 1: point m of domain i is pw[2^i·m], a shift point is an entry, and so is the
 // inverse of a power. The k roots of a shift point are x·ζ^m, where ζ^(k/2) is -1, so root m and root m + k/2 are opposite. From the values v at x and w at -x the
-// polynomial E + typeof.r.O, made of the even and the odd half of the one through all k values, has (v + w + r·(v - w)/x)/2 at x², and at r² what that one has at r. So k
+// polynomial E + r·O, made of the even and the odd half of the one through all k values, has (v + w + r·(v - w)/x)/2 at x², and at r² what that one has at r. So k
 // values halve to k/2, until one is left.
 #![tactic(auto)]
 

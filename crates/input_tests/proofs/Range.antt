@@ -6,7 +6,7 @@ use mathlib.Core.List.{List, [], ◌++◌, append-nil, map, zip_with}
 use mathlib.Core.Option.{Option, none, some}
 use lib.Dec.{leb}
 use lib.ListN.{length, get_or}
-use Rattle.layouts.specs.DueSizes.{coins_most}
+use Rattle.layouts.proofs.DueSizes.{coins_most}
 use Rattle.layouts.specs.SheetRules.{front_words}
 use Rattle.layouts.specs.Spellings.{count_most}
 use Rattle.definition.specs.Field.{prime_of, spelling_of, word_count}

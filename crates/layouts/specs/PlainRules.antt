@@ -1,5 +1,5 @@
 -- THE RULES OF A SHEET, by word and in plain numbers: when word i is tested, and what the rules of all words ask. It holds no lemma and no proof.
-use Rattle.std.specs.Prelude.{ℕ, suc, ◌+◌, ◌-◌, ◌/◌, ◌%◌, ◌^◌, ◌≤◌, ◌<◌, true, false, cond, List, ◌≡◌, ltb, get_or, take}
+use Rattle.std.specs.Prelude.{ℕ, suc, ◌+◌, ◌-◌, ◌/◌, ◌%◌, ◌^◌, ◌≤◌, ◌<◌, true, false, cond, List, ◌≡◌, length, ltb, get_or, take}
 use Rattle.definition.specs.Field.{prime_of, spelling_of}
 use Rattle.definition.specs.Lists.{product_of}
 use Rattle.definition.specs.Sheet.{Edition, edition1, edition2, fold_words, largest_size, sheet_rules}
@@ -12,6 +12,10 @@ word_turn edition2 i = cond (ltb i 6) i (cond (ltb i 12) (i + 6) (i - 6))
 -- The rule of word i, which stands at its turn among the definition's rules, holds.
 abbrev pub KeepsRule : Edition → List ℕ → ℕ → Type 0
 KeepsRule ed w i = get_or (sheet_rules ed w) (word_turn ed i) false ≡ true
+
+-- The rules of edition 1's words hold as far as the words go.
+abbrev pub Kept : List ℕ → Type 0
+Kept w = (j : ℕ) → j < length w → get_or (sheet_rules edition1 w) j false ≡ true
 
 -- what edition 2 asks of words 12 to 17 besides: zeros past k_M, and 2 at last
 abbrev pub LaterWords : Edition → List ℕ → Type 0

@@ -187,7 +187,7 @@ begun_at four (a ∷ b ∷ c ∷ []) zero l = absurd (omega arith)
 begun_at four (a ∷ b ∷ c ∷ d ∷ w) zero l = refl
 begun_at four (x ∷ w) (suc i) l = begun_at four w i (omega arith)
 
--- element j of those that words spell begins at word wordCount σ j
+-- element j of those that words spell begins at word word_count σ j
 pub read_at_lem : (σ : Spelling) (w : List ℕ) (j : ℕ) → get_or (elements_in σ w) j (number_in σ 0) ≡ element_at σ w (word_count σ j)
 unfolding elements_in element_at word_count number_in quads
 read_at_lem one w j = refl

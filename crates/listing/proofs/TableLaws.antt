@@ -6,8 +6,8 @@ use mathlib.Core.List.{List, ◌∷◌, ◌++◌, flat_map, map}
 use mathlib.Core.Path.{◌≡◌, refl, sym, ap, ◌∙◌}
 use lib.ListN.{length, get_or}
 use Rattle.list_laws.specs.All.{all_range, map_all}
-use Rattle.layouts.specs.Lawful.{lawful, rounds_word}
-use Rattle.layouts.specs.LevelsByNumber.{as_listed}
+use Rattle.layouts.proofs.Lawful.{lawful, rounds_word}
+use Rattle.layouts.proofs.LevelsByNumber.{as_listed}
 use Rattle.layouts.specs.Levels.{level_of, rounds_of}
 use Rattle.definition.specs.Domain.{domain, point}
 use Rattle.definition.specs.Field.{field_of, prime_field}

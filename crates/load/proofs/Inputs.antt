@@ -12,11 +12,11 @@ use Rattle.definition.specs.Prove.{Answer, done, output_test, prove}
 use Rattle.definition.specs.Reading.{sheet_test}
 use Rattle.definition.specs.Sheet.{edition1, sheet_of}
 use Rattle.definition.specs.Verdict.{Verdict, accepted}
-use Rattle.layouts.specs.DueSizes.{blocks_most}
+use Rattle.layouts.proofs.DueSizes.{blocks_most}
 use Rattle.layouts.specs.Tests.{if_false}
-use Rattle.completeness.specs.LoadAllowed.{draws_accepted, draws_allowed, sheet_faultless}
+use Rattle.completeness.proofs.LoadAllowed.{draws_accepted, draws_allowed, sheet_faultless}
 use Rattle.completeness.specs.Numbered.{Allowed, Room, reads_due}
-use Rattle.completeness.specs.ProveAccepted.{done_exactly}
+use Rattle.completeness.proofs.ProveAccepted.{done_exactly}
 
 pub drawn_faultless : (v : ℕ) → (length (draw_input v).value.sheet ≡ 12) × (sheet_test edition1 (draw_input v).value.sheet ≡ accepted)
 unfolding draw_input

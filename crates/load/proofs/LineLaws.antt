@@ -9,10 +9,10 @@ use Rattle.definition.specs.Line.{decimal, line_of, outcome_text}
 use Rattle.definition.specs.Load.{draw_input, load_lines, load_runs, drawn_inputs, verdict_on}
 use Rattle.definition.specs.Sheet.{edition1, sheet_of}
 use Rattle.definition.specs.Verdict.{Verdict, accepted, refused}
-use Rattle.layouts.specs.DueSizes.{reads_most}
-use Rattle.completeness.specs.LoadAllowed.{draws_accepted, draws_allowed}
+use Rattle.layouts.proofs.DueSizes.{reads_most}
+use Rattle.completeness.proofs.LoadAllowed.{draws_accepted, draws_allowed}
 use Rattle.completeness.specs.Numbered.{reads_due}
-use Rattle.completeness.specs.Reads.{reads_at_most}
+use Rattle.completeness.proofs.ReadsCounted.{reads_at_most}
 use Rattle.line.specs.Decimal.{long_64}
 use Rattle.load.specs.Runs.{lines_from}
 use Rattle.load.proofs.Inputs.{drawn_faultless}

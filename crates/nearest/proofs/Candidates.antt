@@ -19,7 +19,7 @@ use Rattle.algebra.specs.Laws.{FieldLaws}
 use Rattle.algebra.specs.PrimeField.{suited}
 use Rattle.decoding.specs.AllElements.{all_below, all_in}
 use Rattle.decoding.specs.Errors.{wrong_at}
-use Rattle.decoding.specs.Exactly.{near_few, search_by, tested}
+use Rattle.decoding.proofs.Exactly.{near_few, search_by, tested}
 use Rattle.decoder.specs.declared.Nearest.{Nearest}
 use Rattle.decoder.specs.declared.Nearest.TheVariants.{Found, Nothing}
 use Rattle.domain.specs.Powers.{Powers}

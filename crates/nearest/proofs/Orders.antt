@@ -15,8 +15,8 @@ use Rattle.definition.specs.Verdict as definition
 use Rattle.definition.specs.Verdict.{◌then◌}
 use Rattle.definition.specs.Prove.{Answer, Result, finish, output_test, refusal, sheet_length_test}
 use Rattle.nearest_definition.specs.Nearest.{entries_test, entry_range_test, found_test, nearest, nearest_size, nearest_tests, nearest_to, nearest_words, wrong_points}
-use Rattle.layouts.specs.Lawful.{lawful}
-use Rattle.layouts.specs.PlainSheet.{sheet_plain}
+use Rattle.layouts.proofs.Lawful.{lawful}
+use Rattle.layouts.proofs.PlainSheet.{sheet_plain}
 use Rattle.layouts.specs.Spellings.{count_add, count_mono, count_most}
 use Rattle.layouts.specs.Tests.{equal_passes, if_passes, then_passes}
 use Rattle.domain.specs.Powers.{Powers}

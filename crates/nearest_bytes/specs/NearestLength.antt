@@ -6,9 +6,9 @@ use Rattle.definition.specs.Prove.{done, sheet_length_test}
 use Rattle.definition.specs.Reading.{sheet_test}
 use Rattle.definition.specs.Sheet.{Sheet, edition1, sheet_of}
 use Rattle.nearest_definition.specs.Nearest.{entries_test, nearest, nearest_tests}
-use Rattle.layouts.specs.Lawful.{lawful}
+use Rattle.layouts.proofs.Lawful.{lawful}
 use Rattle.layouts.specs.Tests.{equal_passes, then_passes}
-use Rattle.completeness.specs.ProveAccepted.{finish_done}
+use Rattle.completeness.proofs.ProveAccepted.{finish_done}
 use Rattle.word_input.specs.Input.{sheet_part, whole_words_test, words_of}
 use Rattle.word_input.specs.InputWords.{done_after}
 use Rattle.word_input.specs.WordLaws.{words_length}

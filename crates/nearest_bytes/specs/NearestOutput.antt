@@ -11,8 +11,8 @@ use Rattle.definition.specs.Reading.{sheet_test}
 use Rattle.definition.specs.Sheet.{Sheet, edition1, sheet_length, sheet_of}
 use Rattle.definition.specs.Verdict.{Outcome, ◌then◌, accepted, refused}
 use Rattle.nearest_definition.specs.Nearest.{entries_test, entry_range_test, found_test, nearest, nearest_size, nearest_tests, nearest_to, nearest_words}
-use Rattle.layouts.specs.Lawful.{lawful}
-use Rattle.layouts.specs.PlainSheet.{sheet_plain}
+use Rattle.layouts.proofs.Lawful.{lawful}
+use Rattle.layouts.proofs.PlainSheet.{sheet_plain}
 use Rattle.layouts.specs.Spellings.{count_add, count_least, count_mono}
 use Rattle.layouts.specs.Tests.{equal_passes, if_false}
 use Rattle.word_input.specs.Input.{after_test, sheet_part, whole_words_test, words_of}

@@ -14,7 +14,7 @@ use Rattle.definition.specs.Reading.{out_of_range, sheet_test}
 use Rattle.definition.specs.Sheet.{Sheet, edition1, sheet_of}
 use Rattle.definition.specs.Verdict.{Outcome, accepted, refused, refuse_at}
 use Rattle.nearest_definition.specs.Nearest.{entries_test, entry_range_test, nearest_size, nearest_tests}
-use Rattle.layouts.specs.PlainSheet.{sheet_plain}
+use Rattle.layouts.proofs.PlainSheet.{sheet_plain}
 use Rattle.layouts.specs.Spellings.{largest_most}
 use Rattle.input_tests.specs.OneByOne.{agree, clear, differ, enough, found, short}
 use Rattle.input_tests.specs.Places as places

@@ -1,6 +1,2 @@
--- THE NEAREST POLYNOMIAL'S THEOREMS (02, CR 14), over the definition.
--- THE PAGE, and its vocabulary.
-pub mod Statements
+-- THE NEAREST POLYNOMIAL'S THEOREMS (02, CR 14), over the definition: the vocabulary of the page, Statements in ../proofs.
 pub mod WrongPoints
--- the proofs
-pub mod NearestExactly

@@ -26,16 +26,16 @@ use Rattle.list_laws.specs.All.{All, all_append, all_flat, all_map, all_of_map}
 use Rattle.hash_laws.specs.TreeLaws.{lt_or_le}
 use Rattle.layouts.specs.EachWord.{Each, Front, each_append_at, each_join, each_map, each_none, each_same, front_at, front_false, in_range}
 use Rattle.layouts.specs.FileTrip.{filled, fill_count, file_checks, file_length, file_stream}
-use Rattle.layouts.specs.Lawful.{Lawful, lawful}
-use Rattle.layouts.specs.LayoutFacts.{layout_all}
+use Rattle.layouts.proofs.Lawful.{Lawful, lawful}
+use Rattle.layouts.proofs.LayoutFacts.{layout_all}
 use Rattle.layouts.specs.LevelSizes.{Chain, Sized, positive_sizes}
 use Rattle.layouts.specs.Passed.{Passed, passed}
 use Rattle.layouts.specs.SheetRules.{sheet_words_lem}
-use Rattle.layouts.specs.SheetLevels.{rules_same, sheet_chain, sheet_front, sheet_steps}
+use Rattle.layouts.proofs.SheetLevels.{rules_same, sheet_chain, sheet_front, sheet_steps}
 use Rattle.layouts.specs.Tests.{at_none, at_passes, none_true, verdict_passes}
 use Rattle.openings.specs.Openings.{sheet_words, any_word, height_of, swap_tables, tables_in, table_words, opening_layout, number_place, opening_kinds, opening_length, opening_words_due, openings_in, shut_body, opening_blocks_test, opening_range_test, opening_fill_test, opening_body, reading_openings, stray_words, due, table_root, opening_at, built_stream, due_at, due_rest, reached, opening_tests, decided_opened, deciding_openings, verify_openings, roots_in, root_words, hash_words}
 use Rattle.opening_laws.specs.Decided.{all_good, built_decided, built_places, built_paths, root_long}
-use Rattle.layouts.specs.PlainSheet.{sheet_plain}
+use Rattle.layouts.proofs.PlainSheet.{sheet_plain}
 use Rattle.layouts.specs.Spellings.{count_least}
 use Rattle.opening_laws.specs.OutsKept.{outs_kept}
 use Rattle.opening_laws.specs.Fronts.{front_read, layout_needs}

@@ -25,7 +25,7 @@ use Rattle.list_laws.specs.All.{All, all_append, all_flat, all_map, all_of_map, 
 use Rattle.list_laws.specs.Lists.{drop_take}
 use Rattle.list_laws.specs.Members.{add_all}
 use Rattle.layouts.specs.EachWord.{Each, each_append_at, each_later, each_replicate}
-use Rattle.layouts.specs.LayoutFacts.{outs_length, round_length}
+use Rattle.layouts.proofs.LayoutFacts.{outs_length, round_length}
 use Rattle.layouts.specs.LevelSizes.{Chain, Sized}
 use Rattle.layouts.specs.Tests.{at_passes}
 use Rattle.openings.specs.Openings.{reached, due_at, due_rest}

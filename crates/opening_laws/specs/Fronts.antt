@@ -10,7 +10,7 @@ use Rattle.definition.specs.Sheet.{Sheet, Level, first_level, later_levels, fina
 use Rattle.definition.specs.Transcript.{final, round}
 use Rattle.definition.specs.Layout.{layout, later_count, rest_layout, round_coins, round_layout, read_rest, read_transcript}
 use Rattle.list_laws.specs.Lists.{same_fewer, same_part}
-use Rattle.layouts.specs.LayoutFacts.{final_length, round_length}
+use Rattle.layouts.proofs.LayoutFacts.{final_length, round_length}
 use Rattle.layouts.specs.Levels.{element_at}
 use Rattle.layouts.specs.Spellings.{at_take, count_zero, read_at_lem}
 use Rattle.openings.specs.Openings.{entry_words, beside_table, table_words}

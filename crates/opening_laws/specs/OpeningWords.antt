@@ -14,7 +14,7 @@ use Rattle.hashing.specs.Tree.{path_of}
 use Rattle.hash_laws.specs.TreeLaws.{path_length}
 use Rattle.list_laws.specs.All.{All, all_append, all_drop, all_flat, all_map, all_replicate, all_take}
 use Rattle.layouts.specs.EachWord.{Each, each_append_at, each_join, each_replicate, each_same}
-use Rattle.layouts.specs.LayoutFacts.{round_length}
+use Rattle.layouts.proofs.LayoutFacts.{round_length}
 use Rattle.openings.specs.Openings.{entry_words, hash_words, any_word, height_of, beside_table, rest_tables, tables_in, table_words, words_in, leaves_of, opening_of, opening_kinds, opening_length, place_in, unused_nodes, stray_words}
 use Rattle.opening_laws.specs.Paths.{entry_words_lem, nodes_length, opening_long}
 use Rattle.opening_laws.specs.Ranges.{Fine, any_fine, leaves_bytes, path_bytes, words_small}

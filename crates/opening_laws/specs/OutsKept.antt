@@ -15,7 +15,7 @@ use Rattle.definition.specs.Layout.{Kind, message, coin, index, layout, later_co
 use Rattle.definition.specs.Verdict.{accepted, refuse_at, ◌then◌}
 use Rattle.definition.specs.Deciding.{out_before, out_in_domain, out_test, out_repeated, repeated_outs, equal_test, out_tests}
 use Rattle.list_laws.specs.All.{All}
-use Rattle.layouts.specs.LayoutFacts.{outs_length}
+use Rattle.layouts.proofs.LayoutFacts.{outs_length}
 use Rattle.layouts.specs.Tests.{all_false, at_none, none_true, then_passes}
 use Rattle.openings.specs.Openings.{entry_words, hash_words, any_word, beside_table, swap_rest, swap_tables, table_words, opening_layout}
 use Rattle.opening_laws.specs.Outs.{Clear, Quiet, begun_drop, messages_off, messages_on, outs_move, run_off, run_on, scan}

@@ -14,11 +14,11 @@ use Rattle.definition.specs.Reading.{sheet_test}
 use Rattle.definition.specs.Sheet.{edition1, Sheet, Level, sheet_of, first_level, later_levels}
 use Rattle.definition.specs.Verdict.{accepted}
 use Rattle.list_laws.specs.Lists.{range_length}
-use Rattle.layouts.specs.Lawful.{Lawful, lawful, rounds_word}
+use Rattle.layouts.proofs.Lawful.{Lawful, lawful, rounds_word}
 use Rattle.layouts.specs.Levels.{level_of, rounds_of, total}
-use Rattle.layouts.specs.LevelsByNumber.{levels_later}
+use Rattle.layouts.proofs.LevelsByNumber.{levels_later}
 use Rattle.layouts.specs.LevelSizes.{Chain, chain_head, quotient}
-use Rattle.layouts.specs.SheetLevels.{sheet_chain}
+use Rattle.layouts.proofs.SheetLevels.{sheet_chain}
 use Rattle.layouts.specs.SheetRules.{pow_most}
 use Rattle.layouts.specs.Spellings.{count_add, count_zero}
 use Rattle.openings.specs.Openings.{entry_words, hash_words, any_word, beside_table, swap_rest, swap_tables, table_words, opening_layout, number_place, height_of, log2}

@@ -6,10 +6,11 @@ use Rattle.std.proofs.Math.Path.{refl, sym}
 use Rattle.std.proofs.Math.ListN.{replicate}
 use Rattle.std.proofs.lemmas.List.{length-replicate}
 use Rattle.list_laws.specs.All.{All, all_append, all_replicate}
-use Rattle.layouts.specs.CoinsAfter.{chosen, chosen_append, words_first, words_last, words_next, words_after}
-use Rattle.layouts.specs.LayoutFacts.{coins_final, layout_coins, outs_length, round_coins_lem}
+use Rattle.layouts.proofs.CoinsAfter.{chosen_append, words_first, words_last, words_next}
+use Rattle.layouts.specs.KindsAfter.{chosen, words_after}
+use Rattle.layouts.proofs.LayoutFacts.{coins_final, layout_coins, outs_length, round_coins_lem}
 use Rattle.layouts.specs.Spellings.{count_zero}
-use Rattle.layouts.specs.LevelsByNumber.{Paired}
+use Rattle.layouts.proofs.LevelsByNumber.{Paired}
 use Rattle.layouts.specs.Levels.{level_of, out_coin_count, rounds_of, words_for}
 use Rattle.definition.specs.Field.{Spelling, spelling_of, word_count}
 use Rattle.definition.specs.Layout.{Kind, coin, coin_kinds, index, layout, message, out, out_layout, rest_layout, round_layout}

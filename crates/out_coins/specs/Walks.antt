@@ -11,7 +11,7 @@ use Rattle.std.proofs.Common.{sym, ◌∙◌, length-append, drop-cons}
 use Rattle.std.proofs.Math.ListN.{length, get_or, drop}
 use Rattle.std.proofs.lemmas.List.{length-replicate}
 use Rattle.list_laws.specs.All.{All, all_map, all_replicate}
-use Rattle.layouts.specs.CoinsAfter.{chosen, words_after}
+use Rattle.layouts.specs.KindsAfter.{chosen, words_after}
 use Rattle.layouts.specs.Levels.{element_at, level_of, out_coin_count, rounds_of, sheet_field, words_for, zero_of}
 use Rattle.layouts.specs.Spellings.{begun_at, begun_drop, begun_length, count_add, count_zero}
 use Rattle.definition.specs.Deciding.{equal_test, out_before, out_in_domain, out_repeated, out_test, out_tests, repeated_outs, same_as}

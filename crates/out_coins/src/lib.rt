@@ -2,7 +2,7 @@
 #![tactic(auto)]
 
 ghost use Rattle.std.specs.Prelude.{◌≡◌, ◌+◌, ◌≤◌, ◌<◌, length, get_or};
-ghost use Rattle.layouts.specs.CoinsAfter.{chosen};
+ghost use Rattle.layouts.specs.KindsAfter.{chosen};
 ghost use Rattle.layouts.specs.Levels.{element_at};
 ghost use Rattle.definition.specs.Deciding.{out_tests};
 ghost use Rattle.definition.specs.Field.{field_in, four, prime_of, spelling_of, word_count};

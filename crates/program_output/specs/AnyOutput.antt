@@ -14,12 +14,12 @@ use Rattle.definition.specs.Reading.{reading, sheet_test}
 use Rattle.definition.specs.Sheet.{Edition, Sheet, edition1, edition2, sheet_length, sheet_of}
 use Rattle.definition.specs.Verdict.{Outcome, ◌then◌, accepted, refused}
 use Rattle.layouts.specs.FileTrip.{file_length}
-use Rattle.layouts.specs.DueSizes.{blocks_most}
+use Rattle.layouts.proofs.DueSizes.{blocks_most}
 use Rattle.layouts.specs.Tests.{equal_passes, if_false, if_passes, then_passes}
 use Rattle.layouts.specs.Passed.{passed}
-use Rattle.completeness.specs.Completeness.{file_size}
-use Rattle.completeness.specs.Conversion.{backward_reads, forward_reads}
-use Rattle.completeness.specs.ProveAccepted.{done_allowed}
+use Rattle.completeness.proofs.Completeness.{file_size}
+use Rattle.completeness.proofs.Conversion.{backward_reads, forward_reads}
+use Rattle.completeness.proofs.ProveAccepted.{done_allowed}
 use Rattle.word_input.specs.Input.{after_test, coefficients_part, coins_part, prove_input_in, prove_words, sheet_part, taken, whole_words_test, words_of}
 use Rattle.program_output.specs.Output.{convert_written, prove_written, room, room_of, written, written_for}
 

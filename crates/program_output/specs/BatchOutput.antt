@@ -10,9 +10,9 @@ use Rattle.definition.specs.Reading.{sheet_test}
 use Rattle.definition.specs.Sheet.{Sheet, edition1, sheet_length, sheet_of}
 use Rattle.definition.specs.Verdict.{Outcome, ◌then◌, accepted}
 use Rattle.layouts.specs.Tests.{equal_passes}
-use Rattle.batches.specs.BatchCompleteness.{done_allowed}
-use Rattle.batches.specs.BatchSizes.{batch_blocks}
-use Rattle.batches.specs.BatchStream.{file_size}
+use Rattle.batches.proofs.BatchCompleteness.{done_allowed}
+use Rattle.batches.proofs.BatchSizes.{batch_blocks}
+use Rattle.batches.proofs.BatchStream.{file_size}
 use Rattle.word_input.specs.Input.{sheet_part, whole_words_test, words_of}
 use Rattle.batch_bytes.specs.BatchInput.{body_part, bounds_part, coefficient_words, prove_batch_input, prove_batch_words, taken}
 use Rattle.program_output.specs.AnyOutput.{Alike, after_alike, enough, enough_for, finish_alike, room_long, then_same}

@@ -14,7 +14,7 @@ use Rattle.definition.specs.Sheet.{Edition, sheet_length, sheet_of}
 use Rattle.definition.specs.Verdict as definition
 use Rattle.definition.specs.Verdict.{◌then◌}
 use Rattle.completeness.specs.Numbered.{Allowed}
-use Rattle.completeness.specs.ProveAccepted.{done_allowed}
+use Rattle.completeness.proofs.ProveAccepted.{done_allowed}
 use Rattle.layouts.specs.Tests.{equal_passes, if_passes}
 use Rattle.outcome.specs.declared.Outcome.{Outcome}
 use Rattle.outcome.specs.declared.Outcome.TheVariants.{Accepted, Refused}

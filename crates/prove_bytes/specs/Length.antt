@@ -7,12 +7,12 @@ use Rattle.definition.specs.Prove.{done}
 use Rattle.definition.specs.Reading.{sheet_test}
 use Rattle.definition.specs.Sheet.{Edition, sheet_length, sheet_of}
 use Rattle.definition.specs.Verdict.{accepted}
-use Rattle.completeness.specs.Allowed.{allowed_count, allowed_enough, allowed_long}
-use Rattle.layouts.specs.DueSizes.{coins_most}
+use Rattle.completeness.proofs.Allowed.{allowed_count, allowed_enough, allowed_long}
+use Rattle.layouts.proofs.DueSizes.{coins_most}
 use Rattle.completeness.specs.Numbered.{Allowed}
-use Rattle.layouts.specs.Lawful.{lawful}
-use Rattle.layouts.specs.PlainSheet.{sheet_plain}
-use Rattle.completeness.specs.ProveAccepted.{done_allowed}
+use Rattle.layouts.proofs.Lawful.{lawful}
+use Rattle.layouts.proofs.PlainSheet.{sheet_plain}
+use Rattle.completeness.proofs.ProveAccepted.{done_allowed}
 use Rattle.layouts.specs.SheetRules.{long_enough, short_sheet}
 use Rattle.layouts.specs.Tests.{equal_passes}
 use Rattle.word_input.specs.Input.{taken, whole_words_test, words_of, coefficient_words, sheet_part, coefficients_part, coins_part, prove_words, prove_input_in}

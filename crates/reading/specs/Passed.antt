@@ -6,7 +6,7 @@ use Rattle.definition.specs.Layout.{layout, words_due}
 use Rattle.definition.specs.Block.{stream_of}
 use Rattle.definition.specs.Verdict.{accepted}
 use Rattle.definition.specs.Reading.{sheet_test, range_test, reading}
-use Rattle.layouts.specs.DueSizes.{blocks_most}
+use Rattle.layouts.proofs.DueSizes.{blocks_most}
 use Rattle.layouts.specs.Passed.{passed}
 use Rattle.ranges.specs.RoundsOfLayout.{long_enough}
 

@@ -16,19 +16,20 @@ use Rattle.definition.specs.Field.{Element, Spelling, number_in}
 use Rattle.definition.specs.Layout.{Kind, coin, coin_kinds, index, later_count, layout, message, out_layout}
 use Rattle.definition.specs.Sheet.{Sheet, edition1, shift_count}
 use Rattle.list_laws.specs.Lists.{get_d_after_run, get_d_run}
-use Rattle.layouts.specs.CoinsAfter.{kinds_all, kinds_last, kinds_next, kinds_after}
-use Rattle.layouts.specs.Lawful.{Lawful}
-use Rattle.layouts.specs.LayoutByRound.{coins_due_lem}
-use Rattle.layouts.specs.LayoutFacts.{later_layout, later_length, outs_length}
+use Rattle.layouts.proofs.CoinsAfter.{kinds_all, kinds_last, kinds_next}
+use Rattle.layouts.specs.KindsAfter.{kinds_after, later_layout}
+use Rattle.layouts.proofs.Lawful.{Lawful}
+use Rattle.layouts.proofs.LayoutByRound.{coins_due_lem}
+use Rattle.layouts.proofs.LayoutFacts.{later_length, outs_length}
 use Rattle.layouts.specs.Levels.{coin_count, coins_before, level_of, out_coin_count, rounds_of, words_for}
-use Rattle.layouts.specs.LevelsByNumber.{Paired}
+use Rattle.layouts.proofs.LevelsByNumber.{Paired}
 use Rattle.layouts.specs.Spellings.{count_add, count_one}
 use Rattle.layouts.specs.WholeCoins.{IsOut}
 use Rattle.completeness.specs.EqualOuts.{at_next, out_at}
 use Rattle.completeness.specs.Faults.{Part, combination, finals, fold, outs, part_length, shifts, words}
 use Rattle.completeness.specs.OutCoinsByPlace.{Placed}
 use Rattle.completeness.specs.PartsByNumber.{located, part_kind}
-use Rattle.completeness.specs.StreamByNumber.{coins_grow}
+use Rattle.completeness.proofs.StreamByNumber.{coins_grow}
 use Rattle.refusals.specs.InputFaults.{CoinPart, coin_start, coins_due}
 
 -- a position that is in a part of the coins

@@ -2,12 +2,12 @@
 use Rattle.std.specs.Prelude.{ℕ, ◌*◌, true, not, List, ◌≡◌, refl, eqb, ltb, length}
 use Rattle.std.proofs.Common.{arith, sym, ◌∙◌, eq-eqb, eqb-true, lt-ltb, ltb-true}
 use Rattle.definition.specs.Sheet.{Edition, sheet_length, sheet_of}
-use Rattle.layouts.specs.Lawful.{Lawful, lawful}
-use Rattle.layouts.specs.RulesByWord.{sheet_exactly}
-use Rattle.completeness.specs.Allowed.{sheet_enough}
+use Rattle.layouts.proofs.Lawful.{Lawful, lawful}
+use Rattle.layouts.proofs.RulesByWord.{sheet_exactly}
+use Rattle.completeness.proofs.Allowed.{sheet_enough}
 use Rattle.completeness.specs.Faults.{RuleFault}
 use Rattle.completeness.specs.TestsByNumber.{differ, differs}
-use Rattle.completeness.specs.VerifyExactly.{is_true}
+use Rattle.completeness.proofs.VerifyExactly.{is_true}
 use Rattle.refusals.specs.InputFaults.{CountFault, OutputFault}
 
 module _ (place due : ℕ) (list : List ℕ) where

@@ -1,16 +1,10 @@
--- REFUSED EXACTLY: when prove, encode and the converter refuse, with which number and at which place. Statements is the page, over the vocabulary
--- InputFaults. Beneath it stand Faults and Numbered of the crate `completeness`, and Levels and PlainRules of the crate `layouts`. The other files
--- are proofs.
+-- REFUSED EXACTLY: when prove, encode and the converter refuse, with which number and at which place. Statements and BlockStatements, in ../proofs, are the pages,
+-- over the vocabulary InputFaults. Beneath it stand Faults and Numbered of the crate `completeness`, and Levels and PlainRules of the crate `layouts`. The other
+-- files are proofs.
 
--- the vocabulary, and the page
+-- the vocabulary
 pub mod InputFaults
-pub mod Statements
--- tests in a row find the first fault
-pub mod InOrder
+-- counts and rules
 pub mod CountsAndRules
 -- the coins by part
 pub mod CoinParts
--- the operations
-pub mod EncodeRefused
-pub mod ProveRefused
-pub mod ConverterRefused

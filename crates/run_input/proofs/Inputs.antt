@@ -11,10 +11,10 @@ use Rattle.definition.specs.Load.{Drawn, ProverInput, draw_kinds, draw_input, dr
 use Rattle.definition.specs.Reading.{sheet_test}
 use Rattle.definition.specs.Sheet.{edition1, sheet_of}
 use Rattle.definition.specs.Verdict.{accepted}
-use Rattle.layouts.specs.DueSizes.{coins_most}
-use Rattle.layouts.specs.PlainSheet.{sheet_plain}
+use Rattle.layouts.proofs.DueSizes.{coins_most}
+use Rattle.layouts.proofs.PlainSheet.{sheet_plain}
 use Rattle.layouts.specs.Spellings.{largest_most}
-use Rattle.completeness.specs.LoadAllowed.{sheet_faultless}
+use Rattle.completeness.proofs.LoadAllowed.{sheet_faultless}
 
 -- ---- the drawn sheet
 

@@ -13,7 +13,7 @@ use Rattle.definition.specs.Sheet.{Edition, sheet_of}
 use Rattle.definition.specs.Verdict.{Verdict, accepted}
 use Rattle.definition.specs.Verify.{verify_in}
 use Rattle.completeness.specs.Numbered.{reads_due}
-use Rattle.completeness.specs.ProveAccepted.{done_allowed, prove_accepted}
+use Rattle.completeness.proofs.ProveAccepted.{done_allowed, prove_accepted}
 use Rattle.layouts.specs.Tests.{if_passes}
 use Rattle.selfcheck.specs.Written.{blocks_written}
 

@@ -12,9 +12,9 @@ use lib.ListN.{get_or, take}
 use lib.Pow.{pow_pos}
 use borrow.Author.Tests.{le-leb, leb-false, leb-true, lt-leb, not-false}
 use Rattle.list_laws.specs.All.{All, all_in_map, all_map}
-use Rattle.layouts.specs.LevelsByNumber.{product_next}
+use Rattle.layouts.proofs.LevelsByNumber.{product_next}
 use Rattle.layouts.specs.Levels.{total}
-use Rattle.layouts.specs.PlainSheet.{first_word, fold_one, later_word}
+use Rattle.layouts.proofs.PlainSheet.{first_word, fold_one, later_word}
 use Rattle.layouts.specs.SheetRules.{fold_count, later_fold, logs, product_powers}
 use Rattle.layouts.specs.Tests.{at_none, none_of}
 use Rattle.list_laws.specs.Booleans.{and_true}

@@ -1,8 +1,8 @@
 -- The sheet of a stream is that of its first words, as many as a sheet has, and so is what refusal 3 says of it.
 use Rattle.std.specs.Prelude.{ℕ, ◌≤◌, List, ◌≡◌, length, take, drop}
 use Rattle.std.proofs.Common.{sym, ap, ◌∙◌, take-append-drop, length-take-le}
-use Rattle.layouts.specs.SheetLevels
-use Rattle.layouts.specs.SheetLevels.{rules_same}
+use Rattle.layouts.proofs.SheetLevels
+use Rattle.layouts.proofs.SheetLevels.{rules_same}
 use Rattle.definition.specs.Reading.{sheet_test}
 use Rattle.definition.specs.Sheet.{Edition, sheet_length, sheet_of}
 use Rattle.definition.specs.Verdict.{accepted}

@@ -11,7 +11,8 @@ use lib.ListN.{length, get_or, take, set, drop_of_length-le, length-set}
 use lib.Seq.{get_or-take, length-take-le, sets-eq, take_all, take-suc-set}
 use borrow.Author.Tests.{eq-eqb, ne_eqb}
 use Rattle.list_laws.specs.All.{at_place}
-use Rattle.layouts.specs.SheetByWord.{Kept, keep_all, kept_more, rule_kept}
+use Rattle.layouts.proofs.SheetByWord.{keep_all, kept_more, rule_kept}
+use Rattle.layouts.specs.PlainRules.{Kept}
 use Rattle.definition.specs.Load.{Drawn, step, draw_below, candidates, permits, permitted, worked_sheet, draw_words, draw_sheet}
 
 pub worked_words : (w : List ℕ) → length w ≡ 12 →

@@ -13,7 +13,8 @@ use lib.Pow.{pow-add, pow_mono}
 use lib.Seq.{append_snoc, drop-cons, get_or-append-add, length-take-le, set_split, take-set-le, take-suc-set}
 use borrow.Author.Tests.{eqb-true, eqb-false}
 use Rattle.list_laws.specs.Lists.{get_d_map_range, get_d_range, range_length}
-use Rattle.layouts.specs.SheetByWord.{Kept, rule_front}
+use Rattle.layouts.proofs.SheetByWord.{rule_front}
+use Rattle.layouts.specs.PlainRules.{Kept}
 use Rattle.definition.specs.Lists.{first_of, range}
 use Rattle.definition.specs.Load.{candidates, keep, permits, permitted}
 use Rattle.definition.specs.Sheet.{edition1, later_rules, sheet_rules, test_order}

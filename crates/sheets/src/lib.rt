@@ -2,7 +2,7 @@
 #![tactic(auto)]
 
 ghost use Rattle.std.specs.Prelude.{◌≡◌, ◌≤◌, ◌<◌, length, get_or, take, set};
-ghost use Rattle.layouts.specs.SheetByWord.{Kept};
+ghost use Rattle.layouts.specs.PlainRules.{Kept};
 ghost use Rattle.definition.specs.Load.{candidates, permits as permits_in, permitted as permitted_in, worked_sheet, draw_sheet};
 
 use edition::Edition;

@@ -9,14 +9,14 @@ use lib.Count.{ones}
 use lib.ListN.{length, get_or, take}
 use lib.Pow.{pow_pos}
 use lib.Seq.{take-take}
-use Rattle.layouts.specs.DueSizes.{words_most}
-use Rattle.layouts.specs.Lawful.{Lawful, lawful, rounds_word, times_word}
-use Rattle.layouts.specs.LayoutByRound.{coins_due_lem, starts_grow, words_due_lem}
+use Rattle.layouts.proofs.DueSizes.{words_most}
+use Rattle.layouts.proofs.Lawful.{Lawful, lawful, rounds_word, times_word}
+use Rattle.layouts.proofs.LayoutByRound.{coins_due_lem, starts_grow, words_due_lem}
 use Rattle.layouts.specs.LevelSizes.{quotient}
 use Rattle.layouts.specs.Levels.{coin_count, coins_before, level_of, round_start, round_count, rounds_of}
-use Rattle.layouts.specs.LevelsByNumber.{folded, undivided}
-use Rattle.layouts.specs.PlainSheet.{sheet_plain}
-use Rattle.layouts.specs.SheetLevels.{sized}
+use Rattle.layouts.proofs.LevelsByNumber.{folded, undivided}
+use Rattle.layouts.proofs.PlainSheet.{sheet_plain}
+use Rattle.layouts.proofs.SheetLevels.{sized}
 use Rattle.layouts.specs.SheetRules.{long_enough, pow_most}
 use Rattle.layouts.specs.Spellings.{count_add, count_least, count_most}
 use Rattle.definition.specs.Block.{block_count}

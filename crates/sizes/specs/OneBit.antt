@@ -7,7 +7,7 @@ use Rattle.std.proofs.lemmas.Nat.{ones_cat}
 use Rattle.layouts.specs.SheetRules.{power_of_two_lem}
 use Rattle.definition.specs.Sheet.{power_of_two}
 use Rattle.list_laws.specs.Booleans.{is_false}
-use Rattle.layouts.specs.PlainSheet.{is_power}
+use Rattle.layouts.proofs.PlainSheet.{is_power}
 
 half_below : (n k : ℕ) → n < 2 ^ suc k → n / 2 < 2 ^ k
 half_below n k h = omega (arith, pow-suc 2 k)

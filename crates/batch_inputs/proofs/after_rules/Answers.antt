@@ -3,7 +3,7 @@ use native.Mathlib.Omega.{arith}
 use mathlib.Core.Path.{ap, ◌∙◌}
 use Rattle.definition.specs.Block.{block_count}
 use Rattle.definition.specs.Sheet.{edition1, sheet_of}
-use Rattle.layouts.specs.DueSizes.{coins_most}
+use Rattle.layouts.proofs.DueSizes.{coins_most}
 use Rattle.edition.specs.Meaning.{edition_of}
 use Rattle.outcome.specs.Meaning.{outcome_of}
 use Rattle.batch_inputs.proofs.Stages.{few_bytes, other_coefficients, other_coins, out_coins_refused, out_of_range_lem, proves}

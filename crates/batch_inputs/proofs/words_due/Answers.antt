@@ -2,8 +2,8 @@ use native.Mathlib.Omega.{arith}
 use lib.ListN.{length}
 use Rattle.definition.specs.Sheet.{edition1, sheet_of}
 use Rattle.batches.specs.BatchRules.{entries_few, tables_few}
-use Rattle.batches.specs.BatchSizes.{batch_most}
-use Rattle.batches.specs.PlainStream.{words_higher}
+use Rattle.batches.proofs.BatchSizes.{batch_most}
+use Rattle.batches.proofs.PlainStream.{words_higher}
 use Rattle.edition.specs.Meaning.{edition_of}
 use Rattle.batch_inputs.proofs.words_due.Goals as goal
 

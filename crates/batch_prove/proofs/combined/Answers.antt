@@ -4,7 +4,7 @@ use lib.ListN.{get_or, take}
 use lib.Seq.{length-take-le}
 use Rattle.definition.specs.Sheet.{sheet_of}
 use Rattle.list_laws.specs.Zeros.{length_zeros, zeros}
-use Rattle.batches.specs.AllowedBatches.{batch_enough, batch_some}
+use Rattle.batches.proofs.AllowedBatches.{batch_enough, batch_some}
 use Rattle.elements.specs.Meaning.{value_at}
 use Rattle.batch_prove.proofs.Combining.{combined_words, parted, places_enough}
 use Rattle.batch_prove.proofs.combined.Goals as goal

@@ -5,7 +5,7 @@ use lib.ListN.{length}
 use Rattle.definition.specs.Block.{block_count}
 use Rattle.definition.specs.Prove.{Result}
 use Rattle.list_laws.specs.Zeros.{length_zeros}
-use Rattle.batches.specs.AllowedBatches.{batch_enough}
+use Rattle.batches.proofs.AllowedBatches.{batch_enough}
 use Rattle.outcome.specs.Meaning.{answer_of}
 use Rattle.batch_prove.proofs.Stages.{passes, refused_is, written_is}
 use Rattle.batch_prove.proofs.prove_batch.Goals as goal

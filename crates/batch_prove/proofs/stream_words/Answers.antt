@@ -11,8 +11,8 @@ use Rattle.list_laws.specs.LentParts.{begun_long, front_stays}
 use Rattle.list_laws.specs.Lists.{rest_all}
 use Rattle.list_laws.specs.Zeros.{length_zeros, zeros}
 use Rattle.completeness.specs.Numbered.{Allowed}
-use Rattle.batches.specs.AllowedBatches.{batch_enough, batch_entries, batch_number, batch_some}
-use Rattle.batches.specs.PlainProver.{combined_words, plain_allowed}
+use Rattle.batches.proofs.AllowedBatches.{batch_enough, batch_entries, batch_number, batch_some}
+use Rattle.batches.proofs.PlainProver.{combined_words, plain_allowed}
 use Rattle.edition.specs.Meaning.{edition_of}
 use Rattle.batch_prove.proofs.Combining.{places_enough}
 use Rattle.batch_prove.proofs.Joined.{front_inside, front_room, ordered, plain_room, stream_is}

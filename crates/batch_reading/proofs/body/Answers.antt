@@ -3,7 +3,7 @@ use native.Mathlib.Omega.{arith}
 use mathlib.Core.List.{List}
 use mathlib.Core.Path.{refl, ap, ◌∙◌}
 use Rattle.batches.specs.Batched.{higher}
-use Rattle.batches.specs.PlainBody.{plain_body}
+use Rattle.batches.specs.BodyTests.{plain_body}
 use Rattle.list_laws.specs.Lists.{rest_all}
 use Rattle.batch_reading.proofs.PlainLaws.{at_number, body_refused, body_told, fold_there, plain_asks, tables_begin}
 use Rattle.batch_reading.proofs.Values.{few_tables, sheet_there, shift_asked, size_small, tables_there}

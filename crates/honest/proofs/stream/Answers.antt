@@ -1,5 +1,5 @@
 use native.Mathlib.Omega.{arith}
-use Rattle.completeness.specs.Allowed.{allowed_enough}
+use Rattle.completeness.proofs.Allowed.{allowed_enough}
 use Rattle.layouts.specs.SheetRules.{long_enough}
 use Rattle.domain.specs.OfSheet.{fitting}
 use Rattle.edition.specs.Meaning.{edition_of}

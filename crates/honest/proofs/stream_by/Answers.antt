@@ -8,7 +8,7 @@ use Rattle.spelling.specs.ByField.{words_at}
 use lib.Seq.{length-take-le}
 use Rattle.definition.specs.Layout.{words_due}
 use Rattle.definition.specs.Sheet.{Edition, sheet_length, sheet_of}
-use Rattle.completeness.specs.Allowed.{allowed_long}
+use Rattle.completeness.proofs.Allowed.{allowed_long}
 use Rattle.layouts.specs.SheetRules.{short_sheet}
 use Rattle.completeness.specs.Numbered.{Allowed}
 use Rattle.edition.specs.Meaning.{edition_of}

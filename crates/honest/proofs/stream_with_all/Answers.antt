@@ -1,6 +1,6 @@
 use native.Mathlib.Omega.{arith}
 use Rattle.list_laws.specs.Zeros.{length_zeros}
-use Rattle.completeness.specs.Allowed.{allowed_enough}
+use Rattle.completeness.proofs.Allowed.{allowed_enough}
 use Rattle.layouts.specs.SheetRules.{long_enough}
 use Rattle.domain.specs.OfSheet.{fitting, points_of_sheet}
 use Rattle.edition.specs.Meaning.{edition_of}

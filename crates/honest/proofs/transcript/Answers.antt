@@ -5,7 +5,7 @@ use lib.Seq.{length-take-le}
 use Rattle.definition.specs.Field.{elements_in, spelling_of, words_of}
 use Rattle.definition.specs.Prover.{table_of}
 use Rattle.definition.specs.Sheet.{sheet_of}
-use Rattle.layouts.specs.LevelsByNumber.{undivided}
+use Rattle.layouts.proofs.LevelsByNumber.{undivided}
 use Rattle.layouts.specs.Levels.{level_of, sheet_field, sheet_root}
 use Rattle.list_laws.specs.LentParts.{joined, others_long}
 use Rattle.edition.specs.Meaning.{edition_of}

@@ -5,7 +5,7 @@ use lib.ListN.{length}
 use Rattle.list_laws.specs.Zeros.{length_zeros}
 use Rattle.definition.specs.Block.{block_count}
 use Rattle.definition.specs.Prove.{Result}
-use Rattle.completeness.specs.Allowed.{allowed_enough}
+use Rattle.completeness.proofs.Allowed.{allowed_enough}
 use Rattle.edition.specs.Meaning.{edition_of}
 use Rattle.outcome.specs.Meaning.{answer_of}
 use Rattle.prove.proofs.Stages.{passes, refused_is, written_is}

@@ -3,7 +3,7 @@ use native.Mathlib.Omega.{arith}
 use mathlib.Core.List.{List}
 use mathlib.Core.Logic.{⊎_elim}
 use mathlib.Core.Path.{sym, subst}
-use Rattle.layouts.specs.SheetByWord.{Kept}
+use Rattle.layouts.specs.PlainRules.{Kept}
 use Rattle.sheets.proofs.RuleLaws.{all_tried, none_tried, one_left, one_taken}
 use Rattle.sheets.proofs.permitted.Goals as goal
 use Rattle.sheets.proofs.permitted.Goals.{then-permits, else-permits}

@@ -1,6 +1,6 @@
 use native.Mathlib.Omega.{arith}
 use mathlib.Core.Path.{ap}
-use Rattle.layouts.specs.DueSizes.{blocks_most}
+use Rattle.layouts.proofs.DueSizes.{blocks_most}
 use Rattle.definition.specs.Block.{block_count}
 use Rattle.edition.specs.Meaning.{edition_of}
 use Rattle.sizes.proofs.SizeLaws.{blocks_least}

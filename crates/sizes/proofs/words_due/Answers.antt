@@ -1,6 +1,6 @@
 use Prim.Native.Nat.{◌+◌}
 use native.Mathlib.Omega.{arith}
-use Rattle.layouts.specs.DueSizes.{words_most}
+use Rattle.layouts.proofs.DueSizes.{words_most}
 use Rattle.layouts.specs.SheetRules.{long_enough, short_sheet}
 use Rattle.edition.specs.Meaning.{edition_of}
 use Rattle.sizes.proofs.DegreeLaws.{fewer_folds, passed_folds}

@@ -1,0 +1,3 @@
+-- THE PAGE, and its proofs.
+pub mod Statements
+pub mod NearestExactly
