@@ -96,7 +96,7 @@ HELD = [
     (r"longer than ([\d,]+) bytes", lambda: 4 * 12 + number("crates/prove_bytes/specs/Length.antt", r"done_short .* 4 \* sheet_length ed \+ (\d+)")),
     (r"bytes, or ([\d,]+) in edition 2", lambda: 4 * 18 + number("crates/prove_bytes/specs/Length.antt", r"done_short .* 4 \* sheet_length ed \+ (\d+)")),
     (r"n0 ends at (\d+)", lambda: number("crates/definition/specs/Sheet.antt", r"largest_size four = (\d+)")),
-    (r"so long as ([\d,]+) bytes", lambda: number("crates/completeness/specs/Statements.antt", r"accepted_short .* length bytes < (\d+)")),
+    (r"so long as ([\d,]+) bytes", lambda: number("crates/completeness/proofs/Statements.antt", r"accepted_short .* length bytes < (\d+)")),
     (r"(\d+) where the number names no\s+field", lambda: number("include/tevrolig.h", r"TEVROLIG_NO_FIELD = (\d+)")),
     (r"(\d+) where there is no inverse", lambda: number("include/tevrolig.h", r"TEVROLIG_NO_INVERSE = (\d+)")),
     (r"answers (\d+) where there is none", lambda: number("include/tevrolig.h", r"TEVROLIG_NO_WORD = (\d+)")),

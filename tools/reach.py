@@ -1,4 +1,4 @@
-"""What a line of a crate's specs, or a proof of its code, rests on, by names: it tells which wrong definition a refused line is due to.
+"""What a line of a crate's theory, or a proof of its code, rests on, by names: it tells which wrong definition a refused line is due to.
 
 Blank lines part the declarations. A declaration rests on each one of its file, or of those that its file takes from the crate's other files, that its words name,
 or name a part of where that is an operator, and on what those rest on; declarations of one name count together, so that none is left out. A case, which is a
@@ -18,33 +18,35 @@ def parts(name):
 
 
 class Reach:
-    def __init__(self, specs):
+    """Of the files of a crate's specs/, and of its proofs/ where `all`; each by its path in the crate."""
+
+    def __init__(self, crate, all=False):
         self.texts, self.files, self.number, self.lines, self.case, self.cases = [], [], {}, {}, {}, {}
         taken = defaultdict(list)
-        own = re.compile(rf"(?:pub )?use Rattle\.{specs.parent.name}\.specs\.(\w+)(?:\.\{{(.*)\}})?")
-        for path in sorted(specs.glob("*.antt")):
-            start, case = True, None
+        own = re.compile(rf"(?:pub )?use Rattle\.{crate.name}\.(specs|proofs)\.(\w+)(?:\.\{{(.*)\}})?")
+        for path in [*sorted(crate.glob("specs/*.antt")), *(sorted(crate.glob("proofs/*.antt")) if all else ())]:
+            start, case, file = True, None, str(path.relative_to(crate))
             for line, text in enumerate(path.read_text().split("\n"), 1):
                 if not text.strip():
                     start = True
                 elif found := own.match(text):
-                    taken[path.name].append((found[1] + ".antt", found[2]))
+                    taken[file].append((f"{found[1]}/{found[2]}.antt", found[3]))
                 elif not re.match(r"(?:pub )?use |\s*--", text):
                     if start:
                         self.texts.append("")
-                        self.files.append(path.name)
+                        self.files.append(file)
                     start = False
                     self.texts[-1] += text + "\n"
-                    self.number[path.name, line] = len(self.texts) - 1
-                    self.lines[path.name, line] = text
+                    self.number[file, line] = len(self.texts) - 1
+                    self.lines[file, line] = text
                     if found := CASE.match(text):
-                        case = path.name, found[1]
+                        case = file, found[1]
                         self.cases[case] = found[2]
                     elif case and text.startswith("   "):
                         self.cases[case] += "\n" + text
                     else:
                         case = None
-                    self.case[path.name, line] = case
+                    self.case[file, line] = case
         declared = defaultdict(lambda: defaultdict(set))
         for number, declaration in enumerate(self.texts):
             for found in filter(None, map(NAMED.match, declaration.split("\n"))):

@@ -16,7 +16,7 @@ for crate in $theory; do
         [ ! -d "crates/$crate/$part" ] || cp -r "crates/$crate/$part" "$work/crates/$crate/$part"
     done
 done
-rm -f "$work"/crates/definition/specs/*Cases.antt "$work"/crates/dependence/specs/Examples.antt
+rm -f "$work"/crates/definition/specs/*Cases.antt "$work"/crates/dependence/proofs/Examples.antt
 sed -i '/^pub mod Examples$/d' "$work/crates/dependence/specs/Lib.antt"
 sed -i '/^pub mod .*Cases$/d' "$work/crates/definition/specs/Lib.antt"
 cp -r "$work/crates/definition/specs" "$work/specs"
