@@ -4,7 +4,8 @@
 usage: tools/moved-theorems.py COMMIT CRATE..
 
 A public theorem is printed with its statement, below the heads of the modules whose parameters hold for it; of a private one the name. It fails where a declaration
-of the commit is gone, and tells on the other output each whose words, or whose modules' heads, differ, and each that is new.
+of the commit is gone, or is private that was public, and tells on the other output each whose words differ (of a theorem its statement, of a definition its clauses
+too), or whose modules' heads do, and each that is new.
 """
 import re
 import subprocess
@@ -26,7 +27,7 @@ def statement(declaration):
 
 
 def words(declaration):
-    return squeezed(statement(declaration))
+    return squeezed(statement(declaration) + ("" if theorem(declaration) else " ".join(declaration.clauses)))
 
 
 def heads(declaration):
@@ -71,13 +72,16 @@ def main(commit, *crates):
                     continue
                 place, other = near[0]
                 used.add((place, other.line))
+                if "pub" in one.marks and "pub" not in other.marks:
+                    print(f"{crate}/{file}: {one.name} is private", file=sys.stderr)
+                    gone += 1
                 if words(other) != words(one) or heads(other) != heads(one):
                     print(f"{crate}/{file}: {one.name} differs: {' '.join(one.modules)} {statement(one)} / {' '.join(other.modules)} {statement(other)}", file=sys.stderr)
                 if place.startswith("proofs/") and theorem(one):
                     (moved if "pub" in other.marks else hidden)[file, place].append(other)
         for name, places in there.items():
             for place, other in places:
-                if (place, other.line) not in used and theorem(other):
+                if (place, other.line) not in used:
                     print(f"{crate}/{place}: {name} is new: {statement(other)}", file=sys.stderr)
         print(f"\n### `{crate}`")
         for file, place in sorted({*moved, *hidden}):

@@ -3,7 +3,7 @@
 At a fact: a goal of the code is not proved, two types, sides or values differ, `omega` has numbers at which a goal fails, `search`, `grind` or `cc` finds no proof, `rw` finds
 nothing to rewrite, or it or `simp` leaves something open. Of shape is whatever else the prover says of a text that it cannot read or that does not fit: no expression
 where one is expected, a name that is not in scope, a tuple or a part of one where the type has none. So is an equation where an order is wanted, or an order for an
-equation. Neither is an error that only says that something else was not admitted, which passes another one on, nor one of a name that a proof has of the code as it
+equation. Neither is an error that only says that something else was not admitted or was rejected, which passes another one on, nor one of a name that a proof has of the code as it
 was, since Rattle makes such names from the code's text, so that `x < 3` and `x < 4` have others: it shows nothing of a wrong answer.
 
 Refusals reads the whole of what a check said; Told reads what rt ci and rt must-fail say of each edit: one line, with the first of these alone.
@@ -63,19 +63,21 @@ def other_relation(said):
     return any(EQUATION.match(one) and ORDER.match(other) for one, other in (sides, sides[::-1]))
 
 
-def kind(path, said):
+def kind(path, said, code):
     first = said.split("\n")[0]
-    if "was not admitted" in first:
+    if "was not admitted" in first or "which was rejected" in first:
         return "passed on"
-    if path.startswith("proofs/") and GONE.search(first):
+    if code and path.startswith("proofs/") and GONE.search(first):
         return "name"
     return "fact" if FACT.match(said) and not other_relation(said) else "shape"
 
 
 class Refusals:
-    def __init__(self, log):
+    """By the log of a check; a crate of theory alone has no code that a proof could have names of."""
+
+    def __init__(self, log, code=True):
         self.proved = not re.search(r"^logic=not-proved", log, re.M)
-        self.errors = [Error(below(path), int(line), said.split("\n")[0], kind(below(path), said)) for path, line, _, said in ERROR.findall(log)]
+        self.errors = [Error(below(path), int(line), said.split("\n")[0], kind(below(path), said, code)) for path, line, _, said in ERROR.findall(log)]
         # what is left to prove of the code, at the line that asks for it
         self.errors += [Error(below(path), int(line), said, "fact") for path, line, said in GOAL.findall(log)]
         # A function that has no answers for some goals is proved by `search`.

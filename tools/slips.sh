@@ -17,7 +17,8 @@ for crate in $theory; do
     done
 done
 rm -f "$work"/crates/definition/specs/*Cases.antt "$work"/crates/dependence/proofs/Examples.antt
-sed -i '/^pub mod Examples$/d' "$work/crates/dependence/specs/Lib.antt"
+rm -f "$work"/crates/dependence/proofs/ExamplesReordered.antt
+sed -i '/^pub mod Examples/d' "$work/crates/dependence/proofs/Lib.antt"
 sed -i '/^pub mod .*Cases$/d' "$work/crates/definition/specs/Lib.antt"
 cp -r "$work/crates/definition/specs" "$work/specs"
 
@@ -56,7 +57,7 @@ slip() {
         return
     fi
     # rt names a file from its crate's folder, and then the crate below the page that did not build, if it is one
-    first=$(grep -m 1 -oE "specs/[^ ]*\.antt:[0-9]+:[0-9]+: error: \`[^\`]*\`" "$log" || true)
+    first=$(grep -m 1 -oE "(specs|proofs)/[^ ]*\.antt:[0-9]+:[0-9]+: error: \`[^\`]*\`" "$log" || true)
     if [ -z "$first" ]; then
         echo "NOT REFUSED BY A THEOREM $name: $(grep -m 1 'error' "$log" || tail -n 1 "$log")"
         missed=1
@@ -64,7 +65,7 @@ slip() {
     fi
     crate=$(sed -n 's/^rt: the library \([a-z0-9_]*\) did not build.*/\1/p' "$log" | head -n 1)
     [ -n "$crate" ] || crate=$(sed -n 's/^page //p' "$log" | tail -n 1)
-    echo "refused $name: $crate/$(echo "$first" | sed -E 's#^specs/([^:]*):.*`([^`]*)`$#\1: \2#')"
+    echo "refused $name: $crate/$(echo "$first" | sed -E 's#^[a-z]*/([^:]*):.*`([^`]*)`$#\1: \2#')"
 }
 
 if ! checked >"$work/log" 2>&1; then

@@ -18,7 +18,8 @@ use Rattle.definition.specs.Field.{Element, Field, Spelling, elements_in, field_
 use Rattle.definition.specs.Lists.{chunks, range}
 use Rattle.definition.specs.Sheet.{Sheet, edition1, first_level, root_of_unity, sheet_of}
 use Rattle.domain.specs.Powers.{Powers}
-use Rattle.layouts.proofs.Lawful.{Lawful, lawful}
+use Rattle.layouts.proofs.Lawful.{lawful}
+use Rattle.layouts.specs.LawfulSheets.{Lawful}
 use Rattle.layouts.specs.Levels.{sheet_field, sheet_root, words_for}
 use Rattle.layouts.proofs.PlainSheet.{sheet_plain}
 use Rattle.layouts.specs.Spellings.{count_add, count_least, words_read}

@@ -21,7 +21,7 @@ use Rattle.definition.specs.Sheet.{Sheet, edition1, sheet_of, sheet_rules, test_
 use Rattle.definition.specs.Verdict.{Outcome, ◌then◌, accepted, refuse_at, refuse_if, refused}
 use Rattle.list_laws.specs.First.{first_of_lem}
 use Rattle.list_laws.specs.Lists.{get_d_after_run, get_d_run}
-use Rattle.layouts.proofs.Lawful.{Lawful}
+use Rattle.layouts.specs.LawfulSheets.{Lawful}
 use Rattle.layouts.specs.Levels.{sheet_field, words_for}
 use Rattle.layouts.proofs.RulesByWord.{rules_counted, rules_length}
 use Rattle.layouts.specs.Tests.{equal_passes}

@@ -22,7 +22,8 @@ use Rattle.list_laws.specs.First.{first_of_lem}
 use Rattle.list_laws.specs.Lists.{get_d_map}
 use Rattle.algebra.specs.Laws.{FieldLaws}
 use Rattle.layouts.specs.FileWords.{stream_length}
-use Rattle.layouts.proofs.Lawful.{Lawful, lawful}
+use Rattle.layouts.proofs.Lawful.{lawful}
+use Rattle.layouts.specs.LawfulSheets.{Lawful}
 use Rattle.layouts.specs.Levels.{element_at, rounds_of, sheet_field, words_for}
 use Rattle.layouts.proofs.RulesByWord.{rules_counted, rules_length, sheet_exactly}
 use Rattle.layouts.specs.Spellings.{at_drop}

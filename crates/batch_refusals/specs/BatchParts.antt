@@ -16,9 +16,10 @@ use Rattle.definition.specs.Sheet.{Sheet, edition1, first_level, later_levels, s
 use Rattle.definition.specs.Verdict.{accepted}
 use Rattle.list_laws.specs.Lists.{get_d_after_run, get_d_run}
 use Rattle.layouts.proofs.LayoutByRound.{starts_grow}
-use Rattle.layouts.proofs.Lawful.{Lawful, lawful}
+use Rattle.layouts.proofs.Lawful.{lawful}
+use Rattle.layouts.specs.LawfulSheets.{Lawful, Paired}
 use Rattle.layouts.specs.Levels.{level_of, round_count, round_start, rounds_of, words_for}
-use Rattle.layouts.proofs.LevelsByNumber.{Paired, level_first}
+use Rattle.layouts.proofs.LevelsByNumber.{level_first}
 use Rattle.layouts.specs.Spellings.{count_add, count_one}
 use Rattle.completeness.specs.Faults.{Part, PartDue, combination, finals, fold, outs, part_length, part_limit, part_start, shifts, words}
 use Rattle.completeness.specs.Numbered.{count_of, final, replies, start_of, table}

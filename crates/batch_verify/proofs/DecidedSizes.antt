@@ -20,9 +20,9 @@ use Rattle.definition.specs.Transcript
 use Rattle.definition.specs.Verdict.{Outcome, accepted, refused, then_verdict}
 use Rattle.list_laws.specs.Lists.{zip_short}
 use Rattle.list_laws.specs.Members.{different_most}
-use Rattle.layouts.proofs.Lawful.{Lawful, lawful, rounds_word}
+use Rattle.layouts.proofs.Lawful.{lawful, rounds_word}
+use Rattle.layouts.specs.LawfulSheets.{Lawful, Paired}
 use Rattle.layouts.specs.Levels.{level_of, rounds_of, sheet_field, sheet_root}
-use Rattle.layouts.proofs.LevelsByNumber.{Paired}
 use Rattle.layouts.proofs.PlainSheet.{sheet_plain}
 use Rattle.layouts.specs.Spellings.{begun_length}
 use Rattle.completeness.proofs.Answers.{Refuses, at_refuses, then_refuses}

@@ -12,7 +12,8 @@ use Rattle.definition.specs.Field.{spelling_of, word_count}
 use Rattle.definition.specs.Lists.{different}
 use Rattle.definition.specs.Sheet.{Sheet, edition1, fold_places, fold_words, sheet_of, shift_count}
 use Rattle.list_laws.specs.All.{All, all_map}
-use Rattle.layouts.proofs.Lawful.{Lawful, lawful, rounds_word, times_word}
+use Rattle.layouts.proofs.Lawful.{lawful, rounds_word, times_word}
+use Rattle.layouts.specs.LawfulSheets.{Lawful}
 use Rattle.layouts.specs.Levels.{level_of, round_count, round_start, rounds_of}
 use Rattle.layouts.proofs.LevelsByNumber.{undivided}
 use Rattle.layouts.specs.PlainRules.{PlainSheet}

@@ -16,7 +16,8 @@ use Rattle.definition.specs.Verdict.{accepted, refuse_at}
 use Rattle.definition.specs.Lists.{first_true}
 use Rattle.list_laws.specs.All.{All, all_in_map}
 use Rattle.layouts.specs.EachWord.{Each, InRange, Outside, each_append_at, each_false}
-use Rattle.layouts.proofs.LayoutFacts.{CoinRuns, coin_runs, coins_alone, coins_append, coins_messages, layout_coins}
+use Rattle.layouts.proofs.LayoutFacts.{coin_runs, coins_alone, coins_append, coins_messages, layout_coins}
+use Rattle.layouts.specs.KindsAfter.{CoinRuns}
 use Rattle.layouts.specs.Levels.{sheet_field, words_for}
 use Rattle.layouts.specs.Spellings.{begun_drop, begun_length, count_add, read_length}
 use Rattle.layouts.specs.Tests.{all_false, at_passes, equal_passes, then_passes}

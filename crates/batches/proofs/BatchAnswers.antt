@@ -27,7 +27,8 @@ use Rattle.layouts.specs.FileWords.{stream_length}
 use Rattle.layouts.proofs.Lawful.{lawful}
 use Rattle.layouts.specs.Levels.{level_of, out_coin_count, rounds_of, sheet_field, sheet_root, words_for}
 use Rattle.layouts.specs.Spellings.{begun_length}
-use Rattle.layouts.proofs.LevelsByNumber.{Paired, level_first, levels_later}
+use Rattle.layouts.proofs.LevelsByNumber.{level_first, levels_later}
+use Rattle.layouts.specs.LawfulSheets.{Paired}
 use Rattle.layouts.specs.Tests.{if_passes, then_passes}
 use Rattle.completeness.proofs.Answers.{Refuses, at_refuses, finish_refusal, if_refuses, refuses_sheet, then_refuses}
 use Rattle.completeness.specs.EqualOuts.{repeated_most}

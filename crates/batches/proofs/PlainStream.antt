@@ -26,7 +26,8 @@ use Rattle.list_laws.specs.All.{All, all_map, all_of_map, everywhere}
 use Rattle.list_laws.specs.Chunks.{chunk_sizes, chunks_length}
 use Rattle.list_laws.specs.Lists.{range_length}
 use Rattle.layouts.proofs.Lawful.{lawful, rounds_word}
-use Rattle.layouts.proofs.LevelsByNumber.{Paired, level_first, levels_later}
+use Rattle.layouts.proofs.LevelsByNumber.{level_first, levels_later}
+use Rattle.layouts.specs.LawfulSheets.{Paired}
 use Rattle.completeness.specs.DecidedByNumber.{rest_round, rest_after}
 use Rattle.completeness.specs.Faults.{part_words, shifts}
 use Rattle.layouts.specs.SheetRules.{rounds_most}

@@ -18,7 +18,7 @@ use Rattle.list_laws.specs.All.{All}
 use Rattle.layouts.specs.FileWords.{stream_length}
 use Rattle.layouts.proofs.Lawful.{lawful}
 use Rattle.layouts.specs.Levels.{level_of, rounds_of, sheet_field, sheet_root}
-use Rattle.layouts.proofs.LevelsByNumber.{Paired}
+use Rattle.layouts.specs.LawfulSheets.{Paired}
 use Rattle.layouts.specs.Tests.{equal_passes, then_passes}
 use Rattle.completeness.proofs.Answers.{Refuses, at_refuses, then_refuses}
 use Rattle.completeness.specs.Faults.{part_words, shifts}

@@ -12,7 +12,7 @@ use Rattle.definition.specs.Verdict.{accepted}
 use Rattle.list_laws.specs.All.{All, all_places, at_place}
 use Rattle.layouts.specs.EachWord.{in_range}
 use Rattle.layouts.specs.Levels.{level_of, rounds_of}
-use Rattle.layouts.proofs.LevelsByNumber.{Paired}
+use Rattle.layouts.specs.LawfulSheets.{Paired}
 use Rattle.layouts.specs.Tests.{all_false}
 use Rattle.completeness.specs.Faults.{due_of, part_length, part_start, part_words, shifts}
 use Rattle.completeness.specs.PairsByNumber.{part_length_lem, part_word_lem}

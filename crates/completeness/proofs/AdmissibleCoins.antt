@@ -19,11 +19,11 @@ use Rattle.algebra.specs.Laws.{FieldLaws}
 use Rattle.algebra.specs.RingLaws
 use Rattle.algebra.specs.RootsOfUnity.{minus_one}
 use Rattle.layouts.specs.EachWord.{Each, InRange, Outside, each_later, each_length, each_outs, each_replicate, in_range, outs_begun}
-use Rattle.layouts.proofs.LayoutFacts.{CoinRuns, outs_length}
-use Rattle.layouts.specs.KindsAfter.{later_layout}
+use Rattle.layouts.proofs.LayoutFacts.{outs_length}
+use Rattle.layouts.specs.KindsAfter.{CoinRuns, later_layout}
 use Rattle.layouts.specs.LevelSizes.{Chain, Sized, chain_head}
 use Rattle.layouts.specs.Levels.{sheet_field, sheet_root}
-use Rattle.layouts.proofs.SheetLevels.{Step, Steps}
+use Rattle.layouts.specs.LawfulSheets.{Step, Steps}
 use Rattle.layouts.specs.Spellings.{begun_drop, read_length}
 use Rattle.completeness.specs.DecidingAccepts.{Admissible, AdmissibleRound}
 use Rattle.completeness.specs.DistinctPoints

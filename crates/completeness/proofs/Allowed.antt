@@ -15,7 +15,8 @@ use Rattle.definition.specs.Sheet.{Edition, first_level, later_levels, sheet_len
 use Rattle.definition.specs.Verdict.{accepted}
 use Rattle.list_laws.specs.All.{All, all_map}
 use Rattle.layouts.specs.EachWord.{Each, InRange, Outside, each_append_at, each_false, each_replicate}
-use Rattle.layouts.proofs.LayoutFacts.{CoinRuns, coin_runs, layout_coins}
+use Rattle.layouts.proofs.LayoutFacts.{coin_runs, layout_coins}
+use Rattle.layouts.specs.KindsAfter.{CoinRuns}
 use Rattle.layouts.specs.Levels.{sheet_field, words_for}
 use Rattle.layouts.specs.Spellings.{begun_drop, begun_length, read_length}
 use Rattle.layouts.specs.Tests.{all_false, at_passes, equal_passes}

@@ -13,17 +13,19 @@ use Rattle.completeness.proofs.Converter
 use Rattle.completeness.specs.Faults.{sheet_in, six_higher}
 
 -- 3. The blocks that the converter to edition 2 wrote get the original's verdict;
-module _ (bytes output : List ℕ) (n : ℕ) (e : (to_edition2 bytes output).answer ≡ done n) where
-  pub to_2_verdict : verify_in edition2 (take (512 * n) (to_edition2 bytes output).output) ≡ record { outcome = six_higher (verify bytes).outcome; reads = (verify bytes).reads }
-  to_2_verdict = Converter.to_2_verdict bytes output n e
+module _ (bytes output : List ℕ) (n : ℕ) where
+  module _ (e : (to_edition2 bytes output).answer ≡ done n) where
+    pub to_2_verdict : verify_in edition2 (take (512 * n) (to_edition2 bytes output).output) ≡ record { outcome = six_higher (verify bytes).outcome; reads = (verify bytes).reads }
+    to_2_verdict = Converter.to_2_verdict bytes output n e
 
 -- 4. and so do those that the converter to edition 1 wrote.
-module _ (bytes output : List ℕ) (n : ℕ) (e : (to_edition1 bytes output).answer ≡ done n) where
-  pub to_1_verdict : verify_in edition2 bytes ≡ record {
-    outcome = six_higher (verify (take (512 * n) (to_edition1 bytes output).output)).outcome;
-    reads = (verify (take (512 * n) (to_edition1 bytes output).output)).reads;
-  }
-  to_1_verdict = Converter.to_1_verdict bytes output n e
+module _ (bytes output : List ℕ) (n : ℕ) where
+  module _ (e : (to_edition1 bytes output).answer ≡ done n) where
+    pub to_1_verdict : verify_in edition2 bytes ≡ record {
+      outcome = six_higher (verify (take (512 * n) (to_edition1 bytes output).output)).outcome;
+      reads = (verify (take (512 * n) (to_edition1 bytes output).output)).reads;
+    }
+    to_1_verdict = Converter.to_1_verdict bytes output n e
 
 -- 5. The same of the words alone, whatever the output: of a file of edition 1 that passes refusals 1 to 6,
 module _ (bytes : List ℕ) (read : reading edition1 bytes ≡ accepted) where

@@ -35,7 +35,7 @@ use Rattle.layouts.specs.KindsAfter.{later_layout}
 use Rattle.layouts.specs.LevelSizes.{Chain, chain_head}
 use Rattle.layouts.specs.Levels.{rounds_of, sheet_field, sheet_root, words_for}
 use Rattle.layouts.specs.Passed.{passed}
-use Rattle.layouts.proofs.SheetLevels.{Steps}
+use Rattle.layouts.specs.LawfulSheets.{Steps}
 use Rattle.layouts.specs.Spellings.{begun_drop, begun_length}
 use Rattle.layouts.specs.Tests.{at_passes, then_passes, verdict_passes}
 use Rattle.completeness.proofs.Completeness.{completeness, sheet_ready}

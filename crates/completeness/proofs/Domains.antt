@@ -21,7 +21,7 @@ use Rattle.algebra.specs.RootsOfUnity.{minus_one}
 use Rattle.completeness.specs.DecidingAccepts.{Foldable}
 use Rattle.completeness.proofs.ValuesApart.{numbers_equal}
 use Rattle.layouts.specs.LevelSizes.{Sized, positive_sizes}
-use Rattle.layouts.proofs.SheetLevels.{Step}
+use Rattle.layouts.specs.LawfulSheets.{Step}
 
 -- exponents
 further : (t a c : ℕ) → 1 + t * (a + c) ≡ 1 + t * a + t * c

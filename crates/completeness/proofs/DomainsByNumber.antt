@@ -11,7 +11,7 @@ use Rattle.algebra.specs.RingLaws.{sub_self}
 use Rattle.algebra.specs.RootsOfUnity.{minus_one}
 use Rattle.layouts.proofs.Lawful.{lawful}
 use Rattle.layouts.specs.Levels.{level_of, out_coin_count, rounds_of, sheet_field, sheet_root}
-use Rattle.layouts.proofs.LevelsByNumber.{Paired}
+use Rattle.layouts.specs.LawfulSheets.{Paired}
 use Rattle.layouts.proofs.SheetLevels.{step}
 use Rattle.completeness.proofs.Allowed.{sheet_enough, sheet_long}
 use Rattle.completeness.proofs.Domains

@@ -1,6 +1,7 @@
--- THE PAGE ON THE EDITIONS (02, CR 5): the notions of the other two pages by the words of a sheet, in edition 1 with its one folding number, which is word 3; and the
--- converter; a converted file's verdict is on ConvertedVerdicts.antt. It holds theorems and nothing else; each proof is one citation. To read it: the definition (crate `definition`) and the vocabularies Numbered.antt and
--- Faults.antt, with Levels.antt and PlainRules.antt of the crate `layouts` beneath them.
+-- THE PAGE ON THE EDITIONS (02, CR 5): the notions of the other pages by the words of a sheet, in edition 1 with its one folding number, which is word 3; and the
+-- converter, but for the verdict on a converted file, which is on the page ConvertedVerdicts.antt. It holds theorems and nothing else; each proof is one citation.
+-- To read it: the definition (crate `definition`) and the vocabularies Numbered.antt and Faults.antt, with Levels.antt and PlainRules.antt of the crate `layouts` beneath
+-- them.
 use Rattle.std.specs.Prelude.{ℕ, suc, ◌+◌, ◌-◌, ◌*◌, ◌/◌, ◌^◌, ◌≤◌, ◌<◌, List, ◌++◌, map, ◌↔◌, ◌≡◌, eqb, length, get_or, take, drop}
 use Rattle.definition.specs.Block.{block_count, file_of, stream_of}
 use Rattle.definition.specs.Convert.{backward, body_of, folds_test, forward, to_edition1, to_edition2}

@@ -1,5 +1,5 @@
 -- The coins of each round of an honest run are fair, its levels fold, and so the corrected polynomial f_i has d_i coefficients.
-use Prim.Native.Nat.{ℕ, zero, suc, ◌+◌, ◌-◌, ◌/◌, ◌≤◌, ◌<◌}
+use Prim.Native.Nat.{ℕ, zero, suc, ◌+◌, ◌-◌, ◌≤◌, ◌<◌}
 use Rattle.std.proofs.Common.{add-suc, suc-add, add-zero, zero-add, arith, ◌∙◌, subst}
 use Rattle.std.specs.Prelude.{List, map, ◌≡◌}
 use Rattle.std.proofs.Math.Path.{sym}
@@ -10,7 +10,8 @@ use Rattle.definition.specs.Lists.{range}
 use Rattle.definition.specs.Sheet.{Edition, Level, Sheet, first_level, sheet_length, sheet_of}
 use Rattle.definition.specs.Transcript.{Coins}
 use Rattle.algebra.specs.Laws.{FieldLaws}
-use Rattle.layouts.proofs.Lawful.{Lawful, lawful}
+use Rattle.layouts.proofs.Lawful.{lawful}
+use Rattle.layouts.specs.LawfulSheets.{Lawful}
 use Rattle.layouts.specs.Levels.{level_of, rounds_of, sheet_field, sheet_root}
 use Rattle.layouts.proofs.LevelsByNumber.{level_first, undivided_degree}
 use Rattle.completeness.proofs.Allowed.{allowed_degree, allowed_enough}
@@ -23,7 +24,7 @@ use Rattle.completeness.specs.Numbered.{Allowed, coins_of, corrected_of, final_i
 use Rattle.completeness.specs.Ready.{ready_sized}
 
 -- n rounds past level i
-pub admissible_at : (h : Sheet) (coins : List ℕ) (L : FieldLaws (sheet_field h)) (js : List ℕ) (m i n : ℕ) → n < m → Admissible (sheet_field h) L (sheet_root h) (level_of h i) (map (coins_of h coins) (range (suc i) m)) js →
+admissible_at : (h : Sheet) (coins : List ℕ) (L : FieldLaws (sheet_field h)) (js : List ℕ) (m i n : ℕ) → n < m → Admissible (sheet_field h) L (sheet_root h) (level_of h i) (map (coins_of h coins) (range (suc i) m)) js →
     AdmissibleRound (sheet_field h) L (sheet_root h) (level_of h (i + n)) (coins_of h coins (suc (i + n)))
 unfolding range
 admissible_at h coins L js zero i n l f = absurd (omega arith)
@@ -65,7 +66,7 @@ module _ {ed : Edition} {w f coins : List ℕ} (ok : Allowed ed w f coins) where
   pub level_folds : (i : ℕ) → i ≤ rounds_of (sheet_of ed w) → Foldable F ω (level_of (sheet_of ed w) i)
   level_folds i l = foldable F L ω (sheet_ready ok).signs (sheet_ready ok).e (sheet_ready ok).root (level_of (sheet_of ed w) i) (ready_sized ed w long ok.sheet i l)
 
-  -- DEGREES. f_i has d_i coefficients, and so has g_i; g_(i+1) has d_i/k.
+  -- DEGREES. f_i has d_i coefficients (g_i in RunByNumber).
   pub corrected_length : (i : ℕ) → i ≤ rounds_of (sheet_of ed w) → length (corrected_of (sheet_of ed w) f coins i) ≡ (level_of (sheet_of ed w) i).degree
   unfolding corrected_of
   corrected_length zero l = first_length ed w f ok

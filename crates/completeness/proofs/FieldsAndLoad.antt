@@ -1,5 +1,5 @@
--- THE PAGE ON THE FIELDS AND THE LOAD, which goes on from Statements.antt: what its items 11 and 12 say with no premise on a coin list, and 13 and 14, the field of four
--- words and the powers. It holds theorems and nothing else; each proof is one citation. It is read with the same definition and vocabulary.
+-- THE PAGE ON THE FIELDS AND THE LOAD, which goes on from Statements.antt: of its item 11 the lines as they are drawn, of 12 the public inverse, and 13 and 14, the field
+-- of four words and the powers. It holds theorems and nothing else; each proof is one citation. It is read with the same definition and vocabulary.
 use Rattle.std.specs.Prelude.{ℕ, suc, ◌-◌, ◌%◌, ◌^◌, ◌≤◌, ◌<◌, true, cond, ◌↔◌, ◌≡◌, eqb, get_or}
 use mathlib.Core.List.{List, [], ◌∷◌}
 use Rattle.std.proofs.Math.Option.{none, some}
@@ -49,7 +49,7 @@ pub reciprocal_as_before : (p x : ℕ) → 2 < p → reciprocal (prime_field p) 
 reciprocal_as_before = algebra.as_before
 
 -- 13. ELEMENTS OF FOUR WORDS (02, CR 11). Field 3, a + bX + cX² + dX³ over p = 2013265921 with X⁴ = 11, obeys the laws of a field, on every four words, as the field of
--- every number does in its spelling. So all theorems of this page are of it too.
+-- every number does in its spelling. So all theorems of Statements.antt and TheRun.antt are of it too.
 pub field_laws : (field : ℕ) → FieldLaws (field_in (spelling_of field) (prime_of field))
 field_laws = FieldIn.laws_in
 

@@ -1,4 +1,4 @@
--- The pages, and the proofs of what they say that rest on domains and allowed coins; other crates cite them from here.
+-- The pages, and the proofs that a must-fail edit of a definition or of a theorem beneath refutes; other crates cite them from here.
 
 -- the pages
 pub mod Statements

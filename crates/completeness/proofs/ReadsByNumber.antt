@@ -21,7 +21,7 @@ use Rattle.definition.specs.Verify.{verify_in}
 use Rattle.list_laws.specs.All.{All, all_places, all_take}
 use Rattle.list_laws.specs.First.{FirstTrue, first_true_lem}
 use Rattle.layouts.specs.Levels.{level_of, rounds_of, sheet_field, sheet_root, total}
-use Rattle.layouts.proofs.LevelsByNumber.{Paired}
+use Rattle.layouts.specs.LawfulSheets.{Paired}
 use Rattle.completeness.proofs.Answers.{Refuses, at_refuses, if_refuses, refuses_sheet, then_refuses}
 use Rattle.completeness.specs.DecidedByNumber.{clashes, decide_rounds, decided, final_tests, rest_final, rest_round, rest_after}
 use Rattle.completeness.specs.Faults.{Part, PartDue, finals, fold, function_in, pairs_in, part_element, part_length, part_limit, part_word, part_words, reads_before, reads_with, sheet_in, shifts}

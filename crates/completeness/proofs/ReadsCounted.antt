@@ -21,7 +21,7 @@ use Rattle.layouts.proofs.Lawful.{lawful}
 use Rattle.layouts.proofs.LayoutByRound.{coins_due_lem}
 use Rattle.layouts.specs.LevelSizes.{Sized, positive_sizes}
 use Rattle.layouts.specs.Levels.{coins_before, level_of, out_coin_count, rounds_of, sheet_field, sheet_root, total, words_for}
-use Rattle.layouts.proofs.LevelsByNumber.{Paired}
+use Rattle.layouts.specs.LawfulSheets.{Paired}
 use Rattle.completeness.proofs.Allowed.{allowed_count, allowed_enough}
 use Rattle.completeness.specs.DecidingAccepts.{Admissible, all_places}
 use Rattle.completeness.specs.Numbered.{Allowed, coins_of, final_indices, indices_of, level_reads, reads_due, shift_indices}

@@ -1,5 +1,5 @@
 -- The honest run under allowed coins, by round: what holds of one round with fair coins in any field holds of round i.
-use Prim.Native.Nat.{ℕ, zero, suc, ◌+◌, ◌-◌, ◌/◌, ◌≤◌, ◌<◌}
+use Prim.Native.Nat.{ℕ, zero, suc, ◌-◌, ◌/◌, ◌≤◌, ◌<◌}
 use Rattle.std.proofs.Common.{arith, ◌∙◌}
 use Rattle.std.proofs.Math.Nat.{div-le_self}
 use Rattle.std.specs.Prelude.{List, map, ◌≡◌, refl, get_or, take}
@@ -50,6 +50,7 @@ module _ {ed : Edition} {w f coins : List ℕ} (ok : Allowed ed w f coins) where
   abbrev long : sheet_length ed ≤ length w
   long = allowed_enough ok
 
+  -- DEGREES. g_i has d_i coefficients, as f_i has (FairRounds); g_(i+1) has d_i/k.
   pub first_degree : length (round_poly (sheet_of ed w) f coins 0) ≡ (sheet_of ed w).degree
   unfolding round_poly
   first_degree = allowed_degree ok

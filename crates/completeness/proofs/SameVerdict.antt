@@ -21,7 +21,7 @@ use Rattle.definition.specs.Verify.{verify_in}
 use Rattle.list_laws.specs.All.{at_place}
 use Rattle.layouts.proofs.LayoutByRound.{starts_after, starts_grow}
 use Rattle.layouts.specs.Levels.{element_at, level_of, out_coin_count, round_count, round_start, rounds_of, sheet_field, sheet_root, words_for}
-use Rattle.layouts.proofs.LevelsByNumber.{Paired}
+use Rattle.layouts.specs.LawfulSheets.{Paired}
 use Rattle.layouts.proofs.RulesByWord.{rules_counted, rules_length}
 use Rattle.layouts.proofs.SheetLevels.{rules_back, sheet_front}
 use Rattle.layouts.specs.Spellings.{at_drop, begun_at, begun_length, count_below, count_one}

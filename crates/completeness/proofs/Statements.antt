@@ -3,9 +3,9 @@
 -- it Levels.antt of the crate `layouts`.
 -- All theorems are of both editions, of the four fields and of every sheet, polynomial and coin list that pass the definition's tests; what they are in edition 1, with
 -- its one folding number, is on the page Editions.antt. Two pages go on from here: TheRun.antt has 3 to 8, the run of an allowed list and the domains, and
--- FieldsAndLoad.antt what asks nothing of coins: 13, 14, and the rest of 11 and 12. Behind them stand general theorems, for any field with the laws and any fitting root:
+-- FieldsAndLoad.antt 13, 14, and the rest of 11 and 12. Behind them stand general theorems, for any field with the laws and any fitting root:
 -- DecidingAccepts.deciding_accepts (any list of levels), RoundPolynomials, Domains, and Causal (any party that sends and asks).
-use Rattle.std.specs.Prelude.{ℕ, suc, ◌+◌, ◌-◌, ◌*◌, ◌≤◌, ◌<◌, cond, ◌↔◌, ◌≡◌, eqb, length, get_or, take, drop}
+use Rattle.std.specs.Prelude.{ℕ, suc, ◌+◌, ◌*◌, ◌≤◌, ◌<◌, cond, ◌↔◌, ◌≡◌, eqb, length, get_or, take, drop}
 use mathlib.Core.List.{List, [], ◌∷◌, ◌++◌, zip_with}
 use Rattle.std.proofs.Math.Option.{some}
 use Rattle.definition.specs.Block.{block_count, file_of, stream_of}

@@ -23,7 +23,8 @@ use Rattle.layouts.specs.FileTrip.{file_stream, fill_count, filled}
 use Rattle.layouts.proofs.Lawful.{lawful}
 use Rattle.layouts.proofs.LayoutByRound.{coins_due_lem}
 use Rattle.layouts.specs.Levels.{coin_count, coins_before, level_of, out_coin_count, element_at, round_count, round_start, rounds_of, sheet_field, sheet_root, words_for}
-use Rattle.layouts.proofs.LevelsByNumber.{Paired, level_first}
+use Rattle.layouts.proofs.LevelsByNumber.{level_first}
+use Rattle.layouts.specs.LawfulSheets.{Paired}
 use Rattle.layouts.specs.Spellings.{at_drop, at_take, count_add, count_below, read_at_lem, read_length, read_written, words_length}
 use Rattle.completeness.proofs.Allowed.{allowed_count, allowed_enough, allowed_long}
 use Rattle.completeness.specs.CoinsByNumber.{coins_read}

@@ -1,13 +1,12 @@
 -- THE PAGE ON THE RUN, which goes on from Statements.antt: what the tables, replies and final message of an allowed coin list are (3 to 6), that no message looks ahead
 -- (7), and the domains (8). It holds theorems and nothing else; each proof is one citation. It is read with the same definition and vocabulary.
-use Rattle.std.specs.Prelude.{ℕ, suc, ◌+◌, ◌-◌, ◌*◌, ◌^◌, ◌≤◌, ◌<◌, ◌≡◌, length, get_or, take, drop, replicate}
+use Rattle.std.specs.Prelude.{ℕ, suc, ◌+◌, ◌-◌, ◌*◌, ◌≤◌, ◌<◌, ◌≡◌, length, get_or, take, drop, replicate}
 use Rattle.std.proofs.Common.{arith}
 use mathlib.Core.List.{List, map}
-use Rattle.std.proofs.Math.Option.{none}
 use Rattle.definition.specs.Deciding.{answers}
 use Rattle.definition.specs.Domain.{fold_at, point, root_numbers, shift_point}
-use Rattle.definition.specs.Field.{Element, elements_in, one, power, product}
-use Rattle.definition.specs.Layout.{coin_kinds, layout, message, out, read_transcript}
+use Rattle.definition.specs.Field.{Element, elements_in, power}
+use Rattle.definition.specs.Layout.{coin_kinds, layout, message, read_transcript}
 use Rattle.definition.specs.Lists.{range}
 use Rattle.definition.specs.Polynomial.{add_poly, evaluate, fold_poly, geometric, mul_poly, points}
 use Rattle.definition.specs.Prove.{sheet_length_test}
@@ -15,7 +14,7 @@ use Rattle.definition.specs.Prover.{honest}
 use Rattle.definition.specs.Reading.{sheet_test}
 use Rattle.definition.specs.Sheet.{Edition, Sheet, final_count, sheet_length, sheet_of, shift_count}
 use Rattle.definition.specs.Verdict.{accepted}
-use Rattle.definition.specs.WorkedTranscript.{coefficients, coins}
+use Rattle.definition.specs.WorkedTranscript.{coins}
 use Rattle.layouts.specs.Levels.{degree_of, element_at, level_of, out_coin_count, rounds_of, sheet_field, sheet_root, total, words_for, zero_of}
 use Rattle.layouts.specs.RootNumbers
 use Rattle.completeness.proofs.DomainsByNumber

@@ -25,9 +25,9 @@ use Rattle.list_laws.specs.First.{first_of_lem}
 use Rattle.list_laws.specs.Lists.{get_d_map, get_d_map_range, range_length}
 use Rattle.algebra.specs.Laws.{FieldLaws}
 use Rattle.layouts.specs.FileWords.{stream_length}
-use Rattle.layouts.proofs.Lawful.{Lawful, lawful}
+use Rattle.layouts.proofs.Lawful.{lawful}
+use Rattle.layouts.specs.LawfulSheets.{Lawful, Paired}
 use Rattle.layouts.specs.Levels.{level_of, out_coin_count, rounds_of, sheet_field, sheet_root}
-use Rattle.layouts.proofs.LevelsByNumber.{Paired}
 use Rattle.layouts.specs.PlainRules.{word_turn}
 use Rattle.layouts.proofs.RulesByWord.{rules_counted, rule_at, rule_of_word, rules_length, sheet_exactly, turn_of_word, turns_differ, word_of_turn}
 use Rattle.layouts.specs.SheetRules.{short_sheet}

@@ -13,7 +13,8 @@ use Rattle.definition.specs.Lists.{range}
 use Rattle.definition.specs.Sheet.{Level, Sheet, first_level, later_levels}
 use Rattle.list_laws.specs.Lists.{drop_take}
 use Rattle.layouts.specs.Levels.{coin_count, coins_before, element_at, level_of, out_coin_count, rounds_of, words_for}
-use Rattle.layouts.proofs.LevelsByNumber.{Paired, level_first, levels_later}
+use Rattle.layouts.proofs.LevelsByNumber.{level_first, levels_later}
+use Rattle.layouts.specs.LawfulSheets.{Paired}
 use Rattle.layouts.specs.Spellings.{count_add, count_zero, read_at_lem, read_from}
 use Rattle.completeness.specs.Numbered.{coins_of, combination_coin, final_indices, fold_coin, out_coins_of, shift_indices}
 

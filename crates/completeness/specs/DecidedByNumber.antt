@@ -19,7 +19,8 @@ use Rattle.definition.specs.Transcript.{Rest}
 use Rattle.definition.specs.Verdict.{Outcome, ◌then◌, refuse_at, refused}
 use Rattle.list_laws.specs.Lists.{drop_take}
 use Rattle.layouts.specs.Levels.{element_at, level_of, out_coin_count, round_count, round_start, rounds_of, sheet_field, sheet_root, words_for}
-use Rattle.layouts.proofs.LevelsByNumber.{Paired, level_first, levels_later}
+use Rattle.layouts.proofs.LevelsByNumber.{level_first, levels_later}
+use Rattle.layouts.specs.LawfulSheets.{Paired}
 use Rattle.layouts.specs.Spellings.{count_add, count_zero, read_drop, read_from}
 use Rattle.completeness.specs.Faults.{combination, finals, fold, function_in, outs, pairs_in, part_element, part_elements, part_length, part_start, part_words, round_in, shifts, words}
 use Rattle.completeness.specs.Numbered.{count_of, final, length_of, replies, start_of, table}

@@ -23,8 +23,8 @@ use Rattle.algebra.specs.FieldIn.{Below, sum_below, words_below, zero_below}
 use Rattle.algebra.specs.Laws.{FieldLaws}
 use Rattle.algebra.specs.Lengths
 use Rattle.layouts.specs.EachWord.{Each, Front, InRange, Outside, begun_outs, begun_quiet, each_join, each_later, each_length, each_replicate, each_same, outs_begun}
-use Rattle.layouts.proofs.LayoutFacts.{CoinRuns, outs_length}
-use Rattle.layouts.specs.KindsAfter.{later_layout}
+use Rattle.layouts.proofs.LayoutFacts.{outs_length}
+use Rattle.layouts.specs.KindsAfter.{CoinRuns, later_layout}
 use Rattle.layouts.specs.Levels.{sheet_field, sheet_root, words_for}
 use Rattle.layouts.specs.Spellings.{begun_drop, one_back, read_length, read_words, read_written, two_back, words_length, words_read}
 use Rattle.completeness.specs.DecidingAccepts

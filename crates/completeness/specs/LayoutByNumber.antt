@@ -16,7 +16,7 @@ use Rattle.list_laws.specs.NumberedParts.{joined}
 use Rattle.layouts.proofs.LayoutByRound.{after_start, after_kinds, before_start, coins_length, kinds_coins, kinds_length, last_kinds, layout_parts, no_coins, round_kinds}
 use Rattle.layouts.proofs.LayoutFacts.{coins_final, coins_outs, outs_length}
 use Rattle.layouts.specs.Levels.{coin_count, coins_before, level_of, out_coin_count, round_count, round_start, rounds_of, total, words_for}
-use Rattle.layouts.proofs.LevelsByNumber.{Paired}
+use Rattle.layouts.specs.LawfulSheets.{Paired}
 use Rattle.layouts.specs.Spellings.{count_add}
 use Rattle.completeness.specs.Numbered.{Due, Message, count_of, final, length_of, replies, sent_before, start_of, table}
 

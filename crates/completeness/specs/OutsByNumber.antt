@@ -11,7 +11,7 @@ use Rattle.definition.specs.Field.{Element, Spelling, begun_by, number_in}
 use Rattle.definition.specs.Layout.{Kind, layout, message, words_due}
 use Rattle.definition.specs.Sheet.{Edition, Sheet, sheet_length}
 use Rattle.algebra.specs.Laws.{FieldLaws}
-use Rattle.layouts.proofs.Lawful.{Lawful}
+use Rattle.layouts.specs.LawfulSheets.{Lawful}
 use Rattle.layouts.proofs.LayoutByRound.{starts_after}
 use Rattle.layouts.specs.LevelSizes.{positive_sizes}
 use Rattle.layouts.specs.Levels.{element_at, level_of, out_coin_count, rounds_of, sheet_field, words_for}

@@ -17,7 +17,7 @@ use Rattle.layouts.proofs.LayoutByRound.{after_start, after_kinds, kinds_length,
 use Rattle.layouts.proofs.LayoutFacts.{outs_length}
 use Rattle.layouts.specs.KindsAfter.{later_layout}
 use Rattle.layouts.specs.Levels.{level_of, out_coin_count, round_count, round_start, rounds_of, words_for}
-use Rattle.layouts.proofs.LevelsByNumber.{Paired}
+use Rattle.layouts.specs.LawfulSheets.{Paired}
 use Rattle.layouts.specs.Spellings.{count_add, count_one}
 use Rattle.completeness.specs.Faults.{Part, PartDue, combination, due_of, finals, fold, outs, part_length, part_start, shifts, words}
 use Rattle.completeness.specs.Numbered.{count_of, final, replies, start_of, table}

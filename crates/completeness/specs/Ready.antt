@@ -17,7 +17,8 @@ use Rattle.layouts.proofs.Lawful.{lawful}
 use Rattle.layouts.proofs.LayoutFacts.{layout_all}
 use Rattle.layouts.specs.LevelSizes.{Chain, Sized}
 use Rattle.layouts.specs.Levels.{level_of, rounds_of, sheet_field, sheet_root}
-use Rattle.layouts.proofs.SheetLevels.{Steps, sheet_chain, sheet_steps, sized}
+use Rattle.layouts.proofs.SheetLevels.{sheet_chain, sheet_steps, sized}
+use Rattle.layouts.specs.LawfulSheets.{Steps}
 
 pub record Ready (h : Sheet) : Type 0 where
   pub laws : FieldLaws (sheet_field h)

@@ -12,7 +12,7 @@ use Rattle.list_laws.specs.All.{all_map, at_place}
 use Rattle.layouts.specs.EachWord.{Each, Front, InRange, front_at, front_run, in_range}
 use Rattle.layouts.proofs.LayoutFacts.{outs_length, round_length}
 use Rattle.layouts.specs.KindsAfter.{later_layout}
-use Rattle.layouts.proofs.LevelsByNumber.{Paired}
+use Rattle.layouts.specs.LawfulSheets.{Paired}
 use Rattle.layouts.specs.Levels.{rounds_of, words_for}
 use Rattle.definition.specs.Field.{Spelling, word_count}
 use Rattle.definition.specs.Layout.{Kind, coin, index, later_count, limit, message, out_layout, rest_layout, round_layout}

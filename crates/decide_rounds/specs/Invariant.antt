@@ -3,7 +3,7 @@ use Rattle.std.specs.Prelude.{ℕ, suc, ◌/◌, ◌^◌, ◌≤◌, ◌<◌, �
 use Rattle.std.proofs.Math.Option.{none}
 use Rattle.list_laws.specs.All.{All}
 use Rattle.layouts.specs.EachWord.{Front, InRange}
-use Rattle.layouts.proofs.Lawful.{Lawful}
+use Rattle.layouts.specs.LawfulSheets.{Lawful}
 use Rattle.layouts.specs.Levels.{rounds_of, sheet_field, sheet_root}
 use Rattle.definition.specs.Deciding.{Place, counted, decide_rest, own_place, reads_of}
 use Rattle.definition.specs.Field.{Element, elements_in}

@@ -26,7 +26,8 @@ use Rattle.definition.specs.Verdict.{Outcome, accepted, refuse_if, refused, ◌t
 use Rattle.list_laws.specs.All.{All}
 use Rattle.algebra.specs.FieldIn.{zero_in}
 use Rattle.layouts.specs.Levels.{level_of, out_coin_count, round_count, round_start, rounds_of, sheet_field, sheet_root, words_for}
-use Rattle.layouts.proofs.LevelsByNumber.{Paired, level_first, levels_later}
+use Rattle.layouts.proofs.LevelsByNumber.{level_first, levels_later}
+use Rattle.layouts.specs.LawfulSheets.{Paired}
 use Rattle.layouts.specs.Spellings.{read_drop}
 use Rattle.layouts.specs.Tests.{then_passes}
 use Rattle.completeness.specs.DecidedByNumber.{rest_final, rest_round, rest_after}

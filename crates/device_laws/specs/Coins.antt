@@ -15,7 +15,8 @@ use Rattle.definition.specs.Sheet.{Edition, Level, Sheet, final_count, first_lev
 use Rattle.definition.specs.Verdict.{accepted}
 use Rattle.list_laws.specs.All.{All, all_of_map, all_range}
 use Rattle.list_laws.specs.Lists.{range_length}
-use Rattle.layouts.proofs.Lawful.{Lawful, lawful}
+use Rattle.layouts.proofs.Lawful.{lawful}
+use Rattle.layouts.specs.LawfulSheets.{Lawful}
 use Rattle.layouts.proofs.LayoutFacts.{final_length, layout_length, rest_length}
 use Rattle.layouts.specs.Levels.{level_of, rounds_of}
 use Rattle.layouts.proofs.LevelsByNumber.{as_listed}

@@ -14,7 +14,7 @@ use Rattle.definition.specs.Sheet.{Sheet, edition1, sheet_of, shift_count}
 use Rattle.layouts.proofs.CoinsAfter.{kinds_all, kinds_count, kinds_last, kinds_next}
 use Rattle.layouts.specs.KindsAfter.{kinds_after, later_kinds, later_layout, out_kinds}
 use Rattle.layouts.proofs.Lawful.{lawful}
-use Rattle.layouts.proofs.LevelsByNumber.{Paired}
+use Rattle.layouts.specs.LawfulSheets.{Paired}
 use Rattle.layouts.specs.Levels.{level_of, out_coin_count}
 use Rattle.layouts.specs.OneWord.{count_one_word}
 use Rattle.generator.specs.Draws.{draw_many, indices_drawn, messages_drawn}

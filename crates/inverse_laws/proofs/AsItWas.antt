@@ -1,5 +1,5 @@
 -- THE PAGE ON THE INVERSE AS IT WAS (02, CR 3), which goes on from Statements.antt. It holds theorems and nothing else; each proof is one citation. It is read with the
--- vocabulary Before.antt. All theorems are of both editions and of the four fields, in either spelling.
+-- vocabulary Before.antt, the definition's text beside the definition with the inverse as it was. All theorems are of both editions and of the four fields, in either spelling.
 use Rattle.std.specs.Prelude.{ℕ, List, ◌≡◌}
 use Rattle.std.proofs.Math.Option.{some}
 use Rattle.definition.specs.Deciding.{decide, deciding}

@@ -11,7 +11,8 @@ use Rattle.definition.specs.Sheet.{Sheet, first_level, later_levels, shift_count
 use Rattle.layouts.specs.KindsAfter.{chosen, kinds_after, later_kinds, out_kinds, words_after}
 use Rattle.layouts.proofs.LayoutFacts.{coins_append, coins_final, later_length, layout_coins, outs_length, round_coins_lem}
 use Rattle.layouts.specs.Levels.{level_of, out_coin_count, rounds_of, words_for}
-use Rattle.layouts.proofs.LevelsByNumber.{Paired, as_listed}
+use Rattle.layouts.proofs.LevelsByNumber.{as_listed}
+use Rattle.layouts.specs.LawfulSheets.{Paired}
 
 pub chosen_append : (alone : Bool) (ks ks' : List Kind) → chosen alone (ks ++ ks') ≡ chosen alone ks ++ chosen alone ks'
 unfolding chosen

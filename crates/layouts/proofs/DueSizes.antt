@@ -13,7 +13,8 @@ use Rattle.definition.specs.Layout.{coin_kinds, later_count, layout, words_due}
 use Rattle.definition.specs.Reading.{sheet_test}
 use Rattle.definition.specs.Sheet.{Edition, Sheet, final_count, fold_words, sheet_length, sheet_of}
 use Rattle.definition.specs.Verdict.{accepted}
-use Rattle.layouts.proofs.Lawful.{Lawful, lawful, rounds_word}
+use Rattle.layouts.proofs.Lawful.{lawful, rounds_word}
+use Rattle.layouts.specs.LawfulSheets.{Lawful}
 use Rattle.layouts.proofs.LayoutByRound.{coins_due_lem, words_due_lem}
 use Rattle.layouts.specs.Levels.{coin_count, coins_before, degree_of, level_of, round_count, round_start, rounds_of, total, words_for}
 use Rattle.layouts.proofs.LevelsByNumber.{folded, halved, undivided, undivided_degree}

@@ -1,43 +1,23 @@
 -- A sheet without a fault, of either edition, in numbers: the exponents of n0, d0 and of each folding number, and what the rules leave room for. Nothing after this
 -- looks at the words of a sheet.
-use Prim.Native.Nat.{ℕ, suc, ◌+◌, ◌-◌, ◌%◌, ◌^◌, ◌≤◌, ◌<◌}
-use Rattle.std.proofs.Math.Nat
+use Prim.Native.Nat.{ℕ, suc, ◌+◌, ◌-◌, ◌^◌, ◌≤◌, ◌<◌}
 use Rattle.std.proofs.Common.{arith, sym, ap, ◌∙◌}
 use mathlib.Core.List.{List, [], ◌∷◌, map, tail}
 use Rattle.std.specs.Prelude.{◌≡◌, refl, length, take, drop}
 use Rattle.std.proofs.Math.Path.{subst}
 use Rattle.std.proofs.Math.ListN.{get_or, length-drop}
 use Rattle.std.proofs.Math.Seq.{get_or-drop, get_or-take, length-take-le, take-take}
-use Rattle.definition.specs.Field.{spelling_of, word_count}
+use Rattle.definition.specs.Field.{spelling_of}
 use Rattle.definition.specs.Lists.{product_of}
 use Rattle.definition.specs.Reading.{sheet_test}
 use Rattle.definition.specs.Sheet.{Edition, Sheet, fold_words, sheet_length, sheet_of}
 use Rattle.definition.specs.Verdict.{accepted}
 use Rattle.layouts.specs.Levels.{degree_of, rounds_of, total}
-use Rattle.layouts.proofs.LevelsByNumber.{Paired}
+use Rattle.layouts.specs.LawfulSheets.{Lawful}
 use Rattle.layouts.specs.PlainRules.{PlainSheet}
 use Rattle.layouts.proofs.PlainSheet.{sheet_plain}
 use Rattle.layouts.specs.Spellings.{largest_most, largest_words}
-use Rattle.layouts.specs.SheetRules.{fold_count, fold_words_lem, long_enough, logs, positive, pow_below, pow_most, powers_of, product_powers}
-
-pub record Lawful (h : Sheet) : Type 0 where
-  pub a : ℕ
-  pub b : ℕ
-  pub cs : List ℕ
-  pub size : h.size ≡ 2 ^ suc a
-  pub small : h.size ≤ 4096
-  pub words : word_count h.spelling h.size ≤ 4096
-  pub divides : (h.prime - 1) % h.size ≡ 0
-  pub degree : h.degree ≡ 2 ^ b
-  pub below : b < suc a
-  pub folds : h.folds ≡ powers_of cs
-  pub room : total (map suc cs) ≤ b
-  pub most : length h.folds ≤ 6
-  pub paired : Paired h
-  pub outs : h.out_coins ≤ 2
-  pub few : (i : ℕ) → i < rounds_of h → get_or h.repetitions i 0 + h.out_coins < degree_of h (suc i)
-  pub times : (i : ℕ) → i ≤ rounds_of h → get_or h.repetitions i 0 ≤ 48
-  pub once : (i : ℕ) → i ≤ rounds_of h → 1 ≤ get_or h.repetitions i 0
+use Rattle.layouts.specs.SheetRules.{fold_count, fold_words_lem, long_enough, logs, positive, pow_below, pow_most, product_powers}
 
 tail_length : (l : List ℕ) → 0 < length l → suc (length (tail l)) ≡ length l
 tail_length [] h = absurd (omega arith)

@@ -14,7 +14,8 @@ use Rattle.list_laws.specs.NumberedParts.{firsts, firsts_length, joined, split_j
 use Rattle.layouts.proofs.LayoutFacts.{coins_alone, coins_append, coins_final, coins_messages, final_length, later_length, outs_length, round_coins_lem, round_length}
 use Rattle.layouts.specs.KindsAfter.{later_layout}
 use Rattle.layouts.specs.Levels.{coin_count, coins_before, level_of, out_coin_count, round_count, round_start, rounds_of, words_for}
-use Rattle.layouts.proofs.LevelsByNumber.{Paired, level_first, levels_later}
+use Rattle.layouts.proofs.LevelsByNumber.{level_first, levels_later}
+use Rattle.layouts.specs.LawfulSheets.{Paired}
 
 pub coins_length : (p q : List Kind) → length (coin_kinds (p ++ q)) ≡ length (coin_kinds p) + length (coin_kinds q)
 coins_length p q = ap length (coins_append p q) ∙ length-append (coin_kinds p) (coin_kinds q)

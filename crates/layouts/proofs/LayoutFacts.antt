@@ -2,16 +2,16 @@
 use Prim.Native.Nat.{ℕ, zero, suc, ◌+◌, ◌*◌}
 use Rattle.std.proofs.Common.{arith, ap, ◌∙◌, subst, length-append}
 use mathlib.Core.List.{List, [], ◌∷◌, ◌++◌, append_assoc, flat_map}
-use Rattle.std.specs.Prelude.{◌≡◌, refl, length, take, drop, replicate}
+use Rattle.std.specs.Prelude.{◌≡◌, refl, length, drop, replicate}
 use Rattle.std.proofs.lemmas.List.{length-replicate}
 use Rattle.definition.specs.Field.{Spelling, four, one, word_count}
 use Rattle.definition.specs.Layout.{Kind, coin, coin_kinds, index, later_count, layout, message, out, out_layout, rest_layout, round_layout}
 use Rattle.definition.specs.Sheet.{Level, Sheet, final_count, first_level, later_levels, shift_count}
 use Rattle.list_laws.specs.All.{All, all_append, all_replicate}
 use Rattle.layouts.specs.EachWord.{Each, each_append_at}
-use Rattle.layouts.specs.KindsAfter.{later_layout}
+use Rattle.layouts.specs.KindsAfter.{CoinRuns, later_layout}
 use Rattle.layouts.specs.LevelSizes.{Chain, Sized}
-use Rattle.layouts.proofs.SheetLevels.{Step, Steps}
+use Rattle.layouts.specs.LawfulSheets.{Step, Steps}
 
 pub coins_append : (ks ks' : List Kind) → coin_kinds (ks ++ ks') ≡ coin_kinds ks ++ coin_kinds ks'
 unfolding coin_kinds
@@ -137,14 +137,6 @@ pub layout_coins : (h : Sheet) → coin_kinds (layout h)
     ≡ replicate (word_count h.spelling 1) coin ++ coin_kinds (rest_layout h.spelling h.out_coins (first_level h) (later_levels h))
 unfolding layout
 layout_coins h = coins_append (replicate (word_count h.spelling h.size) message) _ ∙ rw coins_messages (coins_coins (word_count h.spelling 1) _)
-
--- the coins of the rounds after level b, each run with its kinds
-abbrev pub CoinRuns : {A : Type 0} → (Kind → A → Type 0) → Spelling → ℕ → Level → List Level → List A → Type 0
-CoinRuns R σ s b [] w = Each R (replicate b.repetitions (index (shift_count b))) w
-CoinRuns R σ s b (l ∷ ls) w =
-    Each R (out_layout σ s l) (take (word_count σ s) w)
-    × Each R (later_layout σ b) (take (later_count σ b) (drop (word_count σ s) w))
-    × CoinRuns R σ s l ls (drop (later_count σ b) (drop (word_count σ s) w))
 
 pub coin_runs : {A : Type 0} (R : Kind → A → Type 0) (σ : Spelling) (s : ℕ) (b : Level) (ls : List Level) (w : List A) →
     Each R (coin_kinds (rest_layout σ s b ls)) w → CoinRuns R σ s b ls w

@@ -10,6 +10,7 @@ use Rattle.std.proofs.Math.Seq.{drop-cons}
 use Rattle.definition.specs.Lists.{product_of, range}
 use Rattle.definition.specs.Sheet.{Level, Sheet, first_level, later_levels, levels_from}
 use Rattle.list_laws.specs.Lists.{tail_drop}
+use Rattle.layouts.specs.LawfulSheets.{Paired}
 use Rattle.layouts.specs.Levels.{degree_of, level_of, rounds_of}
 
 pub halved : (n i : ℕ) → n / 2 ^ i / 2 ≡ n / 2 ^ suc i
@@ -24,11 +25,6 @@ unfolding product_of
 product_next i [] h = absurd (omega arith)
 product_next zero (x ∷ l) h = Nat.mul_comm x 1
 product_next (suc i) (x ∷ l) h = ap (λ (y : ℕ). x * y) (product_next i l (omega arith)) ∙ sym (Nat.mul_assoc x (product_of (take i l)) (get_or l i 0))
-
--- a sheet has as many repetition numbers as folding numbers, and some
-pub record Paired (h : Sheet) : Type 0 where
-  pub some : suc (rounds_of h) ≡ length h.folds
-  pub same : length h.repetitions ≡ length h.folds
 
 module _ (h : Sheet) where
   pub folded : (i : ℕ) → i < length h.folds → degree_of h i / get_or h.folds i 0 ≡ degree_of h (suc i)

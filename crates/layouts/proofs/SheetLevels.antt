@@ -1,6 +1,5 @@
 -- The levels of a sheet without a fault: each has its sizes, and each step from one to the next leaves more degree than there are points.
 use Prim.Native.Nat.{ℕ, zero, suc, ◌+◌, ◌-◌, ◌/◌, ◌^◌, ◌≤◌, ◌<◌}
-use Rattle.std.proofs.Math.Nat
 use Rattle.std.proofs.Common.{pow-suc, arith, ap, ◌∙◌, length-append, length-drop, ext_get_or, get_or-drop, get_or-take, length-take-le, take-take}
 use Rattle.std.specs.Prelude.{List, [], ◌∷◌, ◌++◌, map, ◌≡◌, refl, length, get_or, take, drop, replicate}
 use Rattle.std.proofs.Math.Path.{sym}
@@ -9,28 +8,16 @@ use Rattle.std.proofs.Math.ListN.{get_or-append}
 use Rattle.definition.specs.Field.{generator_of, prime_of, spelling_of}
 use Rattle.definition.specs.Lists.{product_of, range}
 use Rattle.definition.specs.Reading.{sheet_test}
-use Rattle.definition.specs.Sheet.{Edition, Level, Sheet, degree_rule, edition1, edition2, edition_rule, field_rule, first_level, fold_places, fold_rule, fold_words, folding_number, later_fold_rule, later_levels, later_rules, out_coins_rule, repetitions_rule, rounds_rule, sheet_length, sheet_of, sheet_rules, size_rule, test_order}
+use Rattle.definition.specs.Sheet.{Edition, Sheet, degree_rule, edition1, edition2, edition_rule, field_rule, first_level, fold_places, fold_rule, fold_words, folding_number, later_fold_rule, later_levels, later_rules, out_coins_rule, repetitions_rule, rounds_rule, sheet_length, sheet_of, sheet_rules, size_rule, test_order}
 use Rattle.definition.specs.Verdict.{accepted}
 use Rattle.list_laws.specs.Lists.{get_d_map, take_map}
-use Rattle.layouts.proofs.Lawful.{Lawful, times_word}
+use Rattle.layouts.specs.LawfulSheets.{Lawful, Step, Steps}
+use Rattle.layouts.proofs.Lawful.{times_word}
 use Rattle.layouts.specs.LevelSizes
 use Rattle.layouts.specs.LevelSizes.{Chain, Sized, sized_at}
 use Rattle.layouts.specs.Levels.{degree_of, level_of, out_coin_count, rounds_of, total}
 use Rattle.layouts.proofs.LevelsByNumber.{as_listed, folded}
 use Rattle.layouts.specs.SheetRules.{eighteen, long_enough, product_powers, rounds_most, twelve}
-
--- from level b to the next level l, with s out coins: fewer points than the next degree bound; l has a number before it; the folding number is even
-pub record Step (s : ℕ) (b l : Level) : Type 0 where
-  pub few : s + b.repetitions < l.degree
-  pub before : ℕ
-  pub number : l.number ≡ suc before
-  pub half : ℕ
-  pub even : b.fold ≡ half + half
-
--- of all levels
-abbrev pub Steps : ℕ → Level → List Level → Type 0
-Steps s b [] = Unit {0}
-Steps s b (l ∷ ls) = Step s b l × Steps s l ls
 
 -- the logarithms of the first i folding numbers, together
 abbrev log_before : List ℕ → ℕ → ℕ

@@ -1,10 +1,11 @@
 -- WHAT FOLLOWS THE FOLD COIN OF LEVEL i: the kinds of the words after it, and of the coins among them: those of the next round and of what comes after it, or at
 -- level M the final coefficients and indices. It holds no lemma and no proof.
-use Rattle.std.specs.Prelude.{ℕ, suc, ◌+◌, ◌-◌, Bool, true, false, List, ◌++◌, map, replicate}
+use Rattle.std.specs.Prelude.{ℕ, suc, ◌+◌, ◌-◌, Bool, true, false, List, [], ◌∷◌, ◌++◌, map, take, drop, replicate}
 use Rattle.definition.specs.Field.{Spelling, word_count}
-use Rattle.definition.specs.Layout.{Kind, coin, coin_kinds, index, out_layout, rest_layout}
+use Rattle.definition.specs.Layout.{Kind, coin, coin_kinds, index, later_count, out_layout, rest_layout}
 use Rattle.definition.specs.Lists.{range}
 use Rattle.definition.specs.Sheet.{Level, Sheet, shift_count}
+use Rattle.layouts.specs.EachWord.{Each}
 use Rattle.layouts.specs.Levels.{level_of, out_coin_count, rounds_of}
 
 -- all kinds, or those of the coins alone
@@ -28,3 +29,11 @@ out_kinds h i = out_layout h.spelling (out_coin_count h) (level_of h (i + 1))
 
 abbrev pub later_kinds : Sheet → ℕ → List Kind
 later_kinds h i = later_layout h.spelling (level_of h i)
+
+-- the coins of the rounds after level b, each run with its kinds
+abbrev pub CoinRuns : {A : Type 0} → (Kind → A → Type 0) → Spelling → ℕ → Level → List Level → List A → Type 0
+CoinRuns R σ s b [] w = Each R (replicate b.repetitions (index (shift_count b))) w
+CoinRuns R σ s b (l ∷ ls) w =
+    Each R (out_layout σ s l) (take (word_count σ s) w)
+    × Each R (later_layout σ b) (take (later_count σ b) (drop (word_count σ s) w))
+    × CoinRuns R σ s l ls (drop (later_count σ b) (drop (word_count σ s) w))

@@ -1,9 +1,10 @@
--- SHEETS, LEVELS AND LAYOUTS: what the code needs of them, and the pages of theorems too. Levels, PlainRules and KindsAfter are vocabularies, without a lemma or a
--- proof; the others prove what holds of tests, words and single levels. What rests on the rules by word is in ../proofs.
+-- SHEETS, LEVELS AND LAYOUTS: what the code needs of them, and the pages of theorems too. Levels, PlainRules, LawfulSheets and KindsAfter are vocabularies, without a
+-- lemma or a proof; the others prove what holds of tests, words and single levels. What rests on the rules by word is in ../proofs.
 
 -- the vocabularies
 pub mod Levels
 pub mod PlainRules
+pub mod LawfulSheets
 pub mod KindsAfter
 -- tests
 pub mod Tests

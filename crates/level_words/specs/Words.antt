@@ -7,7 +7,7 @@ use Rattle.std.proofs.Math.Path.{ap}
 use mathlib.Core.List.{List, [], ◌∷◌}
 use Rattle.definition.specs.Field.{Element, Spelling, elements_in, number_in, spelling_of, word_count}
 use Rattle.layouts.specs.Spellings.{count_add, count_zero, read_from}
-use Rattle.layouts.proofs.LevelsByNumber.{Paired}
+use Rattle.layouts.specs.LawfulSheets.{Paired}
 use Rattle.list_laws.specs.Lists.{drop_take}
 use Rattle.layouts.specs.Levels.{element_at, rounds_of, words_for}
 use Rattle.definition.specs.Layout.{later_count, read_rest, round_coins}

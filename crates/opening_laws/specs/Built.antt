@@ -26,7 +26,8 @@ use Rattle.list_laws.specs.All.{All, all_append, all_flat, all_map, all_of_map}
 use Rattle.hash_laws.specs.TreeLaws.{lt_or_le}
 use Rattle.layouts.specs.EachWord.{Each, Front, each_append_at, each_join, each_map, each_none, each_same, front_at, front_false, in_range}
 use Rattle.layouts.specs.FileTrip.{filled, fill_count, file_checks, file_length, file_stream}
-use Rattle.layouts.proofs.Lawful.{Lawful, lawful}
+use Rattle.layouts.proofs.Lawful.{lawful}
+use Rattle.layouts.specs.LawfulSheets.{Lawful}
 use Rattle.layouts.proofs.LayoutFacts.{layout_all}
 use Rattle.layouts.specs.LevelSizes.{Chain, Sized, positive_sizes}
 use Rattle.layouts.specs.Passed.{Passed, passed}

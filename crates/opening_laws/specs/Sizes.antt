@@ -14,7 +14,8 @@ use Rattle.definition.specs.Reading.{sheet_test}
 use Rattle.definition.specs.Sheet.{edition1, Sheet, Level, sheet_of, first_level, later_levels}
 use Rattle.definition.specs.Verdict.{accepted}
 use Rattle.list_laws.specs.Lists.{range_length}
-use Rattle.layouts.proofs.Lawful.{Lawful, lawful, rounds_word}
+use Rattle.layouts.proofs.Lawful.{lawful, rounds_word}
+use Rattle.layouts.specs.LawfulSheets.{Lawful}
 use Rattle.layouts.specs.Levels.{level_of, rounds_of, total}
 use Rattle.layouts.proofs.LevelsByNumber.{levels_later}
 use Rattle.layouts.specs.LevelSizes.{Chain, chain_head, quotient}

@@ -12,7 +12,8 @@ use lib.Dec.{leb}
 use lib.Pow.{pow_mono, pow_pos}
 use borrow.Author.Tests.{le-leb, lt-leb}
 use Rattle.layouts.specs.KindsAfter.{chosen, words_after}
-use Rattle.layouts.proofs.Lawful.{Lawful, lawful, rounds_word, times_word}
+use Rattle.layouts.proofs.Lawful.{lawful, rounds_word, times_word}
+use Rattle.layouts.specs.LawfulSheets.{Lawful}
 use Rattle.layouts.specs.Levels.{element_at, level_of, rounds_of, sheet_field, words_for, zero_of}
 use Rattle.layouts.specs.SheetRules.{long_enough, rounds_most}
 use Rattle.layouts.specs.Spellings.{count_add, count_least, count_mono, count_zero}

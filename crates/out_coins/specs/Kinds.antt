@@ -10,7 +10,7 @@ use Rattle.layouts.proofs.CoinsAfter.{chosen_append, words_first, words_last, wo
 use Rattle.layouts.specs.KindsAfter.{chosen, words_after}
 use Rattle.layouts.proofs.LayoutFacts.{coins_final, layout_coins, outs_length, round_coins_lem}
 use Rattle.layouts.specs.Spellings.{count_zero}
-use Rattle.layouts.proofs.LevelsByNumber.{Paired}
+use Rattle.layouts.specs.LawfulSheets.{Paired}
 use Rattle.layouts.specs.Levels.{level_of, out_coin_count, rounds_of, words_for}
 use Rattle.definition.specs.Field.{Spelling, spelling_of, word_count}
 use Rattle.definition.specs.Layout.{Kind, coin, coin_kinds, index, layout, message, out, out_layout, rest_layout, round_layout}

@@ -15,7 +15,7 @@ use Rattle.definition.specs.Sheet.{Edition, Sheet, edition1, edition2, sheet_len
 use Rattle.definition.specs.Verdict.{Outcome, ◌then◌, accepted, refuse_at, refuse_if, refused}
 use Rattle.list_laws.specs.Lists.{get_d_map}
 use Rattle.layouts.specs.Levels.{level_of, rounds_of}
-use Rattle.layouts.proofs.LevelsByNumber.{Paired}
+use Rattle.layouts.specs.LawfulSheets.{Paired}
 use Rattle.layouts.specs.Tests.{then_passes}
 use Rattle.completeness.proofs.Conversion.{backward_length, forward_length}
 use Rattle.completeness.proofs.Converter.{folds_exactly}

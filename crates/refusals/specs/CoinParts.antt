@@ -18,11 +18,10 @@ use Rattle.definition.specs.Sheet.{Sheet, edition1, shift_count}
 use Rattle.list_laws.specs.Lists.{get_d_after_run, get_d_run}
 use Rattle.layouts.proofs.CoinsAfter.{kinds_all, kinds_last, kinds_next}
 use Rattle.layouts.specs.KindsAfter.{kinds_after, later_layout}
-use Rattle.layouts.proofs.Lawful.{Lawful}
+use Rattle.layouts.specs.LawfulSheets.{Lawful, Paired}
 use Rattle.layouts.proofs.LayoutByRound.{coins_due_lem}
 use Rattle.layouts.proofs.LayoutFacts.{later_length, outs_length}
 use Rattle.layouts.specs.Levels.{coin_count, coins_before, level_of, out_coin_count, rounds_of, words_for}
-use Rattle.layouts.proofs.LevelsByNumber.{Paired}
 use Rattle.layouts.specs.Spellings.{count_add, count_one}
 use Rattle.layouts.specs.WholeCoins.{IsOut}
 use Rattle.completeness.specs.EqualOuts.{at_next, out_at}

@@ -2,7 +2,8 @@
 use Rattle.std.specs.Prelude.{ℕ, ◌*◌, true, not, List, ◌≡◌, refl, eqb, ltb, length}
 use Rattle.std.proofs.Common.{arith, sym, ◌∙◌, eq-eqb, eqb-true, lt-ltb, ltb-true}
 use Rattle.definition.specs.Sheet.{Edition, sheet_length, sheet_of}
-use Rattle.layouts.proofs.Lawful.{Lawful, lawful}
+use Rattle.layouts.proofs.Lawful.{lawful}
+use Rattle.layouts.specs.LawfulSheets.{Lawful}
 use Rattle.layouts.proofs.RulesByWord.{sheet_exactly}
 use Rattle.completeness.proofs.Allowed.{sheet_enough}
 use Rattle.completeness.specs.Faults.{RuleFault}

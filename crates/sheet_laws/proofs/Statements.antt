@@ -1,6 +1,6 @@
 -- THE PAGE ON THE SHEET. It holds theorems and nothing else; each proof is one citation, or two where it goes both ways, and no proof need be read.
--- To read it: the definition (crate `definition`), and the vocabulary WordRules.antt, the rule of each sheet word in plain numbers, with PlainRules.antt of the crate
--- `layouts` and Faults.antt of the crate `completeness` beneath it. The domains have their own page, DomainStatements.antt.
+-- To read it: the definition (crate `definition`), and the vocabulary WordRules.antt, the rule of each sheet word in plain numbers, with Levels.antt and PlainRules.antt of
+-- the crate `layouts` and Numbered.antt and Faults.antt of the crate `completeness` beneath it. The domains have their own page, DomainStatements.antt.
 -- All theorems are of both editions and of the four fields, of one word and of four, and of every list of words, of any length and content.
 use Rattle.std.specs.Prelude.{ℕ, ◌%◌, ◌≤◌, ◌<◌, List, [], ◌∷◌, ◌++◌, map, ◌↔◌, ◌≡◌, length, replicate, take}
 use Rattle.definition.specs.Block.{stream_of}

@@ -10,7 +10,8 @@ use lib.ListN.{length, get_or, take}
 use lib.Pow.{pow_pos}
 use lib.Seq.{take-take}
 use Rattle.layouts.proofs.DueSizes.{words_most}
-use Rattle.layouts.proofs.Lawful.{Lawful, lawful, rounds_word, times_word}
+use Rattle.layouts.proofs.Lawful.{lawful, rounds_word, times_word}
+use Rattle.layouts.specs.LawfulSheets.{Lawful}
 use Rattle.layouts.proofs.LayoutByRound.{coins_due_lem, starts_grow, words_due_lem}
 use Rattle.layouts.specs.LevelSizes.{quotient}
 use Rattle.layouts.specs.Levels.{coin_count, coins_before, level_of, round_start, round_count, rounds_of}
