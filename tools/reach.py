@@ -1,8 +1,8 @@
 """What a line of a crate's theory, or a proof of its code, rests on, by names: it tells which wrong definition a refused line is due to.
 
-Blank lines part the declarations. A declaration rests on each one of its file, or of those that its file takes from the crate's other files, that its words name,
-or name a part of where that is an operator, and on what those rest on; declarations of one name count together, so that none is left out. A case, which is a
-field of a record of cases, rests on what its own statement names. A function rests on what its contract and its own proof name.
+Blank lines part the declarations. A declaration rests on each one of its file, or of those that its file takes from the crate's other files, that its words or the
+heads of the modules that it stands in name, or name a part of where that is an operator, and on what those rest on; declarations of one name count together, so that
+none is left out. A case, which is a field of a record of cases, rests on what its own statement names. A function rests on what its contract and its own proof name.
 """
 import re
 from collections import defaultdict
@@ -21,12 +21,13 @@ class Reach:
     """Of the files of a crate's specs/, and of its proofs/ where `all`; each by its path in the crate."""
 
     def __init__(self, crate, all=False):
-        self.texts, self.files, self.number, self.lines, self.case, self.cases = [], [], {}, {}, {}, {}
+        self.texts, self.files, self.heads, self.number, self.lines, self.case, self.cases = [], [], [], {}, {}, {}, {}
         taken = defaultdict(list)
         own = re.compile(rf"(?:pub )?use Rattle\.{crate.name}\.(specs|proofs)\.(\w+)(?:\.\{{(.*)\}})?")
         for path in [*sorted(crate.glob("specs/*.antt")), *(sorted(crate.glob("proofs/*.antt")) if all else ())]:
-            start, case, file = True, None, str(path.relative_to(crate))
+            start, case, file, modules = True, None, str(path.relative_to(crate)), []
             for line, text in enumerate(path.read_text().split("\n"), 1):
+                depth = len(text) - len(text.lstrip())
                 if not text.strip():
                     start = True
                 elif found := own.match(text):
@@ -35,6 +36,11 @@ class Reach:
                     if start:
                         self.texts.append("")
                         self.files.append(file)
+                        modules = [(indent, head) for indent, head in modules if indent < depth]
+                        self.heads.append("\n".join(head for _, head in modules))
+                    if text.lstrip().startswith("module "):
+                        modules = [(indent, head) for indent, head in modules if indent < depth] + [(depth, text)]
+                        self.heads[-1] += "\n" + text
                     start = False
                     self.texts[-1] += text + "\n"
                     self.number[file, line] = len(self.texts) - 1
@@ -58,7 +64,7 @@ class Reach:
                 words = declared[other] if names is None else set().union(*(parts(name.split(" as ")[0].strip()) for name in names.split(",")))
                 for word in words:
                     self.known[file].setdefault(word, set()).update(declared[other].get(word, set()))
-        self.named = [self.names(file, declaration) for file, declaration in zip(self.files, self.texts)]
+        self.named = [self.names(file, f"{head}\n{declaration}") for file, head, declaration in zip(self.files, self.heads, self.texts)]
 
     def names(self, file, text):
         return set().union(*(self.known[file].get(word, set()) for word in WORD.findall(text)))
