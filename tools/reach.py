@@ -9,6 +9,7 @@ from collections import defaultdict
 
 WORD = re.compile(r"[^\s(){}\[\],;.λ\"|]+")
 NAMED = re.compile(r"\s*(?:(?:pub|unfoldable|abbrev)\s+)*(?:([^\s(){}:=]+) :|(?:record|data) ([^\s(){}:=]+)) ")
+RECORD = re.compile(r"\s*(?:pub )?record ")
 CASE, PROVED = re.compile(r"  pub ([^\s:]+) : (.*)"), re.compile(r"  ([^\s:=]+) = ")
 
 
@@ -25,7 +26,7 @@ class Reach:
         taken = defaultdict(list)
         own = re.compile(rf"(?:pub )?use Rattle\.{crate.name}\.(specs|proofs)\.(\w+)(?:\.\{{(.*)\}})?")
         for path in [*sorted(crate.glob("specs/*.antt")), *(sorted(crate.glob("proofs/*.antt")) if all else ())]:
-            start, case, file, modules = True, None, str(path.relative_to(crate)), []
+            start, case, file, modules, record = True, None, str(path.relative_to(crate)), [], None
             for line, text in enumerate(path.read_text().split("\n"), 1):
                 depth = len(text) - len(text.lstrip())
                 if not text.strip():
@@ -45,7 +46,11 @@ class Reach:
                     self.texts[-1] += text + "\n"
                     self.number[file, line] = len(self.texts) - 1
                     self.lines[file, line] = text
-                    if found := CASE.match(text):
+                    if RECORD.match(text):
+                        record = depth
+                    elif record is not None and depth <= record:
+                        record = None
+                    if record is not None and (found := CASE.match(text)):
                         case = file, found[1]
                         self.cases[case] = found[2]
                     elif case and text.startswith("   "):
