@@ -117,9 +117,9 @@ slip 'an out coin tested as if its later words were 0' Field.antt 'record { a = 
 # powers, the load, and the tests of the operations that write
 slip 'an exponent modulo p - 1' Field.antt 'power_of field x exponent = in_field field (power (field_of field) (x % prime_of field) exponent)' 'power_of field x exponent = in_field field (power (field_of field) (x % prime_of field) (exponent % (prime_of field - 1)))'
 slip 'an exponent of 31 bits in field 3' Field.antt 'power3 x exponent = power field3 (reduced x) exponent' 'power3 x exponent = power field3 (reduced x) (exponent % 2 ^ 31)'
-slip 'a load from its second run' Load.antt '(drawn_inputs load_runs seed))' '(drawn_inputs load_runs (draw_input seed.next)))'
-slip 'a load of one run a thousand times' Load.antt '(drawn_inputs load_runs seed))' '(replicate load_runs (draw_input seed.value)))'
-slip 'a load without reads' Load.antt 'map (λ o. line_of (verdict_on o))' 'map (λ o. line_of (record { outcome = verdict_on o.outcome; reads = 0 }))'
+slip 'a load from its second run' Load.antt '(drawn_inputs load_runs seed))' '(drawn_inputs load_runs (draw_input seed).next))'
+slip 'a load of one run a thousand times' Load.antt '(drawn_inputs load_runs seed))' '(replicate load_runs (draw_input seed).value))'
+slip 'a load without reads' Load.antt 'map (λ o. line_of (verdict_on o))' 'map (λ o. line_of (record { outcome = (verdict_on o).outcome; reads = 0 }))'
 slip 'back to edition 1 without a look at k_5' Convert.antt '(map (λ k. not (eqb k (get_or h.folds 0 0))) h.folds))' '(map (λ k. not (eqb k (get_or h.folds 0 0))) (take 5 h.folds)))'
 
 exit $missed
