@@ -26,7 +26,7 @@ class Reach:
         taken = defaultdict(list)
         own = re.compile(rf"(?:pub )?use Rattle\.{crate.name}\.(specs|proofs)\.(\w+)(?:\.\{{(.*)\}})?")
         for path in [*sorted(crate.glob("specs/*.antt")), *(sorted(crate.glob("proofs/*.antt")) if all else ())]:
-            start, case, file, modules, record = True, None, str(path.relative_to(crate)), [], None
+            start, case, file, modules, head, record = True, None, str(path.relative_to(crate)), [], False, None
             for line, text in enumerate(path.read_text().split("\n"), 1):
                 depth = len(text) - len(text.lstrip())
                 if not text.strip():
@@ -37,11 +37,14 @@ class Reach:
                     if start:
                         self.texts.append("")
                         self.files.append(file)
-                        modules = [(indent, head) for indent, head in modules if indent < depth]
-                        self.heads.append("\n".join(head for _, head in modules))
+                        modules = [(indent, above) for indent, above in modules if indent < depth]
+                        self.heads.append("\n".join(above for _, above in modules))
                     if text.lstrip().startswith("module "):
-                        modules = [(indent, head) for indent, head in modules if indent < depth] + [(depth, text)]
+                        modules, head = [(indent, above) for indent, above in modules if indent < depth] + [(depth, "")], True
+                    if head:
+                        modules[-1] = modules[-1][0], modules[-1][1] + text + "\n"
                         self.heads[-1] += "\n" + text
+                        head = not text.rstrip().endswith(" where")
                     start = False
                     self.texts[-1] += text + "\n"
                     self.number[file, line] = len(self.texts) - 1

@@ -3,8 +3,8 @@
 At a fact: a goal of the code is not proved, two types, sides or values differ, `omega` has numbers at which a goal fails, `search`, `grind` or `cc` finds no proof, `rw` finds
 nothing to rewrite, or it or `simp` leaves something open. Of shape is whatever else the prover says of a text that it cannot read or that does not fit: no expression
 where one is expected, a name that is not in scope, a tuple or a part of one where the type has none. So is an equation where an order is wanted, or an order for an
-equation. Neither is an error that only says that something else was not admitted or was rejected, which passes another one on, nor one of a name that a proof has of the code as it
-was, since Rattle makes such names from the code's text, so that `x < 3` and `x < 4` have others: it shows nothing of a wrong answer.
+equation. Neither is an error that only says that something else was not admitted or was rejected, which passes another one on, nor one of a name that a proof has of
+the code as it was, since Rattle makes such names from the code's text, so that `x < 3` and `x < 4` have others: it shows nothing of a wrong answer.
 
 Refusals reads the whole of what a check said; Told reads what rt ci and rt must-fail say of each edit: one line, with the first of these alone.
 """
@@ -99,6 +99,8 @@ class Told:
             self.fault = f"rt says {said[:120]}"
         elif "only because a proof file names" in said:
             self.fault = "it is refused for a name alone that a proof file has"
+        elif "which was rejected" in said or "was not admitted" in said:
+            self.fault = "rt says of it only that something rests on what was refused elsewhere"
         elif at := PLACE.match(said):
             self.place = Error(below(at[1]), int(at[2]), "", "fact")
         self.by_limit = "only by a limit" in said
