@@ -2,7 +2,7 @@
 -- To read it: the definition (crate `definition`), and the vocabulary TakenApart.antt, the definition's text beside the definition, in which the inverse's answer is
 -- taken apart wherever one is asked for. What stands in a file and in a run, by number, and `divisors` are of Faults.antt and Numbered.antt (crate `completeness`);
 -- Differ and Apart, elements whose difference is not 0 and a list of which any two differ so, of Different.antt (crate `algebra`). All theorems are of both editions and
--- of the four fields, in either spelling. With the inverse as it was it goes on, on the page AsItWas.antt.
+-- of the four fields, in either spelling. What holds with the inverse as it was stands on the page AsItWas.antt.
 use Rattle.std.specs.Prelude.{ℕ, suc, ◌≤◌, ◌<◌, List, ◌∷◌, map, ◌↔◌, ◌≡◌, length, get_or}
 use Rattle.std.proofs.Math.Option.{none, some}
 use Rattle.definition.specs.Block.{file_of, stream_of}

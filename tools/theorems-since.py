@@ -1,7 +1,7 @@
 #!/usr/bin/env python3
 """The theorems that stood in specs/ at a commit and stand in proofs/ today, whole, by crate and file; and what is not as it was.
 
-usage: tools/moved-theorems.py COMMIT CRATE..
+usage: tools/theorems-since.py COMMIT CRATE..
 
 A public theorem is printed with its statement, below the heads of the modules whose parameters hold for it; of a private one the name. It fails where a declaration
 of the commit is gone, or is private that was public, and tells on the other output each whose words differ (of a theorem its statement, of a definition its clauses
