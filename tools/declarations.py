@@ -10,7 +10,7 @@ MARKS = re.compile(r"(?:(?:pub|abbrev|unfoldable|axiom)\s+)*")
 SIGNATURE = re.compile(r"((?:(?:pub|abbrev|unfoldable|axiom)\s+)*)([^\s(){}:=;,\"]+)(?:\s+\{[^}:]*\})? :(?:\s|$)")
 TYPE = re.compile(r"((?:(?:pub|abbrev|unfoldable)\s+)*)(?:record|data) ([^\s(){}:=;,\"]+)")
 OTHER = re.compile(r"(?:use|open|infix|infixl|infixr|ruleset|mutual|pub mod|pub use)(?:\s|$)")
-RATTLE = re.compile(r"(?:pub )?(?:extern \"C\" )?(fn|struct|enum|const|type|mod|impl)\b(?:<[^>]*>)? ?(\w+)?")
+RATTLE = re.compile(r"(?:pub )?(?:extern \"C\" )?(fn|struct|enum|const|type|mod|impl|trait)\b(?:<[^>]*>)? ?(\w+)?")
 WORD = re.compile(r"[^\s(){}\[\],;.λ\"|]+")
 
 
@@ -94,11 +94,11 @@ def of_rattle(lines):
             at += 1
             continue
         end = at + 1
-        if item[1] in ("mod", "impl") and text.endswith("{"):
+        if item[1] in ("mod", "impl", "trait") and text.endswith("{"):
             at = end
             continue
         if item[1] == "fn":
-            while end < len(lines) and lines[end - 1].strip() and not lines[end].startswith(" " * indent(lines[at]) + "{") and not lines[end - 1].endswith("{"):
+            while end < len(lines) and lines[end - 1].strip() and not lines[end].startswith(" " * indent(lines[at]) + "{") and not lines[end - 1].endswith(("{", ";")):
                 end += 1
             head, body = lines[at:end], end
             if head[-1].endswith("{"):
@@ -109,6 +109,8 @@ def of_rattle(lines):
                 body += 1
             while not head[-1].strip():
                 head = head[:-1]
+            # a method that a trait declares ends with its contract
+            head = head[:-1] + [head[-1].rstrip().removesuffix(";")]
             found.append(Declaration(item[2], "function", "", head, [], (), at + 1, body))
             at = body
         else:

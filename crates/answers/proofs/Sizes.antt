@@ -1,11 +1,11 @@
 -- How many places are needed, in either spelling. Assumes nothing.
-use Prim.Native.Nat.{ℕ, ◌*◌, ◌/◌, ◌≤◌}
+use Prim.Native.Nat.{ℕ, ◌*◌, ◌≤◌}
 use native.Mathlib.Nat.{mul-le-mul}
 use native.Mathlib.Omega.{arith}
 use mathlib.Core.Path.{◌≡◌}
 use mathlib.Core.List.{List}
 use lib.ListN.{length}
-use Rattle.definition.specs.Field.{Spelling, elements_in, four, one, quads, spelling_of, word_count}
+use Rattle.definition.specs.Field.{Spelling, elements_in, four, one, spelling_of, word_count}
 use Rattle.list_laws.specs.Zeros.{zeros, length_zeros}
 use Rattle.spelling.specs.ByField.{elements_at, words_at}
 use Rattle.spelling.specs.Words.{quads_length}

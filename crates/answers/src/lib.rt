@@ -11,9 +11,7 @@ ghost use Rattle.rounds.specs.RoundLaws.{Answered, Compared};
 ghost use Rattle.samples.specs.Samples.{kept, Room};
 
 use fractions::Oracle;
-use outcome::Found;
 use quartic::Four;
-use samples::Gathered;
 
 // Places for a small round.
 const FEW: usize = 64;
@@ -39,7 +37,7 @@ pub fn gather_round(
     replies: &[u32],
     px: &mut [u32],
     py: &mut [u32],
-) -> Gathered
+) -> Option<usize>
     requires ac_len { (length ac.now ≡ words_at field 66) × ((length vg.now ≡ words_at field 132) × (Clear field pw.now (length (elements_at field table.now)) vg.now oracle)) }
     requires fits { Fits (length pw.now) (length (elements_at field table.now)) oracle k }
     requires below { (Below oracle.step shifts.now) × (length shifts.now ≤ 48) }
@@ -124,7 +122,7 @@ pub fn compare_finals(
     r: Four,
     coefficients: &[u32],
     finals: &[u32],
-) -> Found
+) -> Option<usize>
     requires ac_len { (length ac.now ≡ words_at field 66) × ((length vg.now ≡ words_at field 132) × (Clear field pw.now (length (elements_at field table.now)) vg.now oracle)) }
     requires fits { Fits (length pw.now) (length (elements_at field table.now)) oracle k }
     requires below { (Below oracle.step finals.now) × (length finals.now ≤ 48) }

@@ -25,7 +25,7 @@ fn table(w: &[u32], f: &[u32], out: &mut [u32])
     let mut padded = [0u32; COEFFICIENTS];
     let count = f.len();
     let degree = widths::words(w[0], w[2] as usize);
-    honest_words::copy(f, &mut padded[..count]);
+    padded[..count].copy_from_slice(f);
     first_table::of_polynomial(w, &padded[..degree], out);
 }
 
@@ -37,13 +37,11 @@ fn tables(w: &[u32], bounds: &[u32], f: &[u32], out: &mut [u32])
 {
     let size = widths::words(w[0], w[1] as usize);
     let mut at = 0;
-    let mut m = 0;
-    while m < bounds.len() {
-        let count = widths::words(w[0], bounds[m] as usize);
+    for (m, bound) in bounds.iter().enumerate() {
+        let count = widths::words(w[0], *bound as usize);
         let from = size * m;
         table(w, &f[at..at + count], &mut out[from..from + size]);
         at += count;
-        m += 1;
     }
 }
 
@@ -53,7 +51,7 @@ fn numbers(bounds: &[u32], out: &mut [u32])
     ensures { out.new ≡ length bounds.now ∷ bounds.now }
 {
     out[0] = bounds.len() as u32;
-    honest_words::copy(bounds, &mut out[1..]);
+    out[1..].copy_from_slice(bounds);
 }
 
 // The tables, and the words of r, the first coin.
@@ -65,7 +63,7 @@ fn tables_and_coin(w: &[u32], bounds: &[u32], f: &[u32], coins: &[u32], out: &mu
     let width = widths::words(w[0], 1);
     let n = widths::words(w[0], w[1] as usize) * bounds.len();
     tables(w, bounds, f, &mut out[..n]);
-    honest_words::copy(&coins[..width], &mut out[n..]);
+    out[n..].copy_from_slice(&coins[..width]);
 }
 
 // The words after the sheet.
@@ -86,6 +84,6 @@ pub fn front(w: &[u32], bounds: &[u32], f: &[u32], coins: &[u32], out: &mut [u32
     ensures { out.new ≡ w.now ++ ((length bounds.now ∷ bounds.now) ++ (tables_of (sheet_of edition1 w.now) bounds.now (elements_in (sheet_of edition1 w.now).spelling f.now) ++ take (words_for (sheet_of edition1 w.now) 1) coins.now)) }
 {
     let n = w.len();
-    honest_words::copy(w, &mut out[..n]);
+    out[..n].copy_from_slice(w);
     after_sheet(w, bounds, f, coins, &mut out[n..]);
 }

@@ -17,11 +17,10 @@ use Rattle.layouts.specs.Levels.{words_for}
 use Rattle.batches.proofs.ProverTests.{coins_long}
 use Rattle.batch_sheet.specs.Rules.{refusal_of}
 use Rattle.input_tests.specs.OneByOne.{agree, clear, differ, enough, found, short}
-use Rattle.outcome.specs.declared.Found.{Found}
-use Rattle.outcome.specs.declared.Found.TheVariants.{At, Nothing}
+use Rattle.std.specs.Prelude.{Some, None}
 use Rattle.outcome.specs.declared.Outcome.{Outcome as Answered}
 use Rattle.outcome.specs.declared.Outcome.TheVariants.{Accepted, Refused}
-use Rattle.outcome.specs.Meaning.{outcome_of, place_of}
+use Rattle.outcome.specs.Meaning.{Found, outcome_of, place_of}
 
 -- a test that passes, and the tests after it
 past : {test o next : Outcome} → test ≡ accepted → o ≡ next → o ≡ (test then next)
@@ -50,7 +49,7 @@ module _ (w bounds f coins output : List ℕ) where
   abbrev tests : Outcome
   tests = batch_input_tests (sheet_of edition1 w) bounds f coins output
 
-  pub rule_broken : {r : Found} {place : ℕ} → place_of r ≡ first_true 0 (map not (batch_rules (sheet_of edition1 w) (length bounds) bounds)) → r ≡ At place → refused 15 place ≡ tests
+  pub rule_broken : {r : Found} {place : ℕ} → place_of r ≡ first_true 0 (map not (batch_rules (sheet_of edition1 w) (length bounds) bounds)) → r ≡ Some place → refused 15 place ≡ tests
   unfolding batch_input_tests
   rule_broken {r} e q = found 15 _ (refusal_of h N bounds (place_of r) e) q
 
@@ -78,10 +77,10 @@ module _ (w bounds f coins output : List ℕ) where
           unfolding batch_range_test
           ranged = ap (refuse_at 5) (searched N) ∙ ap (λ (n : ℕ). refuse_at 5 (first_true 0 (zip_with (out_of_range h) (replicate n message ++ ks) (f ++ coins)))) right
 
-          pub out_of_range_lem : {place : ℕ} → range ≡ At place → refused 5 place ≡ tests
+          pub out_of_range_lem : {place : ℕ} → range ≡ Some place → refused 5 place ≡ tests
           out_of_range_lem q = from_range (found 5 {r = range} _ ranged q)
 
-          module _ (in_range : range ≡ Nothing) (outs : Answered) (tested : (count : ℕ) → outcome_of outs ≡ batch_out_tests (sheet_of edition1 w) (coin_kinds (batch_layout (sheet_of edition1 w) count)) coins) where
+          module _ (in_range : range ≡ None) (outs : Answered) (tested : (count : ℕ) → outcome_of outs ≡ batch_out_tests (sheet_of edition1 w) (coin_kinds (batch_layout (sheet_of edition1 w) count)) coins) where
             pub out_coins_refused : {number place : ℕ} → outs ≡ Refused number place → refused number place ≡ tests
             out_coins_refused q = from_range (clear 5 {r = range} ranged in_range (refuses outs _ (tested N) q))
 

@@ -15,7 +15,7 @@ ghost use Rattle.batch_definition.specs.Batch.{batch_input_tests, batch_layout, 
 ghost use Rattle.outcome.specs.Meaning.{outcome_of, place_of};
 
 use edition::Edition;
-use outcome::{Found, Outcome};
+use outcome::Outcome;
 
 // The number of words of a batch's stream.
 pub fn words_due(w: &[u32], bounds: &[u32]) -> usize
@@ -27,38 +27,38 @@ pub fn words_due(w: &[u32], bounds: &[u32]) -> usize
 }
 
 // The first coin word out of range: those of r, then those of the coins after it.
-fn coin_out_of_range(w: &[u32], coins: &[u32]) -> Found
+fn coin_out_of_range(w: &[u32], coins: &[u32]) -> Option<usize>
     requires edition1_in_bounds { (sheet_length edition1 ≤ length w.now) × (sheet_test edition1 w.now ≡ accepted) }
     requires coins_len { length coins.now ≡ length (coin_kinds (layout (sheet_of edition1 w.now))) + words_for (sheet_of edition1 w.now) 1 }
     ensures { (count : ℕ) → place_of result ≡ first_true 0 (zip_with (out_of_range (sheet_of edition1 w.now)) (coin_kinds (batch_layout (sheet_of edition1 w.now) count)) coins.now) }
 {
     let width = widths::words(w[0], 1);
     let combination = ranges::coefficient_out_of_range(w[0], &coins[..width]);
-    if let Found::At(place) = combination {
-        return Found::At(place);
+    if let Some(place) = combination {
+        return Some(place);
     }
     let coin = ranges::coin_out_of_range(Edition::One, w, &coins[width..]);
-    if let Found::At(place) = coin {
-        return Found::At(width + place);
+    if let Some(place) = coin {
+        return Some(width + place);
     }
-    Found::Nothing
+    None
 }
 
 // Refusal 5: the first word out of range, by its position in the coefficients followed by the coins.
-fn input_out_of_range(w: &[u32], f: &[u32], coins: &[u32]) -> Found
+fn input_out_of_range(w: &[u32], f: &[u32], coins: &[u32]) -> Option<usize>
     requires edition1_in_bounds { (sheet_length edition1 ≤ length w.now) × ((sheet_test edition1 w.now ≡ accepted) × (length f.now ≤ 4096)) }
     requires coins_len { length coins.now ≡ length (coin_kinds (layout (sheet_of edition1 w.now))) + words_for (sheet_of edition1 w.now) 1 }
     ensures { (count : ℕ) → place_of result ≡ first_true 0 (zip_with (out_of_range (sheet_of edition1 w.now)) (replicate (length f.now) message ++ coin_kinds (batch_layout (sheet_of edition1 w.now) count)) (f.now ++ coins.now)) }
 {
     let coefficient = ranges::coefficient_out_of_range(w[0], f);
-    if let Found::At(place) = coefficient {
-        return Found::At(place);
+    if let Some(place) = coefficient {
+        return Some(place);
     }
     let coin = coin_out_of_range(w, coins);
-    if let Found::At(place) = coin {
-        return Found::At(f.len() + place);
+    if let Some(place) = coin {
+        return Some(f.len() + place);
     }
-    Found::Nothing
+    None
 }
 
 // Refusals 7 and 14: those of the coins after r, by their positions among all coins.
@@ -88,7 +88,7 @@ fn after_rules(w: &[u32], bounds: &[u32], f: &[u32], coins: &[u32], room: usize)
         return Outcome::Refused(10, 2);
     }
     let range = input_out_of_range(w, f, coins);
-    if let Found::At(place) = range {
+    if let Some(place) = range {
         return Outcome::Refused(5, place);
     }
     let outs = out_tests(w, coins);
@@ -108,7 +108,7 @@ fn after_sheet(w: &[u32], bounds: &[u32], f: &[u32], coins: &[u32], room: usize)
     ensures { (output : List ℕ) → length output ≡ room → outcome_of result ≡ batch_input_tests (sheet_of edition1 w.now) bounds.now f.now coins.now output }
 {
     let broken = batch_sheet::broken(w, bounds.len(), bounds);
-    if let Found::At(place) = broken {
+    if let Some(place) = broken {
         return Outcome::Refused(15, place);
     }
     after_rules(w, bounds, f, coins, room)

@@ -20,11 +20,10 @@ use Rattle.definition.specs.Sheet.{Sheet, edition1, sheet_of}
 use Rattle.definition.specs.Verdict.{accepted, refused}
 use Rattle.list_laws.specs.LentParts.{begun, begun_long}
 use Rattle.outcome.specs.Answers.{at_place, nowhere}
-use Rattle.outcome.specs.declared.Found.{Found}
-use Rattle.outcome.specs.declared.Found.TheVariants.{At, Nothing}
+use Rattle.std.specs.Prelude.{Some, None}
 use Rattle.outcome.specs.declared.Outcome.{Outcome as Answered}
 use Rattle.outcome.specs.declared.Outcome.TheVariants.{Refused}
-use Rattle.outcome.specs.Meaning.{outcome_of, place_of}
+use Rattle.outcome.specs.Meaning.{Found, outcome_of, place_of}
 use Rattle.batch_reading.specs.Stages.{BodyRead, Ruled}
 use Rattle.batch_reading.proofs.Values.{few_tables}
 
@@ -90,7 +89,7 @@ module _ (w : List ℕ) (ok : Ruled w) where
 
   -- a word of the tables or of r out of range
   pub body_refused : {from to place : ℕ} {found : Found} {left : List ℕ} → from ≡ 13 + get_or w 12 0 → to ≡ fold_number (sheet_of edition1 w) (get_or w 12 0) →
-      place_of found ≡ first_true from (map (leb (prime_of (get_or w 0 0))) (take (to - from) (drop from w))) → found ≡ At place → BodyRead w (Refused 5 place) left
+      place_of found ≡ first_true from (map (leb (prime_of (get_or w 0 0))) (take (to - from) (drop from w))) → found ≡ Some place → BodyRead w (Refused 5 place) left
   unfolding outcome_of
   body_refused {from} {to} {place} {found} {left} ef et e there = record { outcome = is; stream = λ z. absurd (never (is ∙ z)) }
     where
@@ -106,7 +105,7 @@ module _ (w : List ℕ) (ok : Ruled w) where
 
   -- else the outcome is the plain stream's
   pub body_told : {from to shift : ℕ} {found : Found} {left : List ℕ} {r : Answered} → from ≡ 13 + get_or w 12 0 → to ≡ fold_number (sheet_of edition1 w) (get_or w 12 0) → shift ≡ higher_by (sheet_of edition1 w) (get_or w 12 0) →
-      place_of found ≡ first_true from (map (leb (prime_of (get_or w 0 0))) (take (to - from) (drop from w))) → found ≡ Nothing → drop shift left ≡ plain_words w → outcome_of r ≡ higher shift (plain_body (drop shift left)) → BodyRead w r left
+      place_of found ≡ first_true from (map (leb (prime_of (get_or w 0 0))) (take (to - from) (drop from w))) → found ≡ None → drop shift left ≡ plain_words w → outcome_of r ≡ higher shift (plain_body (drop shift left)) → BodyRead w r left
   body_told {from} {to} {shift} {found} {left} {r} ef et es e none₁ el told = record {
     outcome = told ∙ (λ i. higher (es i) (plain_body (el i))) ∙ sym (body_higher w ok.sheet one ok.full (nowhere e none₁ ∙ tables_tested ef et));
     stream = λ z. ap (λ (k : ℕ). drop k left) (sym es) ∙ el;

@@ -16,7 +16,7 @@ ghost use Rattle.reading.specs.Stages.{Loads};
 ghost use Rattle.batch_reading.specs.Stages.{BodyRead, ReadBatch, Ruled, StreamRead, number_tests};
 
 use edition::Edition;
-use outcome::{Found, Outcome};
+use outcome::Outcome;
 
 // Refusals 3, 15 and 4, of words of which the first block is there.
 fn numbers(w: &[u32], blocks: usize) -> Outcome
@@ -24,12 +24,12 @@ fn numbers(w: &[u32], blocks: usize) -> Outcome
     ensures { outcome_of result ≡ number_tests blocks w.now }
 {
     let broken = sheet::broken(Edition::One, w);
-    if let Found::At(place) = broken {
+    if let Some(place) = broken {
         return Outcome::Refused(3, place);
     }
     let count = w[12] as usize;
     let ruled = batch_sheet::broken(w, count, &w[13..]);
-    if let Found::At(place) = ruled {
+    if let Some(place) = ruled {
         return Outcome::Refused(15, place);
     }
     let due = sizes::words_due(Edition::One, w) + batch_sheet::shift(w, count);
@@ -41,15 +41,15 @@ fn numbers(w: &[u32], blocks: usize) -> Outcome
 }
 
 // The first of the words from one number to another that is not below p, by its number.
-fn element_out_of_range(w: &[u32], from: usize, to: usize) -> Found
+fn element_out_of_range(w: &[u32], from: usize, to: usize) -> Option<usize>
     requires { (1 ≤ length w.now) × ((from ≤ to) × (to ≤ length w.now)) }
     ensures { place_of result ≡ first_true from (map (leb (prime_of (get_or w.now 0 0))) (take (to - from) (drop from w.now))) }
 {
     let found = ranges::coefficient_out_of_range(w[0], &w[from..to]);
-    if let Found::At(place) = found {
-        return Found::At(place + from);
+    if let Some(place) = found {
+        return Some(place + from);
     }
-    Found::Nothing
+    None
 }
 
 // The first function's values at the points of domain 0, in words.
@@ -129,7 +129,7 @@ fn body(w: &mut [u32]) -> Outcome
     let shift = batch_sheet::shift(w, count);
     let at = shift + 12 + widths::words(w[0], w[1] as usize);
     let tables = element_out_of_range(w, 13 + count, at);
-    if let Found::At(place) = tables {
+    if let Some(place) = tables {
         return Outcome::Refused(5, place);
     }
     to_plain(w, shift, at);
@@ -160,7 +160,7 @@ pub fn read(file: &[u8], words: &mut [u32]) -> Outcome
         return Outcome::Refused(1, 0);
     }
     let check = stream::load(file, 99, words);
-    if let Found::At(place) = check {
+    if let Some(place) = check {
         return Outcome::Refused(2, place);
     }
     after_checks(words, file.len() / 512)

@@ -11,8 +11,6 @@ ghost use Rattle.batch_definition.specs.Batch.{batch_rules, batch_test, most_ent
 ghost use Rattle.batches.specs.Batched.{higher_by};
 ghost use Rattle.outcome.specs.Meaning.{place_of};
 
-use outcome::Found;
-
 // Is x one of 1, 2, .., most?
 fn from_one(most: usize, x: usize) -> bool
     ensures { result ≡ between 1 most x }
@@ -45,22 +43,20 @@ fn number_rule(w: &[u32], count: usize) -> bool
 }
 
 // The first rule of refusal 15 that is broken: the number of tables at place 0, then bound m at place m, m from 1. Bounds past the number are not looked at.
-pub fn broken(w: &[u32], count: usize, bounds: &[u32]) -> Found
+pub fn broken(w: &[u32], count: usize, bounds: &[u32]) -> Option<usize>
     requires { (12 ≤ length w.now) × (min count 8 ≤ length bounds.now) }
     ensures { place_of result ≡ first_true 0 (map not (batch_rules (sheet_of edition1 w.now) count bounds.now)) }
 {
     if !number_rule(w, count) {
-        return Found::At(0);
+        return Some(0);
     }
     let most = w[2] as usize;
-    let mut m = 0;
-    while m < count {
+    for m in 0..count {
         if !from_one(most, bounds[m] as usize) {
-            return Found::At(m + 1);
+            return Some(m + 1);
         }
-        m += 1;
     }
-    Found::Nothing
+    None
 }
 
 // By how much word numbers are higher in a batch than in a plain stream, from fold coin 0 on: the number of tables, the bounds, the other tables and r.
@@ -79,10 +75,8 @@ pub fn sum(bounds: &[u32]) -> usize
     ensures { (result ≡ sum_of bounds.now) × (result ≤ 4294967295 * length bounds.now) }
 {
     let mut sum = 0;
-    let mut m = 0;
-    while m < bounds.len() {
-        sum += bounds[m] as usize;
-        m += 1;
+    for bound in bounds {
+        sum += *bound as usize;
     }
     sum
 }

@@ -4,18 +4,16 @@ use native.Mathlib.Nat.{pow-suc, zero-mod, add-mod-mod, mod-mod, mod-eq_of_lt}
 use native.Mathlib.Nat as N
 use native.Mathlib.Omega.{arith}
 use mathlib.Core.Path.{◌≡◌, refl, sym, ap, ap₂, ◌∙◌, subst}
-use mathlib.Core.List.{List, [], ◌∷◌, map}
+use mathlib.Core.List.{List, map}
 use mathlib.Core.Option.{Option}
-use lib.ListN.{length, take, drop, get_or, set, replicate, length-replicate}
+use lib.ListN.{length, take, get_or, set, replicate, length-replicate}
 use lib.Seq.{length-take-le}
 use Rattle.definition.specs.Field.{Field, prime_field, prime_of, field_of, power}
 use Rattle.definition.specs.Lists.{range}
-use Rattle.list_laws.specs.Filled.{Filled}
 use Rattle.list_laws.specs.Lists.{by_number, take_replicate}
 use Rattle.list_laws.specs.Zeros.{zeros, length_zeros}
 use Rattle.definition.specs.Polynomial.{evaluate}
 use Rattle.algebra.specs.Laws.{FieldLaws}
-use Rattle.algebra.specs.ModularArithmetic.{mod_mul, mul_mod}
 use Rattle.algebra.specs.PrimeField.{laws, opposite_signs}
 use Rattle.algebra.specs.Different.{Differ, Apart, apart_range}
 use Rattle.algebra.specs.RootsOfUnity.{minus_one, half, nontrivial, powers_differ, power_mul, power_one}
@@ -27,8 +25,7 @@ use Rattle.decoding.specs.Transform.{transformed_is}
 use Rattle.decoding.specs.Start.{unity, constant, constant_value, unity_meets, start_stage, length_unity, top_unity}
 use Rattle.decoder.specs.Steps.{Reducible, Decodes}
 use Rattle.domain.specs.Powers.{Powers}
-use Rattle.tables.specs.Halving.{Halves}
-use Rattle.candidate.specs.Tables.{Through, Sized, Places, Candidate}
+use Rattle.candidate.specs.Tables.{Through, Sized, Candidate}
 
 -- n as an element of a prime field
 multiple_is : (p n : ℕ) → multiple (prime_field p) n ≡ n % p
@@ -104,26 +101,13 @@ module _ (field : ℕ) where
   -- ---- the lists that the code makes
 
   -- X^n - 1
-  pub made_s : (n : ℕ) (old s : List ℕ) {i r : ℕ} → 0 < n → length old ≡ n + 1 → Filled (λ k. 0) old s i → n ≤ i → i ≤ n → r ≡ F.◌⊖◌ 0 1 → set (set s 0 r) n 1 ≡ unity F (n - 1)
+  pub made_s : (n m : ℕ) {s : List ℕ} {r : ℕ} → 0 < n → m ≡ n + 1 → s ≡ replicate m 0 → r ≡ F.◌⊖◌ 0 1 → set (set s 0 r) n 1 ≡ unity F (n - 1)
   unfolding field_of prime_field
-  made_s n old s {i} {r} h e f hi ih er =
-      let q : length s ≡ n + 1 = f.same ∙ e in
-      let y : suc (n - 1) ≡ n = omega arith in
-      ap (λ (x : ℕ). set (set s 0 x) n 1) er
-      ∙ go n s q h (λ k l. f.passed k (omega arith))
-      ∙ ap (λ (m : ℕ). (F.◌⊖◌ 0 1) ∷ set (replicate m 0) (n - 1) 1) (sym y)
-    where
-      zeroed : (m : ℕ) (l : List ℕ) → length l ≡ suc m → ((k : ℕ) → k < m → get_or l k 0 ≡ 0) → set l m 1 ≡ set (replicate (suc m) 0) m 1
-      zeroed m [] e z = absurd (omega arith)
-      zeroed zero (x ∷ []) e z = refl
-      zeroed zero (x ∷ y ∷ l) e z = absurd (omega arith)
-      zeroed (suc m) (x ∷ l) e z = ap₂ (λ (a : ℕ) (b : List ℕ). a ∷ b) (z 0 (omega arith)) (zeroed m l (omega arith) (λ k u. z (suc k) (omega arith)))
-
-      go : (n : ℕ) (s : List ℕ) → length s ≡ n + 1 → 0 < n → ((k : ℕ) → k < n → get_or s k 0 ≡ 0) → set (set s 0 (F.◌⊖◌ 0 1)) n 1 ≡ (F.◌⊖◌ 0 1) ∷ set (replicate n 0) (n - 1) 1
-      go zero s e h z = absurd (omega arith)
-      go (suc m) [] e h z = absurd (omega arith)
-      go (suc m) (x ∷ l) e h z = let y : suc m - 1 ≡ m = omega arith in
-          ap (λ (r : List ℕ). (F.◌⊖◌ 0 1) ∷ r) (zeroed m l (omega arith) (λ k u. z (suc k) (omega arith)) ∙ ap (λ (j : ℕ). set (replicate (suc m) 0) j 1) (sym y))
+  made_s zero m {s} {r} h e es er = absurd (omega arith)
+  made_s (suc k) m {s} {r} h e es er =
+      let two : m ≡ suc (suc k) = omega arith in
+      let y : suc k - 1 ≡ k = omega arith in
+      ap₂ (λ (l : List ℕ) (x : ℕ). set (set l 0 x) (suc k) 1) (es ∙ ap (λ (j : ℕ). replicate j 0) two) er ∙ ap (unity F) (sym y)
 
   pub made_v : (u n : ℕ) (v : List ℕ) {r : ℕ} → v ≡ replicate (u + 1) 0 → r ≡ n % prime_of field → set v 0 r ≡ constant F (n % prime_of field) u
   unfolding field_of prime_field

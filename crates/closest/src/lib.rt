@@ -25,10 +25,9 @@ fn differ(field: u32, xs: &[u32], ys: &[u32]) -> usize
     requires { length (elements_at field xs.now) ≡ length (elements_at field ys.now) }
     ensures { result ≡ length (unlike_at field xs.now ys.now) }
 {
+    let n = elements::count(field, xs);
     let mut count: usize = 0;
-    let mut i = elements::count(field, xs);
-    while 0 < i {
-        i -= 1;
+    for i in (0..n).rev() {
         if !alike(field, xs, ys, i) {
             count += 1;
         }
@@ -44,13 +43,11 @@ fn numbers(field: u32, xs: &[u32], ys: &[u32], out: &mut [u32])
 {
     let n = elements::count(field, xs);
     let mut place: usize = 0;
-    let mut i = 0;
-    while i < n {
+    for i in 0..n {
         if !alike(field, xs, ys, i) {
             out[place] = i as u32;
             place += 1;
         }
-        i += 1;
     }
 }
 
@@ -69,7 +66,7 @@ fn report(
     ensures output_after { output.new ≡ (f.now ++ (count ∷ unlike_at field values.now table.now)) ++ drop (length f.now + 1 + count) output.old }
 {
     let d = f.len();
-    honest_words::copy(f, &mut output[..d]);
+    output[..d].copy_from_slice(f);
     output[d] = count as u32;
     numbers(field, values, table, &mut output[d + 1..]);
     d + 1 + count
@@ -97,7 +94,8 @@ fn conclude_in(
     Answer::Done(report(field, f, values, table, count, output))
 }
 
-// The same with places for the table of f. A small one is spared the clearing of many places.
+// The same with places for the table of f. A small one is spared the clearing of many places. Two calls in a row are plainer than a function generic in the
+// number of places, which would say this whole contract once more.
 pub fn conclude(field: u32, pw: &[u32], table: &[u32], f: &[u32], output: &mut [u32]) -> Answer
     requires halves { (Halves (length (elements_at field f.now)) (length pw.now)) × (length f.now ≡ words_at field (length (elements_at field f.now))) }
     requires table_len { (length table.now ≡ words_at field (length pw.now)) × (words_at field (length pw.now) ≤ 4096) }

@@ -6,7 +6,7 @@ use native.Mathlib.Omega.{arith}
 use mathlib.Core.Path.{◌≡◌, sym, ap, ◌∙◌, subst}
 use mathlib.Core.List.{List, ◌++◌}
 use lib.ListN.{length, get_or, set, take, drop, get_or-eq_default}
-use Rattle.definition.specs.Field.{Field, Quad, Spelling, one, four, embed, elements_in, field_in, field_of, power, prime_field, prime_of, quads, quartic, spelling_of}
+use Rattle.definition.specs.Field.{Quad, Spelling, one, four, embed, elements_in, field_in, field_of, power, prime_field, prime_of, quads, quartic, spelling_of}
 use Rattle.definition.specs.Polynomial.{evaluate, geometric}
 use Rattle.algebra.specs.PrimeField.{laws}
 use Rattle.algebra.specs.Quartic.{quad_path}

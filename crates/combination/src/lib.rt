@@ -12,7 +12,7 @@ ghost use Rattle.elements.specs.Meaning.{value_at};
 ghost use Rattle.combination.specs.Added.{AddedAt, entry_at, product_at, factored_at, multiplied_at};
 ghost use Rattle.combination.specs.Asked.{Bounded, Parted, Tabled, TablesFit};
 
-use quartic::Four;
+use quartic::{Four, FourWords};
 
 // The power x^e.
 fn power(field: u32, x: Four, e: usize) -> Four
@@ -20,7 +20,7 @@ fn power(field: u32, x: Four, e: usize) -> Four
     ensures { value_at field result ≡ power (field_at field) (value_at field x) e }
 {
     if field == 3 {
-        let powered = quartic_power::pow_turns(x, e as u32);
+        let powered = arithmetic::pow_turns(FourWords, x, e as u32);
         return powered.value;
     }
     elements::number(field::pow(field, x.a, e as u32))
@@ -42,8 +42,7 @@ fn add_products(field: u32, s: Four, a: &[u32], b: &[u32], out: &mut [u32])
     ensures { AddedAt field (product_at field a.now b.now) (value_at field s) out.old out.new }
 {
     let n = elements::count(field, out);
-    let mut j = 0;
-    while j < n {
+    for j in 0..n {
         let product = elements::mul(
             field,
             elements::get(field, a, j),
@@ -51,7 +50,6 @@ fn add_products(field: u32, s: Four, a: &[u32], b: &[u32], out: &mut [u32])
         );
         let before = elements::mul(field, s, elements::get(field, out, j));
         elements::put(field, out, j, elements::add(field, product, before));
-        j += 1;
     }
 }
 
@@ -94,9 +92,7 @@ pub fn values(
 {
     let n = pw.len();
     differences::fill(0, out);
-    let mut m = bounds.len();
-    while 0 < m {
-        m -= 1;
+    for m in (0..bounds.len()).rev() {
         let e = d - bounds[m] as usize;
         let table = elements::part(field, tables, n * m, n);
         add_table(field, r, e, pw, table, list, multipliers, out);
@@ -109,8 +105,7 @@ fn add_polynomial(field: u32, s: Four, f: &[u32], out: &mut [u32])
     ensures { AddedAt field (entry_at field f.now) (value_at field s) out.old out.new }
 {
     let n = elements::count(field, out);
-    let mut j = 0;
-    while j < n {
+    for j in 0..n {
         let before = elements::mul(field, s, elements::get(field, out, j));
         elements::put(
             field,
@@ -118,7 +113,6 @@ fn add_polynomial(field: u32, s: Four, f: &[u32], out: &mut [u32])
             j,
             elements::add(field, elements::get(field, f, j), before),
         );
-        j += 1;
     }
 }
 
@@ -148,9 +142,7 @@ pub fn polynomial(
 {
     differences::fill(0, out);
     let mut at = elements::count(field, f);
-    let mut m = bounds.len();
-    while 0 < m {
-        m -= 1;
+    for m in (0..bounds.len()).rev() {
         let count = bounds[m] as usize;
         at -= count;
         add_part(

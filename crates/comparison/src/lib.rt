@@ -4,12 +4,10 @@
 #![tactic(auto)]
 
 ghost use Rattle.std.specs.Prelude.{◌≡◌, ◌+◌, ◌*◌, ◌≤◌, ◌<◌, length};
-ghost use Rattle.definition.specs.Field.{Field, embed, field_of, quads};
+ghost use Rattle.definition.specs.Field.{Field, field_of};
 ghost use Rattle.definition.specs.Lists.{first_true};
 ghost use Rattle.definition.specs.Polynomial.{evaluate};
 ghost use Rattle.spelling.specs.ByField.{field_at, elements_at, points_at, words_at};
-ghost use Rattle.spelling.specs.Field3.{field3, base};
-ghost use Rattle.quartic.specs.Meaning.{quad_of};
 ghost use Rattle.elements.specs.Meaning.{value_at};
 ghost use Rattle.folds.specs.PointsIn.{PowerTable, shift_in};
 ghost use Rattle.fractions.specs.Values.{Fits, Below, Clear};
@@ -17,9 +15,9 @@ ghost use Rattle.outcome.specs.Meaning.{place_of};
 ghost use Rattle.rounds.specs.RoundLaws.{Compared, differs_in};
 ghost use Rattle.rounds.specs.SamplesIn.{sample_by, numbered};
 
+use field::Prime;
 use fractions::Oracle;
-use outcome::Found;
-use quartic::Four;
+use quartic::{Four, FourWords};
 
 // The final polynomial at the shift point of index j: by the powers of the point, which stand in the table, where there is room for them and more than a few are
 // needed; else by Horner's rule.
@@ -44,27 +42,7 @@ fn final_value_one(
         }
     }
     let x = folds::shift_point(pw, scale, j, k);
-    polynomial::value_at(field, coefficients, x)
-}
-
-// The same of four words: by Horner's rule, where a product with the point, which is a number, is four products.
-fn final_value_four(pw: &[u32], scale: usize, j: usize, k: usize, coefficients: &[u32]) -> Four
-    requires { (scale * j < length pw.now) × ((length pw.now ≤ 4096) × ((0 < k) × (k ≤ 16))) }
-    ensures { quad_of result ≡ evaluate field3 (quads coefficients.now) (embed base (shift_in 0 pw.now scale k j)) }
-{
-    let x = folds::shift_point(pw, scale, j, k);
-    let mut value = Four {
-        a: 0,
-        b: 0,
-        c: 0,
-        d: 0,
-    };
-    let mut i = quartic::count(coefficients);
-    while 0 < i {
-        i -= 1;
-        value = quartic::add_scaled(quartic::get(coefficients, i), x, value);
-    }
-    value
+    arithmetic::value_at_number(Prime { field: field }, coefficients, x)
 }
 
 // The final polynomial at the shift point of index j.
@@ -81,7 +59,9 @@ pub fn final_value(
     ensures { value_at field result ≡ evaluate (field_at field) (elements_at field coefficients.now) (shift_in (field_at field).𝟘 (points_at field pw.now) scale k j) }
 {
     if field == 3 {
-        return final_value_four(pw, scale, j, k, coefficients);
+        // no powers: of four words a product with the point, which is a number, is but four products
+        let point = folds::shift_point(pw, scale, j, k);
+        return arithmetic::value_at_number(FourWords, coefficients, point);
     }
     elements::number(final_value_one(field, pw, scale, j, k, coefficients))
 }
@@ -97,24 +77,22 @@ fn compare_by_roots(
     coefficients: &[u32],
     finals: &[u32],
     values: &mut [u32],
-) -> Found
+) -> Option<usize>
     requires k_in_bounds { length finals.now * k ≤ length (elements_at field roots.now) }
     requires fits { Fits (length pw.now) (k * oracle.step) oracle k }
     requires below { (Below oracle.step finals.now) × (length values.old ≡ words_at field k) }
     requires power_table { PowerTable field pw.now }
     ensures { place_of result ≡ first_true 0 (numbered (λ i j. differs_in (field_at field) (elements_at field coefficients.now) (sample_by (field_at field) (points_at field pw.now) (elements_at field roots.now) oracle k (value_at field r) i j)) 0 finals.now) }
 {
-    let mut i = 0;
-    while i < finals.len() {
+    for i in 0..finals.len() {
         let j = folds::wide(finals[i]);
         let y = rounds::fold_at(field, pw, roots, oracle, i, j, r, values);
         let value = final_value(field, pw, oracle.scale, j, k, coefficients);
         if !elements::same(field, value, y) {
-            return Found::At(i);
+            return Some(i);
         }
-        i += 1;
     }
-    Found::Nothing
+    None
 }
 
 // The first final index at whose shift point the final polynomial differs from the fold. Once the values at the roots are there, the places of k denominators are
@@ -132,7 +110,7 @@ pub fn first_difference(
     finals: &[u32],
     tops: &mut [u32],
     bottoms: &mut [u32],
-) -> Found
+) -> Option<usize>
     requires ac_len { (length ac.now ≡ words_at field 66) × ((length vg.now ≡ words_at field 132) × (Clear field pw.now (length (elements_at field table.now)) vg.now oracle)) }
     requires fits { Fits (length pw.now) (length (elements_at field table.now)) oracle k }
     requires below { Below oracle.step finals.now }

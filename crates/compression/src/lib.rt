@@ -19,73 +19,65 @@ pub struct State {
     pub h: u32,
 }
 
+#[tactic(auto, unfolding(hashing::specs::Sha256::choose, hashing::specs::Sha256::complement))]
 fn choose(x: u32, y: u32, z: u32) -> u32
     ensures { result ≡ def.choose x y z }
 {
     (x & y) ^ (!x & z)
 }
 
+#[tactic(auto, unfolding(hashing::specs::Sha256::majority))]
 fn majority(x: u32, y: u32, z: u32) -> u32
     ensures { result ≡ def.majority x y z }
 {
     (x & y) ^ (x & z) ^ (y & z)
 }
 
+#[tactic(auto, unfolding(hashing::specs::Sha256::big_sigma0, hashing::specs::Sha256::rotr))]
 fn big_sigma0(x: u32) -> u32
     ensures { result ≡ def.big_sigma0 x }
 {
-    (x >> 2 | x << 30) ^ (x >> 13 | x << 19) ^ (x >> 22 | x << 10)
+    x.rotate_right(2) ^ x.rotate_right(13) ^ x.rotate_right(22)
 }
 
+#[tactic(auto, unfolding(hashing::specs::Sha256::big_sigma1, hashing::specs::Sha256::rotr))]
 fn big_sigma1(x: u32) -> u32
     ensures { result ≡ def.big_sigma1 x }
 {
-    (x >> 6 | x << 26) ^ (x >> 11 | x << 21) ^ (x >> 25 | x << 7)
+    x.rotate_right(6) ^ x.rotate_right(11) ^ x.rotate_right(25)
 }
 
+#[tactic(auto, unfolding(hashing::specs::Sha256::small_sigma0, hashing::specs::Sha256::rotr, hashing::specs::Sha256::shr))]
 fn small_sigma0(x: u32) -> u32
     ensures { result ≡ def.small_sigma0 x }
 {
-    (x >> 7 | x << 25) ^ (x >> 18 | x << 14) ^ (x >> 3)
+    x.rotate_right(7) ^ x.rotate_right(18) ^ (x >> 3)
 }
 
+#[tactic(auto, unfolding(hashing::specs::Sha256::small_sigma1, hashing::specs::Sha256::rotr, hashing::specs::Sha256::shr))]
 fn small_sigma1(x: u32) -> u32
     ensures { result ≡ def.small_sigma1 x }
 {
-    (x >> 17 | x << 15) ^ (x >> 19 | x << 13) ^ (x >> 10)
-}
-
-// Sums modulo 2^32.
-fn sum2(x: u32, y: u32) -> u32
-    ensures { result ≡ (x + y) % 2 ^ 32 }
-{
-    ((x as u64 + y as u64) % 4294967296) as u32
-}
-
-fn sum4(x: u32, y: u32, z: u32, u: u32) -> u32
-    ensures { result ≡ (x + y + z + u) % 2 ^ 32 }
-{
-    ((x as u64 + y as u64 + z as u64 + u as u64) % 4294967296) as u32
-}
-
-fn sum5(x: u32, y: u32, z: u32, u: u32, v: u32) -> u32
-    ensures { result ≡ (x + y + z + u + v) % 2 ^ 32 }
-{
-    ((x as u64 + y as u64 + z as u64 + u as u64 + v as u64) % 4294967296) as u32
+    x.rotate_right(17) ^ x.rotate_right(19) ^ (x >> 10)
 }
 
 // One round.
 fn turn(s: State, k: u32, w: u32) -> State
     ensures { state_of result ≡ def.turn (state_of s) k w }
 {
-    let t1 = sum5(s.h, big_sigma1(s.e), choose(s.e, s.f, s.g), k, w);
-    let t2 = sum2(big_sigma0(s.a), majority(s.a, s.b, s.c));
+    let t1 = s
+        .h
+        .wrapping_add(big_sigma1(s.e))
+        .wrapping_add(choose(s.e, s.f, s.g))
+        .wrapping_add(k)
+        .wrapping_add(w);
+    let t2 = big_sigma0(s.a).wrapping_add(majority(s.a, s.b, s.c));
     State {
-        a: sum2(t1, t2),
+        a: t1.wrapping_add(t2),
         b: s.a,
         c: s.b,
         d: s.c,
-        e: sum2(s.d, t1),
+        e: s.d.wrapping_add(t1),
         f: s.e,
         g: s.f,
         h: s.g,
@@ -100,7 +92,10 @@ fn extend(w: &mut [u32], i: usize) -> u32
 {
     let x = small_sigma1(w[(i + 14) % 16]);
     let y = small_sigma0(w[(i + 1) % 16]);
-    let r = sum4(x, w[(i + 9) % 16], y, w[i]);
+    let r = x
+        .wrapping_add(w[(i + 9) % 16])
+        .wrapping_add(y)
+        .wrapping_add(w[i]);
     w[i] = r;
     r
 }
@@ -115,7 +110,7 @@ fn next(s: State, k: u32, w: &mut [u32], i: usize) -> State
     turn(s, k, x)
 }
 
-// Four rounds from number t on, the first of them at place i of the ring.
+// Four rounds from number t on, the first of them at place i of the ring: single rounds in a loop take a fifth more time.
 fn four(s: State, k: &[u32], t: usize, w: &mut [u32], i: usize) -> State
     requires k_len { (length k.now ≡ 64) × (length w.old ≡ 16) }
     requires t_value { (t % 16 ≡ i) × ((16 ≤ t) × ((t + 4 ≤ 64) × (i ≤ 12))) }
@@ -128,18 +123,19 @@ fn four(s: State, k: &[u32], t: usize, w: &mut [u32], i: usize) -> State
 }
 
 // The sums of two states' words.
+#[tactic(auto, unfolding(hashing::specs::Sha256::joined))]
 fn joined(s: State, t: State) -> State
     ensures { state_of result ≡ def.joined (state_of s) (state_of t) }
 {
     State {
-        a: sum2(t.a, s.a),
-        b: sum2(t.b, s.b),
-        c: sum2(t.c, s.c),
-        d: sum2(t.d, s.d),
-        e: sum2(t.e, s.e),
-        f: sum2(t.f, s.f),
-        g: sum2(t.g, s.g),
-        h: sum2(t.h, s.h),
+        a: t.a.wrapping_add(s.a),
+        b: t.b.wrapping_add(s.b),
+        c: t.c.wrapping_add(s.c),
+        d: t.d.wrapping_add(s.d),
+        e: t.e.wrapping_add(s.e),
+        f: t.f.wrapping_add(s.f),
+        g: t.g.wrapping_add(s.g),
+        h: t.h.wrapping_add(s.h),
     }
 }
 
@@ -149,19 +145,17 @@ fn rounds(s: State, k: &[u32], w: &mut [u32]) -> State
     ensures { state_of result ≡ def.turns (state_of s) k.now (def.schedule 48 w.old) }
 {
     let mut v = s;
-    let mut t = 0;
-    while t < 16 {
+    for t in 0..16 {
         v = turn(v, k[t], w[t]);
-        t += 1;
     }
-    while t < 64 {
-        v = four(v, k, t, w, t % 16);
-        t += 4;
+    for q in 4..16 {
+        v = four(v, k, 4 * q, w, 4 * q % 16);
     }
     v
 }
 
 // The constants K. The caller keeps them in a local and lends them as a slice.
+#[tactic(auto, unfolding(hashing::specs::Sha256::constants))]
 pub fn constants() -> [u32; 64]
     ensures { result ≡ def.constants }
 {
@@ -179,6 +173,7 @@ pub fn constants() -> [u32; 64]
     ]
 }
 
+#[tactic(auto, unfolding(hashing::specs::Sha256::initial))]
 pub fn initial() -> State
     ensures { state_of result ≡ def.initial }
 {

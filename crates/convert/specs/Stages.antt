@@ -16,11 +16,10 @@ use Rattle.completeness.proofs.Conversion.{backward_length, forward_length}
 use Rattle.layouts.specs.Tests.{if_passes, then_passes}
 use Rattle.outcome.specs.declared.Answer.{Answer}
 use Rattle.outcome.specs.declared.Answer.TheVariants.{Done, Refusal}
-use Rattle.outcome.specs.declared.Found.{Found}
-use Rattle.outcome.specs.declared.Found.TheVariants.{At, Nothing}
+use Rattle.std.specs.Prelude.{Some, None}
 use Rattle.outcome.specs.declared.Outcome.{Outcome}
 use Rattle.outcome.specs.declared.Outcome.TheVariants.{Accepted, Refused}
-use Rattle.outcome.specs.Meaning.{answer_of, outcome_of, place_of}
+use Rattle.outcome.specs.Meaning.{Found, answer_of, outcome_of, place_of}
 use Rattle.reading.specs.Passed.{sheet_passes, words_there}
 use Rattle.ranges.specs.RoundsOfLayout.{long_enough}
 use Rattle.sheet.specs.Front.{sheet_front, test_front}
@@ -105,11 +104,11 @@ pub refuses : {o : Outcome} {f : definition.Outcome} {number place : ℕ} → ou
 unfolding outcome_of
 refuses h e = sym (ap outcome_of e) ∙ h
 
-pub found_refuses : {o : Found} {f : definition.Outcome} {number place : ℕ} → refuse_at number (place_of o) ≡ f → o ≡ At place → definition.refused number place ≡ f
+pub found_refuses : {o : Found} {f : definition.Outcome} {number place : ℕ} → refuse_at number (place_of o) ≡ f → o ≡ Some place → definition.refused number place ≡ f
 unfolding place_of refuse_at
 found_refuses {number = number} h e = sym (ap (λ (x : Found). refuse_at number (place_of x)) e) ∙ h
 
-pub nothing_passes : (number : ℕ) {o : Found} {f : definition.Outcome} → refuse_at number (place_of o) ≡ f → o ≡ Nothing → f ≡ definition.accepted
+pub nothing_passes : (number : ℕ) {o : Found} {f : definition.Outcome} → refuse_at number (place_of o) ≡ f → o ≡ None → f ≡ definition.accepted
 unfolding place_of refuse_at
 nothing_passes number h e = sym h ∙ ap (λ (x : Found). refuse_at number (place_of x)) e
 

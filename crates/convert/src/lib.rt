@@ -15,7 +15,7 @@ ghost use Rattle.convert.specs.Stages.{Sized, Tested, output_for};
 ghost use Rattle.convert.specs.Ways.{converted};
 
 use edition::Edition;
-use outcome::{Answer, Found, Outcome};
+use outcome::{Answer, Outcome};
 
 // Places for the words of the largest file that can be accepted, 67 blocks, and one block more, after six for a longer sheet.
 const ANY_WORDS: usize = 8642;
@@ -59,7 +59,7 @@ fn backward_tests(file: &[u8], words: &mut [u32], size: usize) -> Answer
     }
     let head = &words[..18];
     let other = sheet_change::other_fold(head);
-    if let Found::At(level) = other {
+    if let Some(level) = other {
         return Answer::Refusal(13, level);
     }
     output_test(sizes::words_due(Edition::Two, head) - 6, size)

@@ -1,44 +1,40 @@
-// The prover's round polynomial: fold, quotient, degree correction. Polynomials are slices of coefficients, lowest first; each function takes the
-// field by its number and any words. Elements of four words have functions of their own, and `fold` and `corrected` choose by the field.
+// The prover's round polynomial: fold, quotient, degree correction. Polynomials are slices of coefficients, lowest first. What is written here for any field's
+// arithmetic serves elements of one word and of four; `fold`, `multiplied` and `corrected` take the field by its number and any words, and choose by it.
 #![tactic(auto)]
 
 ghost use Rattle.std.specs.Prelude.{◌≡◌, [], ◌∷◌, ◌++◌, ◌+◌, ◌-◌, ◌*◌, ◌≤◌, ◌<◌, length, take, drop, get_or, replicate};
-ghost use Rattle.definition.specs.Field.{Field, field_of, power, quads};
+ghost use Rattle.definition.specs.Field.{Field, field_of, power};
 ghost use Rattle.definition.specs.Polynomial.{mul_poly, divide, quotient, geometric, fold_poly};
-ghost use Rattle.spelling.specs.Field3.{field3};
 ghost use Rattle.spelling.specs.ByField.{field_at, elements_at};
-ghost use Rattle.quartic.specs.Meaning.{quad_of};
 ghost use Rattle.elements.specs.Meaning.{value_at};
 ghost use Rattle.correction.specs.Corrected.{Corrected};
 
-use quartic::Four;
+use arithmetic::Arithmetic;
+use field::Prime;
+use quartic::{Four, FourWords};
 
-// The fold of f at r: coefficient j is the value at r of f's coefficients from number j·k on, k of them.
-fn fold_one(field: u32, k: usize, r: u32, f: &[u32], out: &mut [u32])
-    requires { (0 < k) × (length f.now ≡ k * length out.old) }
-    ensures { out.new ≡ fold_poly (field_of field) k r f.now }
+// The quotient by X - x of the polynomial in the first `count` coefficients, in place, by Horner's scheme from the top down: `above` is the
+// value at x of the coefficients passed. The quotient has one coefficient less, and a zero takes the last place.
+fn divide<A: Arithmetic>(a: A, x: A::Element, f: &mut [u32], count: usize)
+    requires { count ≤ length (A.elements f.old) }
+    ensures { take (count - 1) (A.elements f.new) ≡ divide (A.over a) (take count (A.elements f.old)) (A.value x) }
 {
-    let mut j = out.len();
-    while 0 < j {
-        j -= 1;
-        let from = j * k;
-        out[j] = polynomial::value_at(field, &f[from..from + k], r);
+    let mut above = a.zero();
+    for i in (0..count).rev() {
+        let coefficient = a.get(f, i);
+        a.put(f, i, above);
+        above = a.add_product(coefficient, x, above);
     }
 }
 
-// The quotient by X - a of the polynomial in the first `count` coefficients, in place, by Horner's scheme from the top down: `above` is the
-// value at a of the coefficients passed. The quotient has one coefficient less, and a zero takes the last place.
-fn divide(field: u32, a: u32, f: &mut [u32], count: usize)
-    requires { count ≤ length f.old }
-    ensures { take (count - 1) f.new ≡ divide (field_of field) (take count f.old) a }
+// The quotient of the polynomial in the first `count` coefficients by the product of X - x over the points from number `from` on, in place, by one
+// point after the other.
+fn divide_each<A: Arithmetic>(a: A, xs: &[u32], from: usize, f: &mut [u32], count: usize)
+    requires { (from ≤ length (A.elements xs.now)) × ((length (A.elements xs.now) - from ≤ count) × (count ≤ length (A.elements f.old))) }
+    ensures { take (count - (length (A.elements xs.now) - from)) (A.elements f.new) ≡ quotient (A.over a) (take count (A.elements f.old)) (drop from (A.elements xs.now)) }
 {
-    let mut above: u32 = 0;
-    let mut i = count;
-    while 0 < i {
-        i -= 1;
-        let coefficient = f[i];
-        f[i] = above;
-        above = field::add_product(field, coefficient, a, above);
+    for i in from..a.count(xs) {
+        divide(a, a.get(xs, i), f, count - (i - from));
     }
 }
 
@@ -52,9 +48,7 @@ fn divide_four(field: u32, a: u32, b: u32, c: u32, d: u32, f: &mut [u32], count:
     let mut second: u32 = 0;
     let mut third: u32 = 0;
     let mut fourth: u32 = 0;
-    let mut i = count;
-    while 0 < i {
-        i -= 1;
+    for i in (0..count).rev() {
         let coefficient = f[i];
         f[i] = fourth;
         fourth = field::add_product(field, third, d, fourth);
@@ -64,226 +58,142 @@ fn divide_four(field: u32, a: u32, b: u32, c: u32, d: u32, f: &mut [u32], count:
     }
 }
 
-// The quotient of the polynomial in the first `count` coefficients by the product of X - a over the points from number `from` on, in place, by one
-// point after the other.
-fn divide_each(field: u32, xs: &[u32], from: usize, f: &mut [u32], count: usize)
-    requires { (from ≤ length xs.now) × ((length xs.now - from ≤ count) × (count ≤ length f.old)) }
-    ensures { take (count - (length xs.now - from)) f.new ≡ quotient (field_of field) (take count f.old) (drop from xs.now) }
-{
-    let mut left = count;
-    let mut i = from;
-    while i < xs.len() {
-        divide(field, xs[i], f, left);
-        left -= 1;
-        i += 1;
-    }
-}
-
-// The same by four points at a time, and what is left of them one by one.
+// The quotient by the points from number `from` on, by four points at a time, and what is left of them one by one.
 fn by_schemes(field: u32, xs: &[u32], from: usize, f: &mut [u32], count: usize)
     requires { (from ≤ length xs.now) × ((length xs.now - from ≤ count) × (count ≤ length f.old)) }
     ensures { take (count - (length xs.now - from)) f.new ≡ quotient (field_of field) (take count f.old) (drop from xs.now) }
 {
-    let mut left = count;
-    let mut i = from;
-    while i + 3 < xs.len() {
-        divide_four(field, xs[i], xs[i + 1], xs[i + 2], xs[i + 3], f, left);
-        left -= 4;
-        i += 4;
+    let fours = (xs.len() - from) / 4;
+    for t in 0..fours {
+        let i = from + 4 * t;
+        divide_four(
+            field,
+            xs[i],
+            xs[i + 1],
+            xs[i + 2],
+            xs[i + 3],
+            f,
+            count - 4 * t,
+        );
     }
-    divide_each(field, xs, i, f, left);
+    divide_each(
+        Prime { field: field },
+        xs,
+        from + 4 * fours,
+        f,
+        count - 4 * fours,
+    );
 }
 
-// The same: by sums of products where there are many points, which is then quicker, else by schemes.
-fn quotient(field: u32, xs: &[u32], from: usize, f: &mut [u32], count: usize)
-    requires { (from ≤ length xs.now) × ((length xs.now - from ≤ count) × (count ≤ length f.old)) }
-    ensures { take (count - (length xs.now - from)) f.new ≡ quotient (field_of field) (take count f.old) (drop from xs.now) }
-{
-    let e = xs.len() - from;
-    if 23 < e {
-        if e < 66 {
-            division::divide_all(field, xs, from, f, count);
-            return;
+// What the correction needs of a spelling beside its arithmetic. Its quotients are no twins: of one word they come by four points at a time, or by sums.
+trait PolynomialDivision: Arithmetic {
+    // The number of words of an element.
+    fn words(self) -> usize
+        ensures { result ≡ Self.width };
+
+    // The quotient of the polynomial in the first `count` coefficients by the product of X - x over the points from number `from` on, in place.
+    fn quotient(self, xs: &[u32], from: usize, f: &mut [u32], count: usize)
+        requires { (from ≤ length (Self.elements xs.now)) × ((length (Self.elements xs.now) - from ≤ count) × (count ≤ length (Self.elements f.old))) }
+        ensures { take (count - (length (Self.elements xs.now) - from)) (Self.elements f.new) ≡ quotient (Self.over self) (take count (Self.elements f.old)) (drop from (Self.elements xs.now)) };
+}
+
+impl PolynomialDivision for Prime {
+    fn words(self) -> usize {
+        1
+    }
+
+    // By sums of products where there are many points, which is then quicker, else by schemes.
+    fn quotient(self, xs: &[u32], from: usize, f: &mut [u32], count: usize) {
+        let e = xs.len() - from;
+        if 23 < e && e < 66 {
+            division::divide_all(self.field, xs, from, f, count);
+        } else {
+            by_schemes(self.field, xs, from, f, count);
         }
     }
-    by_schemes(field, xs, from, f, count);
+}
+
+impl PolynomialDivision for FourWords {
+    fn words(self) -> usize {
+        4
+    }
+
+    // By one point after the other.
+    fn quotient(self, xs: &[u32], from: usize, f: &mut [u32], count: usize) {
+        divide_each(self, xs, from, f, count);
+    }
+}
+
+// The fold of f at r: coefficient j is the value at r of f's coefficients from number j·k on, k of them.
+fn fold_in<A: PolynomialDivision>(a: A, k: usize, r: A::Element, f: &[u32], out: &mut [u32])
+    requires { (0 < k) × (length (A.elements f.now) ≡ k * length (A.elements out.old)) }
+    ensures { A.elements out.new ≡ fold_poly (A.over a) k (A.value r) (A.elements f.now) }
+{
+    let width = a.words();
+    for j in (0..a.count(out)).rev() {
+        let from = width * (j * k);
+        let value = arithmetic::value_at(a, &f[from..from + width * k], r);
+        a.put(out, j, value);
+    }
 }
 
 // Coefficient i of X^n·q.
-fn shifted(q: &[u32], n: usize, i: usize) -> u32
-    ensures { result ≡ get_or (replicate n 0 ++ q.now) i 0 }
+fn shifted<A: Arithmetic>(a: A, q: &[u32], n: usize, i: usize) -> A::Element
+    ensures { A.value result ≡ get_or (replicate n (A.over a).𝟘 ++ A.elements q.now) i (A.over a).𝟘 }
 {
     if i < n {
-        return 0;
+        return a.zero();
     }
     let j = i - n;
-    if q.len() <= j {
-        return 0;
+    if a.count(q) <= j {
+        return a.zero();
     }
-    q[j]
+    a.get(q, j)
 }
 
-// -c^(e+1), from (1 - c)·(1 + c + .. + c^e) = 1 - c^(e+1): the sum is at hand by doubling, for an exponent of any size.
-fn minus_power(field: u32, c: u32, e: usize) -> u32
-    ensures { result ≡ (field_of field).◌⊖◌ 0 (power (field_of field) c (e + 1)) }
+// -c^n.
+fn minus_power<A: Arithmetic>(a: A, c: A::Element, n: usize) -> A::Element
+    requires { n ≤ 65536 }
+    ensures { A.value result ≡ (A.over a).◌⊖◌ (A.over a).𝟘 (power (A.over a) (A.value c) n) }
 {
-    let sum = polynomial::geometric_at(field, c, e, 1);
-    field::sub(field, field::mul(field, field::sub(field, 1, c), sum), 1)
+    let powered = arithmetic::pow_turns(a, c, n as u32);
+    a.sub(a.zero(), powered.value)
 }
 
 // The product of q and g = 1 + cX + .. + (cX)^e, from the lowest coefficient up. (1 - cX)·g is 1 - (cX)^(e+1), so that each coefficient is the sum of
 // c times the one before it and of `fresh`, the coefficient of q·(1 - (cX)^(e+1)) in its place.
-fn correct(field: u32, c: u32, e: usize, q: &[u32], out: &mut [u32])
-    requires { (0 < length q.now) × (length out.old ≡ length q.now + e) }
-    ensures { out.new ≡ mul_poly (field_of field) q.now (geometric (field_of field) c e) }
+fn correct<A: Arithmetic>(a: A, c: A::Element, e: usize, q: &[u32], out: &mut [u32])
+    requires { (0 < length (A.elements q.now)) × ((length (A.elements out.old) ≡ length (A.elements q.now) + e) × (e < 65536)) }
+    ensures { A.elements out.new ≡ mul_poly (A.over a) (A.elements q.now) (geometric (A.over a) (A.value c) e) }
 {
-    let t = minus_power(field, c, e);
-    let mut last: u32 = 0;
-    let mut i = 0;
-    while i < out.len() {
-        let fresh = field::add_product(field, shifted(q, 0, i), t, shifted(q, e + 1, i));
-        last = field::add_product(field, fresh, c, last);
-        out[i] = last;
-        i += 1;
+    let t = minus_power(a, c, e + 1);
+    let mut last = a.zero();
+    for i in 0..a.count(out) {
+        let fresh = a.add_product(shifted(a, q, 0, i), t, shifted(a, q, e + 1, i));
+        last = a.add_product(fresh, c, last);
+        a.put(out, i, last);
     }
 }
 
 // The corrected polynomial of the first `count` coefficients of f, where the samples are at the points from number `from` on. What f holds
 // afterwards is of no use.
-fn corrected_one(
-    field: u32,
+fn corrected_in<A: PolynomialDivision>(
+    a: A,
     xs: &[u32],
     from: usize,
-    c: u32,
+    c: A::Element,
     f: &mut [u32],
     count: usize,
     out: &mut [u32],
 )
-    requires from_in_bounds { (from ≤ length xs.now) × (length xs.now - from < count) }
-    requires count_in_bounds { (count ≤ length f.old) × (length out.old ≡ count) }
-    ensures { Corrected (field_of field) (drop from xs.now) c (take count f.old) out.new }
+    requires from_in_bounds { (from ≤ length (A.elements xs.now)) × (length (A.elements xs.now) - from < count) }
+    requires count_in_bounds { (count ≤ length (A.elements f.old)) × ((length (A.elements out.old) ≡ count) × (length xs.now ≤ 4096)) }
+    ensures { Corrected (A.over a) (drop from (A.elements xs.now)) (A.value c) (take count (A.elements f.old)) (A.elements out.new) }
 {
-    let e = xs.len() - from;
+    let e = a.count(xs) - from;
     let n = count - e;
-    quotient(field, xs, from, f, count);
-    correct(field, c, e, &f[..n], out);
-}
-
-// ---- four words
-
-// The fold of f at r.
-fn fold_four(k: usize, r: Four, f: &[u32], out: &mut [u32])
-    requires { (0 < k) × (length (quads f.now) ≡ k * length (quads out.old)) }
-    ensures { quads out.new ≡ fold_poly field3 k (quad_of r) (quads f.now) }
-{
-    let mut j = quartic::count(out);
-    while 0 < j {
-        j -= 1;
-        let begin = 4 * (j * k);
-        let value = quartic::value_at(&f[begin..begin + 4 * k], r);
-        quartic::put(out, j, value);
-    }
-}
-
-// The quotient by X - a of the polynomial in the first `count` coefficients, in place.
-fn divide_quads(a: Four, f: &mut [u32], count: usize)
-    requires { count ≤ length (quads f.old) }
-    ensures { take (count - 1) (quads f.new) ≡ divide field3 (take count (quads f.old)) (quad_of a) }
-{
-    let mut above = Four {
-        a: 0,
-        b: 0,
-        c: 0,
-        d: 0,
-    };
-    let mut i = count;
-    while 0 < i {
-        i -= 1;
-        let coefficient = quartic::get(f, i);
-        quartic::put(f, i, above);
-        above = quartic::add_product(coefficient, a, above);
-    }
-}
-
-// The quotient by the product of X - a over the points from number `from` on, by one point after the other.
-fn quotient_four(xs: &[u32], from: usize, f: &mut [u32], count: usize)
-    requires { (from ≤ length (quads xs.now)) × ((length (quads xs.now) - from ≤ count) × (count ≤ length (quads f.old))) }
-    ensures { take (count - (length (quads xs.now) - from)) (quads f.new) ≡ quotient field3 (take count (quads f.old)) (drop from (quads xs.now)) }
-{
-    let n = quartic::count(xs);
-    let mut left = count;
-    let mut i = from;
-    while i < n {
-        let x = quartic::get(xs, i);
-        divide_quads(x, f, left);
-        left -= 1;
-        i += 1;
-    }
-}
-
-// Coefficient i of X^n·q.
-fn shifted_four(q: &[u32], n: usize, i: usize) -> Four
-    ensures { quad_of result ≡ get_or (replicate n field3.𝟘 ++ quads q.now) i field3.𝟘 }
-{
-    if i < n {
-        return elements::number(0);
-    }
-    let j = i - n;
-    if quartic::count(q) <= j {
-        return elements::number(0);
-    }
-    quartic::get(q, j)
-}
-
-// -c^n.
-fn minus_power_four(c: Four, n: usize) -> Four
-    requires { n ≤ 65536 }
-    ensures { quad_of result ≡ field3.◌⊖◌ field3.𝟘 (power field3 (quad_of c) n) }
-{
-    let powered = quartic_power::pow_turns(c, n as u32);
-    let value = powered.value;
-    quartic::sub(elements::number(0), value)
-}
-
-// The coefficient in place i of the product: c times the one before it, and that of q·(1 - (cX)^n) in its place, where t is -c^n.
-fn next_four(c: Four, t: Four, n: usize, q: &[u32], i: usize, last: Four) -> Four
-    ensures { quad_of result ≡ field3.◌⊕◌ (field3.◌⊕◌ (get_or (quads q.now) i field3.𝟘) (field3.◌⊗◌ (quad_of t) (get_or (replicate n field3.𝟘 ++ quads q.now) i field3.𝟘))) (field3.◌⊗◌ (quad_of c) (quad_of last)) }
-{
-    let fresh = quartic::add_product(shifted_four(q, 0, i), t, shifted_four(q, n, i));
-    quartic::add_product(fresh, c, last)
-}
-
-// The product of q and 1 + cX + .. + (cX)^e, from the lowest coefficient up.
-fn correct_four(c: Four, e: usize, q: &[u32], out: &mut [u32])
-    requires { (0 < length (quads q.now)) × ((length (quads out.old) ≡ length (quads q.now) + e) × (e < 65536)) }
-    ensures { quads out.new ≡ mul_poly field3 (quads q.now) (geometric field3 (quad_of c) e) }
-{
-    let t = minus_power_four(c, e + 1);
-    let n = quartic::count(out);
-    let mut last = Four {
-        a: 0,
-        b: 0,
-        c: 0,
-        d: 0,
-    };
-    let mut i = 0;
-    while i < n {
-        last = next_four(c, t, e + 1, q, i, last);
-        quartic::put(out, i, last);
-        i += 1;
-    }
-}
-
-// The corrected polynomial of the first `count` coefficients of f.
-fn corrected_four(xs: &[u32], from: usize, c: Four, f: &mut [u32], count: usize, out: &mut [u32])
-    requires from_in_bounds { (from ≤ length (quads xs.now)) × (length (quads xs.now) - from < count) }
-    requires count_in_bounds { (count ≤ length (quads f.old)) × ((length (quads out.old) ≡ count) × (length xs.now ≤ 4096)) }
-    ensures { Corrected field3 (drop from (quads xs.now)) (quad_of c) (take count (quads f.old)) (quads out.new) }
-{
-    let e = quartic::count(xs) - from;
-    let n = 4 * (count - e);
-    quotient_four(xs, from, f, count);
-    correct_four(c, e, &f[..n], out);
+    a.quotient(xs, from, f, count);
+    correct(a, c, e, &f[..a.words() * n], out);
 }
 
 // ---- either spelling
@@ -294,9 +204,9 @@ pub fn fold(field: u32, k: usize, r: Four, f: &[u32], out: &mut [u32])
     ensures { elements_at field out.new ≡ fold_poly (field_at field) k (value_at field r) (elements_at field f.now) }
 {
     if field == 3 {
-        fold_four(k, r, f, out);
+        fold_in(FourWords, k, r, f, out);
     } else {
-        fold_one(field, k, r.a, f, out);
+        fold_in(Prime { field: field }, k, r.a, f, out);
     }
 }
 
@@ -306,9 +216,9 @@ pub fn multiplied(field: u32, c: Four, e: usize, q: &[u32], out: &mut [u32])
     ensures { elements_at field out.new ≡ mul_poly (field_at field) (elements_at field q.now) (geometric (field_at field) (value_at field c) e) }
 {
     if field == 3 {
-        correct_four(c, e, q, out);
+        correct(FourWords, c, e, q, out);
     } else {
-        correct(field, c.a, e, q, out);
+        correct(Prime { field: field }, c.a, e, q, out);
     }
 }
 
@@ -328,8 +238,8 @@ pub fn corrected(
     ensures { Corrected (field_at field) (drop from (elements_at field xs.now)) (value_at field c) (take count (elements_at field f.old)) (elements_at field out.new) }
 {
     if field == 3 {
-        corrected_four(xs, from, c, f, count, out);
+        corrected_in(FourWords, xs, from, c, f, count, out);
     } else {
-        corrected_one(field, xs, from, c.a, f, count, out);
+        corrected_in(Prime { field: field }, xs, from, c.a, f, count, out);
     }
 }

@@ -12,13 +12,11 @@ use Rattle.definition.specs.Field.{Element, elements_in}
 use Rattle.definition.specs.Polynomial.{pair}
 use Rattle.definition.specs.Sheet.{Edition, Sheet, sheet_of}
 use Rattle.definition.specs.Verdict.{Verdict, accepted, refused}
-use Rattle.outcome.specs.declared.Found.{Found}
-use Rattle.outcome.specs.declared.Found.TheVariants.{At, Nothing}
-use Rattle.outcome.specs.Meaning.{place_of}
+use Rattle.std.specs.Prelude.{Some, None}
+use Rattle.outcome.specs.Meaning.{Found, place_of}
 use Rattle.lists.specs.Correcting.{Columned}
-use Rattle.samples.specs.declared.Gathered.{Gathered}
-use Rattle.samples.specs.declared.Gathered.TheVariants.{Clash, From}
-use Rattle.samples.specs.Samples.{Room, kept}
+use Rattle.std.specs.Prelude.{Some, None}
+use Rattle.samples.specs.Samples.{Gathered, Room, kept}
 use Rattle.samples.specs.Answers.{kept_clash, kept_from}
 use Rattle.fractions.specs.declared.Oracle.{Oracle}
 use Rattle.level_words.specs.declared.State.{State}
@@ -43,7 +41,7 @@ not_last level last word e h d = omega arith
 
 -- ---- answers
 
-pub room_in : (g : Gathered) (j : ℕ) → g ≡ From j → Room 50 50 g → j ≤ 50
+pub room_in : (g : Gathered) (j : ℕ) → g ≡ Some j → Room 50 50 g → j ≤ 50
 room_in g j e r = let q = subst (Room 50 50) e r in q.1
 
 -- ---- the final comparison
@@ -56,23 +54,23 @@ finals_whole ed h w st i {t} et =
 
 module _ (h : Sheet) (w pw ac vg : List ℕ) (st : State) (reads : ℕ) (r : Element h.spelling) (oracle : Oracle) (ok : Invariant h w (length pw) (length ac) (length vg) st oracle) (end : st.level ≡ rounds_of h)
     (f : Found) (a : Differing h w pw ac vg st r oracle (place_of f)) where
-  differing_at : {i : ℕ} → f ≡ At i → Differing h w pw ac vg st r oracle (some i)
+  differing_at : {i : ℕ} → f ≡ Some i → Differing h w pw ac vg st r oracle (some i)
   unfolding place_of
   differing_at e = λ ω b g sv. ap place_of (sym e) ∙ a ω b g sv
 
-  differing_nowhere : f ≡ Nothing → Differing h w pw ac vg st r oracle none
+  differing_nowhere : f ≡ None → Differing h w pw ac vg st r oracle none
   unfolding place_of
   differing_nowhere e = λ ω b g sv. ap place_of (sym e) ∙ a ω b g sv
 
-  pub place_ready : {i : ℕ} → f ≡ At i → Represented h w pw ac vg st oracle → i < current_repetitions h st
+  pub place_ready : {i : ℕ} → f ≡ Some i → Represented h w pw ac vg st oracle → i < current_repetitions h st
   place_ready {i} e s = place_few h w pw ac vg st reads r oracle ok end i (differing_at e) s
 
-  pub differ_ready : {i now : ℕ} → f ≡ At i → now ≡ reads_after h st reads (take (i + 1) (finals_of h w st)) → Decided h w pw ac vg st reads r oracle (record { outcome = refused 9 i; reads = now })
+  pub differ_ready : {i now : ℕ} → f ≡ Some i → now ≡ reads_after h st reads (take (i + 1) (finals_of h w st)) → Decided h w pw ac vg st reads r oracle (record { outcome = refused 9 i; reads = now })
   differ_ready {i} e en =
       subst (λ (n : ℕ). Decided h w pw ac vg st reads r oracle (record { outcome = refused 9 i; reads = n })) (sym en)
       (differ_step h w pw ac vg st reads r oracle ok end i (differing_at e))
 
-  pub same_ready : (ed : Edition) → FinalInside ed h w st → {t now : ℕ} → t ≡ current_repetitions h st → f ≡ Nothing → now ≡ reads_after h st reads (take t (finals_of h w st)) →
+  pub same_ready : (ed : Edition) → FinalInside ed h w st → {t now : ℕ} → t ≡ current_repetitions h st → f ≡ None → now ≡ reads_after h st reads (take t (finals_of h w st)) →
       Decided h w pw ac vg st reads r oracle (record { outcome = accepted; reads = now })
   same_ready ed inside et e en =
       subst (λ (n : ℕ). Decided h w pw ac vg st reads r oracle (record { outcome = accepted; reads = n })) (sym (en ∙ ap (reads_after h st reads) (finals_whole ed h w st inside et)))
@@ -98,7 +96,7 @@ module _ (ed : Edition) (w pw ac vg : List ℕ) (st : State) (reads : ℕ) (r : 
   abbrev read : List ℕ → List (Element (sheet_of ed w).spelling)
   read v = elements_in (sheet_of ed w).spelling v
 
-  pub clash_ready : (px py : List ℕ) (now : ℕ) → now ≡ reads_after h st reads (next_shifts h w st) → g ≡ Clash → NextSamples h w pw ac vg st r oracle (kept g (read px) (read py)) →
+  pub clash_ready : (px py : List ℕ) (now : ℕ) → now ≡ reads_after h st reads (next_shifts h w st) → g ≡ None → NextSamples h w pw ac vg st r oracle (kept g (read px) (read py)) →
       Decided h w pw ac vg st reads r oracle (record { outcome = refused 8 next.level; reads = now })
   clash_ready px py now ew e a =
       subst (λ (x : State). Decided h w pw ac vg st reads r oracle (record { outcome = refused 8 x.level; reads = now })) (sym en)
@@ -114,7 +112,7 @@ module _ (ed : Edition) (w pw ac vg : List ℕ) (st : State) (reads : ℕ) (r : 
       let small = (ok.place.sheet.folds st.level ok.place.level).small in
       omega (arith, ew, few, level_next h st next en, reads_most js (current_fold h st) (omega (arith, long, few_coins h w st ok.place)) small)
 
-  module _ (px py : List ℕ) (lx : length px ≡ words_for h 50) (ly : length py ≡ words_for h 50) (j : ℕ) (ej : g ≡ From j) (a : NextSamples h w pw ac vg st r oracle (kept g (read px) (read py)))
+  module _ (px py : List ℕ) (lx : length px ≡ words_for h 50) (ly : length py ≡ words_for h 50) (j : ℕ) (ej : g ≡ Some j) (a : NextSamples h w pw ac vg st r oracle (kept g (read px) (read py)))
       (s : Represented h w pw ac vg st oracle) where
     found : NextSamples h w pw ac vg st r oracle (some (pair (drop j (read px)) (drop j (read py))))
     found = subst (NextSamples h w pw ac vg st r oracle) (sym (kept_from (read px) (read py) ej refl)) a

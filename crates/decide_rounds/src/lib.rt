@@ -14,9 +14,8 @@ ghost use Rattle.decide_rounds.specs.Invariant.{Decided, Invariant, Represented}
 use edition::Edition;
 use fractions::Oracle;
 use level_words::State;
-use outcome::{Found, Outcome, Verdict};
+use outcome::{Outcome, Verdict};
 use quartic::Four;
-use samples::Gathered;
 
 // The final comparison. All final coins are treated, or those up to and with the failing one.
 fn decide_final(
@@ -37,7 +36,7 @@ fn decide_final(
     ensures { Decided (sheet_of (edition_of e) w.now) w.now pw.now ac.now vg.now state reads (value_in (sheet_of (edition_of e) w.now).spelling r) oracle (verdict_of result) }
 {
     let f = round_words::final_difference(e, w, pw, state, r, oracle, ac, vg);
-    if let Found::At(i) = f {
+    if let Some(i) = f {
         return Verdict {
             outcome: Outcome::Refused(9, i),
             reads: level_words::reads_after_finals(e, w, state, reads, i + 1),
@@ -76,7 +75,7 @@ pub fn decide_rest(
     let next = level_words::next_state(e, w, state);
     let now = level_words::reads_after_round(e, w, state, reads);
     let g = round_words::next_samples(e, w, pw, state, r, oracle, ac, vg, px, py);
-    let Gathered::From(j) = g else {
+    let Some(j) = g else {
         return Verdict {
             outcome: Outcome::Refused(8, next.level),
             reads: now,

@@ -131,14 +131,14 @@ module _ (ed : Edition) (w : List ℕ) (r : Tested) (tested : outcome_of r ≡ o
 -- ---- places by the field's number
 
 -- so many elements of one word
-pub one_places : (ed : Edition) (w : List ℕ) (n : ℕ) → (get_or w 0 0 ≡ 3 → ⊥) → length (zeros n) ≡ words_for (sheet_of ed w) n
+pub one_words : (ed : Edition) (w : List ℕ) (n : ℕ) → (get_or w 0 0 ≡ 3 → ⊥) → n ≡ words_for (sheet_of ed w) n
 unfolding sheet_of word_count
-one_places ed w n other = length_zeros n ∙ at_one (λ σ. n ≡ word_count σ n) (get_or w 0 0) other refl
+one_words ed w n other = at_one (λ σ. n ≡ word_count σ n) (get_or w 0 0) other refl
 
 -- and of four
-pub four_places : (ed : Edition) (w : List ℕ) (n : ℕ) → get_or w 0 0 ≡ 3 → length (zeros (4 * n)) ≡ words_for (sheet_of ed w) n
+pub four_words : (ed : Edition) (w : List ℕ) (n : ℕ) → get_or w 0 0 ≡ 3 → 4 * n ≡ words_for (sheet_of ed w) n
 unfolding sheet_of spelling_of word_count
-four_places ed w n three = length_zeros (4 * n) ∙ at_three (λ field. 4 * n ≡ words_at field n) (get_or w 0 0) three refl
+four_words ed w n three = at_three (λ field. 4 * n ≡ words_at field n) (get_or w 0 0) three refl
 
 -- a sheet of field 3 has at most 1,024 points
 pub four_points : (ed : Edition) (w : List ℕ) → sheet_test ed w ≡ accepted → words_due ed (sheet_of ed w) ≤ length w → get_or w 0 0 ≡ 3 → get_or w 1 0 ≤ 1024

@@ -14,7 +14,9 @@ ghost use Rattle.outcome.specs.Meaning.{verdict_of};
 ghost use Rattle.level_words.specs.State.{after_fold};
 ghost use Rattle.out_coins.specs.Kinds.{kinds_after_fold};
 
+use domain::{FEW_POINTS, POINTS};
 use edition::Edition;
+use lists::{DOUBLE_PLACES, FOUR_DOUBLE, FOUR_PLACES, PLACES};
 use outcome::{Outcome, Verdict};
 
 // Places for the samples of a round, at most 48 + 2.
@@ -86,51 +88,25 @@ fn test_outs_then_decide(
     decide_past_out_tests(e, w, pw, px, py, ac, vg)
 }
 
-// Deciding with places of its own for a sheet of few points, whose elements have one word. The places of each size have a function of their own, so that the stack
-// holds those that are used alone.
-fn decide_few(e: Edition, w: &[u32]) -> Verdict
+// Deciding with places of its own: for the points of domain 0, the samples of a round, and lists of coefficients of one length and of twice as many. Each choice
+// of sizes is a function by itself, so that the stack holds the places that are used alone.
+fn decide_with<const POINTS: usize, const SAMPLES: usize, const PLACES: usize, const DOUBLE: usize>(
+    e: Edition,
+    w: &[u32],
+) -> Verdict
     requires w_value { (sheet_test (edition_of e) w.now ≡ accepted) × (range_test (sheet_of (edition_of e) w.now) (sheet_length (edition_of e)) (layout (sheet_of (edition_of e) w.now)) w.now ≡ accepted) }
     requires w_in_bounds { words_due (edition_of e) (sheet_of (edition_of e) w.now) ≤ length w.now }
-    requires w_bound { (get_or w.now 1 0 ≤ 256) × (get_or w.now 0 0 ≡ 3 → ⊥) }
+    requires points { (get_or w.now 1 0 ≤ POINTS) × (POINTS ≤ 4096) }
+    requires samples { (SAMPLES ≡ words_for (sheet_of (edition_of e) w.now) 50) × (SAMPLES ≤ 200) }
+    requires places { (PLACES ≡ words_for (sheet_of (edition_of e) w.now) 66) × (PLACES ≤ 264) }
+    requires double { (DOUBLE ≡ words_for (sheet_of (edition_of e) w.now) 132) × (DOUBLE ≤ 528) }
     ensures { verdict_of result ≡ deciding_of (edition_of e) w.now }
 {
-    let mut pw = [0u32; domain::FEW_POINTS];
+    let mut pw = [0u32; POINTS];
     let mut px = [0u32; SAMPLES];
     let mut py = [0u32; SAMPLES];
-    let mut ac = [0u32; lists::PLACES];
-    let mut vg = [0u32; lists::DOUBLE_PLACES];
-    let size = domain::of_sheet_within(w, &mut pw);
-    test_outs_then_decide(e, w, &pw[..size], &mut px, &mut py, &mut ac, &mut vg)
-}
-
-// The same of any number of points.
-fn decide_many(e: Edition, w: &[u32]) -> Verdict
-    requires w_value { (sheet_test (edition_of e) w.now ≡ accepted) × (range_test (sheet_of (edition_of e) w.now) (sheet_length (edition_of e)) (layout (sheet_of (edition_of e) w.now)) w.now ≡ accepted) }
-    requires w_in_bounds { words_due (edition_of e) (sheet_of (edition_of e) w.now) ≤ length w.now }
-    requires fact { get_or w.now 0 0 ≡ 3 → ⊥ }
-    ensures { verdict_of result ≡ deciding_of (edition_of e) w.now }
-{
-    let mut pw = [0u32; domain::POINTS];
-    let mut px = [0u32; SAMPLES];
-    let mut py = [0u32; SAMPLES];
-    let mut ac = [0u32; lists::PLACES];
-    let mut vg = [0u32; lists::DOUBLE_PLACES];
-    let size = domain::of_sheet(w, &mut pw);
-    test_outs_then_decide(e, w, &pw[..size], &mut px, &mut py, &mut ac, &mut vg)
-}
-
-// The same for elements of four words, where a sheet has at most 1,024 points.
-fn decide_four(e: Edition, w: &[u32]) -> Verdict
-    requires w_value { (sheet_test (edition_of e) w.now ≡ accepted) × (range_test (sheet_of (edition_of e) w.now) (sheet_length (edition_of e)) (layout (sheet_of (edition_of e) w.now)) w.now ≡ accepted) }
-    requires w_in_bounds { words_due (edition_of e) (sheet_of (edition_of e) w.now) ≤ length w.now }
-    requires w_value_2 { get_or w.now 0 0 ≡ 3 }
-    ensures { verdict_of result ≡ deciding_of (edition_of e) w.now }
-{
-    let mut pw = [0u32; FOUR_POINTS];
-    let mut px = [0u32; FOUR_SAMPLES];
-    let mut py = [0u32; FOUR_SAMPLES];
-    let mut ac = [0u32; lists::FOUR_PLACES];
-    let mut vg = [0u32; lists::FOUR_DOUBLE];
+    let mut ac = [0u32; PLACES];
+    let mut vg = [0u32; DOUBLE];
     let size = domain::of_sheet_within(w, &mut pw);
     test_outs_then_decide(e, w, &pw[..size], &mut px, &mut py, &mut ac, &mut vg)
 }
@@ -142,10 +118,10 @@ pub fn deciding(e: Edition, w: &[u32]) -> Verdict
     ensures { verdict_of result ≡ deciding_of (edition_of e) w.now }
 {
     if w[0] == 3 {
-        return decide_four(e, w);
+        return decide_with::<FOUR_POINTS, FOUR_SAMPLES, FOUR_PLACES, FOUR_DOUBLE>(e, w);
     }
     if w[1] <= 256 {
-        return decide_few(e, w);
+        return decide_with::<FEW_POINTS, SAMPLES, PLACES, DOUBLE_PLACES>(e, w);
     }
-    decide_many(e, w)
+    decide_with::<POINTS, SAMPLES, PLACES, DOUBLE_PLACES>(e, w)
 }

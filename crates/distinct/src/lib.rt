@@ -2,57 +2,41 @@
 // shift points are numbers; numbers of points count elements.
 #![tactic(auto)]
 
-ghost use Rattle.std.specs.Prelude.{◌≡◌, [], ◌++◌, map, ◌+◌, ◌≤◌, ◌<◌, eqb, length, drop};
-ghost use Rattle.definition.specs.Field.{Field, quads};
+ghost use Rattle.std.specs.Prelude.{◌≡◌, [], ◌++◌, map, ◌+◌, ◌≤◌, ◌<◌, length, drop};
+ghost use Rattle.definition.specs.Field.{Field};
 ghost use Rattle.definition.specs.Lists.{different, member};
-ghost use Rattle.spelling.specs.Field3.{field3};
 ghost use Rattle.spelling.specs.ByField.{field_at, elements_at};
-ghost use Rattle.quartic.specs.Meaning.{quad_of};
 ghost use Rattle.elements.specs.Meaning.{value_at};
 ghost use Rattle.distinct.specs.Points.{InTable, keep_point, keep_points, shift_at};
 
-use quartic::Four;
+use arithmetic::Arithmetic;
+use field::Prime;
+use quartic::{Four, FourWords};
 
-// Puts a point in front of those from number `from` on, unless it is there. The answer is the number of the first point.
-fn keep_one(xs: &mut [u32], from: usize, x: u32) -> usize
-    requires { (0 < from) × (from ≤ length xs.old) }
-    ensures xs_after { drop result xs.new ≡ keep_point eqb x (drop from xs.old) }
-    ensures upper_bound { (result ≤ from) × (from ≤ result + 1) }
+// Is an element among those from number `from` on?
+fn found<A: Arithmetic>(a: A, xs: &[u32], from: usize, x: A::Element) -> bool
+    requires { from ≤ length (A.elements xs.now) }
+    ensures { result ≡ member (A.over a).equal (A.value x) (drop from (A.elements xs.now)) }
 {
-    if places::found(xs, from, x) {
-        return from;
-    }
-    let at = from - 1;
-    xs[at] = x;
-    at
-}
-
-// Is an element of four words among those from number `from` on?
-fn found_four(xs: &[u32], from: usize, x: Four) -> bool
-    requires { from ≤ length (quads xs.now) }
-    ensures { result ≡ member field3.equal (quad_of x) (drop from (quads xs.now)) }
-{
-    let n = quartic::count(xs);
-    let mut i = from;
-    while i < n {
-        if quartic::same(x, quartic::get(xs, i)) {
+    for i in from..a.count(xs) {
+        if a.same(x, a.get(xs, i)) {
             return true;
         }
-        i += 1;
     }
     false
 }
 
-fn keep_four(xs: &mut [u32], from: usize, x: Four) -> usize
-    requires { (0 < from) × (from ≤ length (quads xs.old)) }
-    ensures xs_after { drop result (quads xs.new) ≡ keep_point field3.equal (quad_of x) (drop from (quads xs.old)) }
+// Puts a point in front of those from number `from` on, unless it is there. The answer is the number of the first point.
+fn keep_in<A: Arithmetic>(a: A, xs: &mut [u32], from: usize, x: A::Element) -> usize
+    requires { (0 < from) × (from ≤ length (A.elements xs.old)) }
+    ensures xs_after { drop result (A.elements xs.new) ≡ keep_point (A.over a).equal (A.value x) (drop from (A.elements xs.old)) }
     ensures upper_bound { (result ≤ from) × (from ≤ result + 1) }
 {
-    if found_four(xs, from, x) {
+    if found(a, xs, from, x) {
         return from;
     }
     let at = from - 1;
-    quartic::put(xs, at, x);
+    a.put(xs, at, x);
     at
 }
 
@@ -63,9 +47,9 @@ fn keep(field: u32, xs: &mut [u32], from: usize, x: Four) -> usize
     ensures upper_bound { (result ≤ from) × (from ≤ result + 1) }
 {
     if field == 3 {
-        return keep_four(xs, from, x);
+        return keep_in(FourWords, xs, from, x);
     }
-    keep_one(xs, from, x.a)
+    keep_in(Prime { field: field }, xs, from, x.a)
 }
 
 // The different shift points of a level in the last places of xs. The level's point j stands at scale·j in the table of points.
@@ -83,9 +67,7 @@ fn keep_shifts(
     ensures upper_bound { (result ≤ length (elements_at field xs.old)) × (length (elements_at field xs.old) ≤ result + length shifts.now) }
 {
     let mut at = elements::count(field, xs);
-    let mut i = shifts.len();
-    while 0 < i {
-        i -= 1;
+    for i in (0..shifts.len()).rev() {
         let x = folds::shift_point(pw, scale, folds::wide(shifts[i]), k);
         at = keep(field, xs, at, elements::number(x));
     }
@@ -99,9 +81,7 @@ fn keep_all(field: u32, points: &[u32], xs: &mut [u32], from: usize) -> usize
     ensures upper_bound { (result ≤ from) × (from ≤ result + length (elements_at field points.now)) }
 {
     let mut at = from;
-    let mut i = elements::count(field, points);
-    while 0 < i {
-        i -= 1;
+    for i in (0..elements::count(field, points)).rev() {
         let x = elements::get(field, points, i);
         at = keep(field, xs, at, x);
     }

@@ -1,13 +1,14 @@
 -- The coefficients of the product of 1 - aX, and the quotient by sums, from turn to turn. Assumes nothing.
-use Prim.Native.Nat.{ℕ, zero, suc, ◌+◌, ◌-◌, ◌≤◌, ◌<◌}
+use Prim.Native.Nat.{ℕ, zero, suc, ◌+◌, ◌-◌, ◌≤◌, ◌<◌, min}
 use native.Mathlib.Decide.{dec_lt}
-use native.Mathlib.Nat.{le_refl, min-le_left}
+use native.Mathlib.Nat.{le_refl}
 use native.Mathlib.Numerals.{add-one}
 use native.Mathlib.Omega.{arith}
 use mathlib.Core.Path.{◌≡◌, refl, sym, ap, ap₂, ◌∙◌, subst}
-use mathlib.Core.List.{List, [], ◌∷◌}
-use lib.ListN.{length, take, drop, get_or, set, length-drop, length-set, length-take, drop_of_length-le, get_or-eq_default}
-use lib.Seq.{drop-cons, ext_get_or, get_or-drop, get_or-take, length-take-le}
+use mathlib.Core.List.{List, [], ◌∷◌, ◌++◌}
+use lib.ListN.{length, take, drop, get_or, set, length-append, length-drop, length-set, get_or-append, drop_of_length-le, get_or-eq_default}
+use lib.Seq.{drop-cons, ext_get_or, get_or-append_right, get_or-drop, get_or-take, length-take-le, take_at}
+use Rattle.std.proofs.lemmas.List.{take-append-le}
 use Rattle.definition.specs.Field.{Field, power}
 use Rattle.definition.specs.Polynomial.{geometric, quotient}
 use Rattle.algebra.specs.Laws.{FieldLaws}
@@ -24,7 +25,7 @@ use Rattle.division.specs.LongDivision.{Dividing, Divides, coefficient_is, produ
 
 module _ {A : Type 0} (F : Field A) where
   -- a sum ends where the shorter list does
-  products_cut : (n : ℕ) (l w : List A) → length w ≤ n → products F (take n l) w ≡ products F l w
+  pub products_cut : (n : ℕ) (l w : List A) → min (length l) (length w) ≤ n → products F (take n l) w ≡ products F l w
   unfolding products
   products_cut zero [] w h = refl
   products_cut (suc n) [] w h = refl
@@ -32,10 +33,6 @@ module _ {A : Type 0} (F : Field A) where
   products_cut (suc n) (a ∷ l) [] h = refl
   products_cut zero (a ∷ l) (b ∷ w) h = absurd (omega arith)
   products_cut (suc n) (a ∷ l) (b ∷ w) h = ap (F.◌⊕◌ (F.◌⊗◌ a b)) (products_cut n l w (omega arith))
-
-  pub behind_is : (l w part : List A) (n : ℕ) {r : A} → length w ≤ n → part ≡ take (length w) l → r ≡ products F part w → r ≡ products F (take n l) w
-  behind_is l w part n h ep er =
-      er ∙ ap (λ (p : List A). products F p w) ep ∙ products_cut (length w) l w (le_refl (length w)) ∙ sym (products_cut n l w h)
 
 -- ---- one factor more
 
@@ -56,6 +53,21 @@ module _ {A : Type 0} (F : Field A) (d : A) (w₀ : List A) where
         filled_next raised_at w₀ w i h.0 l (er ∙ ap₂ (λ (a b : A). a ⊕ d ⊗ b) same h.1),
         same ∙ ap (λ (n : ℕ). get_or (𝟘 ∷ w₀) n 𝟘) (sym (add-one i)),
       )
+
+  -- the first n coefficients raised, and the others left
+  pub raised_front : (w : List A) (n : ℕ) → n ≤ length w₀ → FilledOver 𝟘 (λ m. get_or (take n w₀) m 𝟘 ⊕ d ⊗ get_or (𝟘 ∷ take n w₀) m 𝟘) (take n w₀) w (length (take n w₀)) →
+      FilledOver 𝟘 raised_at w₀ (w ++ drop n w₀) n
+  raised_front w n h t =
+      let front : length (take n w₀) ≡ n = length-take-le n w₀ h in
+      let long : length w ≡ n = t.same ∙ front in record {
+        same = simp (length-append, length-drop) (omega arith);
+        passed = λ k l. get_or-append w (drop n w₀) 𝟘 k (omega arith) ∙ t.passed k (omega arith) ∙ ap₂ (λ (a b : A). a ⊕ d ⊗ b) (get_or-take n w₀ k 𝟘 l) (below k l);
+        left = λ k l. get_or-append_right w (drop n w₀) k 𝟘 (omega arith) ∙ get_or-drop n w₀ (k - length w) 𝟘 ∙ ap (λ (m : ℕ). get_or w₀ m 𝟘) (omega arith);
+      }
+    where
+      below : (k : ℕ) → k < n → get_or (𝟘 ∷ take n w₀) k 𝟘 ≡ get_or (𝟘 ∷ w₀) k 𝟘
+      below zero l = refl
+      below (suc k) l = get_or-take n w₀ k 𝟘 (omega arith)
 
   module _ (L : FieldLaws F) (xs w : List A) (n : ℕ) (size : n ≡ length xs + 2) (room : n ≤ length w₀) (before : Dividing F L xs w₀) (fill : FilledOver 𝟘 raised_at w₀ w n) where
     beyond : (m : ℕ) → n ≤ m → 𝟘 ≡ raised_at m
@@ -179,16 +191,16 @@ module _ {A : Type 0} (F : Field A) (L : FieldLaws F) where
 
   -- ---- all together
 
-  pub divided : (all f₀ f₁ f₂ v : List A) (from count : ℕ) → Divides F L (drop from all) v →
-      ((xs : List A) → Divides F L xs v → take (count - length v) (drop (length v) f₁) ≡ quotient F (take count f₀) xs) →
-      take (count - (length all - from)) f₂ ≡ take (count - (length all - from)) (drop (length all - from) f₁) →
-      take (count - (length all - from)) f₂ ≡ quotient F (take count f₀) (drop from all)
-  divided all f₀ f₁ f₂ v from count d sums moved =
-      let size : length all - from ≡ length v = sym (d.many ∙ length-drop from all) in
-      moved ∙ (λ z. take (count - size z) (drop (size z) f₁)) ∙ sums (drop from all) d
-
-pub part_short : {A : Type 0} (n : ℕ) (l : List A) {p : List A} → p ≡ take n l → length p ≤ n
-part_short n l e = rw (e, length-take) (min-le_left n (length l))
+  pub divided : (xs f₀ f₁ f₂ v rest : List A) (count e : ℕ) → Divides F L xs v → length v ≡ e → length f₁ ≡ count →
+      ((xs : List A) → Divides F L xs v → drop (length v) f₁ ≡ quotient F (take count f₀) xs) →
+      length f₂ ≡ length (take count (f₁ ++ drop count f₀)) →
+      take (length (take count (f₁ ++ drop count f₀)) - e) f₂ ≡ drop e (take count (f₁ ++ drop count f₀)) →
+      take (count - e) (f₂ ++ rest) ≡ quotient F (take count f₀) xs
+  divided xs f₀ f₁ f₂ v rest count e d size long sums same moved =
+      let back : take count (f₁ ++ drop count f₀) ≡ f₁ = take_at f₁ (drop count f₀) count long in
+      let n : length (take count (f₁ ++ drop count f₀)) ≡ count = ap length back ∙ long in
+      take-append-le (count - e) f₂ rest (omega arith) ∙ ap (λ (m : ℕ). take (m - e) f₂) (sym n) ∙ moved ∙ ap (drop e) back
+      ∙ ap (λ (m : ℕ). drop m f₁) (sym size) ∙ sums xs d
 
 -- ---- elements moved
 

@@ -11,78 +11,65 @@ ghost use Rattle.list_laws.specs.Filled.{Filled};
 ghost use Rattle.sums.specs.Sums.{products};
 ghost use Rattle.division.specs.LongDivision.{Dividing, Divides};
 
-// The first `count` coefficients of w, 1 + dX times.
-fn raise(field: u32, d: u32, count: usize, w: &mut [u32])
-    requires { count ≤ length w.old }
-    ensures { Filled (λ m. (field_of field).◌⊕◌ (get_or w.old m 0) ((field_of field).◌⊗◌ d (get_or (0 ∷ w.old) m 0))) w.old w.new count }
+// 1 + dX times.
+fn raise(field: u32, d: u32, w: &mut [u32])
+    ensures { Filled (λ m. (field_of field).◌⊕◌ (get_or w.old m 0) ((field_of field).◌⊗◌ d (get_or (0 ∷ w.old) m 0))) w.old w.new (length w.old) }
 {
     let mut below: u32 = 0;
-    let mut i = 0;
-    while i < count {
-        let c = w[i];
-        w[i] = field::add_product(field, c, d, below);
+    for w_i in w.iter_mut() {
+        let c = *w_i;
+        *w_i = field::add_product(field, c, d, below);
         below = c;
-        i += 1;
     }
 }
 
-// 1 - aX times for each point from number `from` on.
-fn raise_each(field: u32, xs: &[u32], from: usize, w: &mut [u32])
-    requires from_in_bounds { (from ≤ length xs.now) × (length xs.now - from < length w.old) }
+// 1 - aX times for each point, from the last to the first.
+fn raise_each(field: u32, xs: &[u32], w: &mut [u32])
+    requires room { length xs.now < length w.old }
     requires dividing { Dividing (field_of field) (laws field) [] w.old }
-    ensures { Dividing (field_of field) (laws field) (drop from xs.now) w.new }
+    ensures { Dividing (field_of field) (laws field) xs.now w.new }
 {
-    let mut i = xs.len();
-    while from < i {
-        i -= 1;
+    for i in (0..xs.len()).rev() {
         let d = field::sub(field, 0, xs[i]);
-        raise(field, d, xs.len() - i + 1, w);
+        raise(field, d, &mut w[..xs.len() - i + 1]);
     }
 }
 
-// The coefficients of the product of 1 - aX over the points from number `from` on, and zeros behind them. The powers of 0 are 1 and then zeros.
-fn factors(field: u32, xs: &[u32], from: usize, w: &mut [u32])
-    requires { (from ≤ length xs.now) × (length xs.now - from < length w.old) }
-    ensures { Dividing (field_of field) (laws field) (drop from xs.now) w.new }
+// The coefficients of the product of 1 - aX over the points, and zeros behind them. The powers of 0 are 1 and then zeros.
+fn factors(field: u32, xs: &[u32], w: &mut [u32])
+    requires { length xs.now < length w.old }
+    ensures { Dividing (field_of field) (laws field) xs.now w.new }
 {
     sums::powers(field, 0, w);
-    raise_each(field, xs, from, w);
+    raise_each(field, xs, w);
 }
 
-// The sum of w times the coefficients from number i on, as far as either goes.
-fn behind(field: u32, w: &[u32], f: &[u32], i: usize, count: usize) -> u32
-    requires { (i ≤ count) × ((count ≤ length f.now) × (length w.now ≤ 66)) }
-    ensures { result ≡ products (field_of field) (take (count - i) (drop i f.now)) w.now }
+// The sum of w times the coefficients, as far as either goes.
+fn behind(field: u32, w: &[u32], f: &[u32]) -> u32
+    requires { length w.now ≤ 66 }
+    ensures { result ≡ products (field_of field) f.now w.now }
 {
-    let left = count - i;
-    if left < w.len() {
-        return sums::sum(field, lists::part(f, i, left), w);
-    }
-    sums::sum(field, lists::part(f, i, w.len()), w)
+    sums::sum(field, &f[..f.len().min(w.len())], w)
 }
 
 // The quotient by as many points as w has words, in place, from the last coefficient to the first: it stands where the dividend's coefficients stood.
-fn by_sums(field: u32, w: &[u32], f: &mut [u32], count: usize)
-    requires { (length w.now ≤ count) × ((count ≤ length f.old) × (length w.now ≤ 66)) }
-    ensures { (xs : List ℕ) → Divides (field_of field) (laws field) xs w.now → take (count - length w.now) (drop (length w.now) f.new) ≡ quotient (field_of field) (take count f.old) xs }
+fn by_sums(field: u32, w: &[u32], f: &mut [u32])
+    requires { (length w.now ≤ length f.old) × (length w.now ≤ 66) }
+    ensures { (xs : List ℕ) → Divides (field_of field) (laws field) xs w.now → drop (length w.now) f.new ≡ quotient (field_of field) f.old xs }
 {
-    let mut i = count;
-    while w.len() < i {
-        let s = behind(field, w, f, i, count);
-        i -= 1;
+    for i in (w.len()..f.len()).rev() {
+        let s = behind(field, w, &f[i + 1..]);
         f[i] = field::sub(field, f[i], s);
     }
 }
 
-// n words, e places down.
-fn move_down(f: &mut [u32], e: usize, n: usize)
-    requires { e + n ≤ length f.old }
-    ensures { take n f.new ≡ take n (drop e f.old) }
+// All words from number e on, e places down.
+fn move_down(f: &mut [u32], e: usize)
+    requires { e ≤ length f.old }
+    ensures { take (length f.old - e) f.new ≡ drop e f.old }
 {
-    let mut i = 0;
-    while i < n {
+    for i in 0..f.len() - e {
         f[i] = f[e + i];
-        i += 1;
     }
 }
 
@@ -94,7 +81,7 @@ pub fn divide_all(field: u32, xs: &[u32], from: usize, f: &mut [u32], count: usi
 {
     let e = xs.len() - from;
     let mut w = [0u32; lists::PLACES];
-    factors(field, xs, from, &mut w);
-    by_sums(field, lists::part(&w, 1, e), f, count);
-    move_down(f, e, count - e);
+    factors(field, &xs[from..], &mut w);
+    by_sums(field, &w[1..e + 1], &mut f[..count]);
+    move_down(&mut f[..count], e);
 }

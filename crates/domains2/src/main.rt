@@ -7,7 +7,6 @@ ghost use Rattle.definition.specs.Sheet.{edition2};
 ghost use Rattle.input.specs.Told.{Tells};
 ghost use Rattle.listing.specs.Listing.{listing};
 
-use input::Input;
 use std::io;
 use std::io::{Read, Write};
 
@@ -20,7 +19,7 @@ fn run<R: Read, W: Write, E: Write>(reader: &mut R, to: &mut W, err: &mut E) -> 
     ensures { result ≡ true → Tells 16384 (listing edition2) (R.remaining reader.old) (W.contents to.old) (W.contents to.new) }
 {
     let mut bytes = [0u8; 16384];
-    let Input::Bytes(n) = input::fill(reader, &mut bytes) else {
+    let Ok(n) = input::fill(reader, &mut bytes) else {
         let _ = input::not_read(err);
         return false;
     };

@@ -43,14 +43,12 @@ fn out_coin(field: u32, pw: &[u32], scale: usize, before: u32, generator: Genera
 {
     let p = field::modulus(field);
     let mut current = generator;
-    let mut again: u32 = 64;
-    while 0 < again {
+    for _ in 0..64u32 {
         let d = current.below(p);
         if allowed(pw, scale, before, d.value) {
             return d;
         }
         current = d.next;
-        again -= 1;
     }
     let last = current.below(p);
     if allowed(pw, scale, before, last.value) {
@@ -79,13 +77,11 @@ fn out_coins(
     let field = w[0];
     let mut before = field::modulus(field);
     let mut current = generator;
-    let mut i = 0;
-    while i < out.len() {
+    for x in out.iter_mut() {
         let d = out_coin(field, pw, scale, before, current);
         before = d.value;
-        out[i] = before;
+        *x = before;
         current = d.next;
-        i += 1;
     }
     current
 }

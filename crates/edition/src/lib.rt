@@ -52,10 +52,9 @@ pub fn degree(e: Edition, w: &[u32], i: usize) -> usize
     ensures { result ≡ get_or w.now 2 0 / product_of (take i (fold_words (edition_of e) w.now)) }
 {
     let mut d = w[2] as usize;
-    let mut j = 0;
-    while j < i {
-        d /= fold(e, w, j);
-        j += 1;
+    for j in 0..i {
+        let k = fold(e, w, j);
+        d /= k;
     }
     d
 }

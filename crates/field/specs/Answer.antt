@@ -1,29 +1,24 @@
 -- What the answer of a public operation says, in the words of the definition. Assumes nothing.
-use Rattle.std.specs.Prelude.{ℕ}
-use Rattle.std.proofs.Math.Option.{Option, none, some}
+use Rattle.std.specs.Prelude.{ℕ, Option, Some, None, Result, Ok, Err}
+use Rattle.std.proofs.Math.Option as math
 use Rattle.definition.specs.Field.{FieldAnswer, element, no_field, PowerAnswer, powered, in_no_field, InverseAnswer, found, no_inverse, unknown_field}
-use Rattle.field.specs.declared.Element.{Element}
-use Rattle.field.specs.declared.Element.TheVariants.{Value, NoField}
-use Rattle.field.specs.declared.PowerTurns.{PowerTurns}
-use Rattle.field.specs.declared.PowerTurns.TheVariants as power_turns
-use Rattle.field.specs.declared.Inversion.{Inversion}
-use Rattle.field.specs.declared.Inversion.TheVariants as inversion
-use Rattle.field.specs.declared.Inverted.{Inverted}
-use Rattle.field.specs.declared.Inverted.TheVariants as inverted
+use Rattle.arithmetic.specs.Found.{found_as}
+use Rattle.arithmetic.specs.declared.Powered.{Powered}
+use Rattle.field.specs.declared.NoInverse.{NoInverse}
+use Rattle.field.specs.declared.NoInverse.TheVariants.{Zero, NoField}
 
-abbrev pub element_of : Element → FieldAnswer
-element_of (Value x) = element x
-element_of NoField = no_field
+abbrev pub element_of : Option ℕ → FieldAnswer
+element_of (Some x) = element x
+element_of None = no_field
 
-abbrev pub powered_of : PowerTurns → PowerAnswer
-powered_of (power_turns.Value x turns) = powered x turns
-powered_of power_turns.NoField = in_no_field
+abbrev pub powered_of : Option (Powered ℕ) → PowerAnswer
+powered_of (Some p) = powered p.value p.turns
+powered_of None = in_no_field
 
-abbrev pub inversion_of : Inversion → Option ℕ
-inversion_of (inversion.Found x) = some x
-inversion_of inversion.Nothing = none
+abbrev pub inversion_of : Option ℕ → math.Option ℕ
+inversion_of r = found_as (λ x. x) r
 
-abbrev pub inverted_of : Inverted → InverseAnswer
-inverted_of (inverted.Found x) = found x
-inverted_of inverted.Nothing = no_inverse
-inverted_of inverted.NoField = unknown_field
+abbrev pub inverted_of : Result ℕ NoInverse → InverseAnswer
+inverted_of (Ok x) = found x
+inverted_of (Err Zero) = no_inverse
+inverted_of (Err NoField) = unknown_field

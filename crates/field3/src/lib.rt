@@ -7,7 +7,8 @@ ghost use Rattle.definition.specs.Field.{sum3, difference3, product3, power3, po
 ghost use Rattle.quartic.specs.Meaning.{quad_of, inverse_four};
 ghost use Rattle.field3.specs.Words.{quad_at, spelt};
 
-use quartic::{Four, FourInverse};
+use arithmetic::Powered;
+use quartic::{Four, FourWords};
 
 // The element of four words, and the words of an element.
 fn element(w: [u32; 4]) -> Four
@@ -48,21 +49,14 @@ pub fn product(x: [u32; 4], y: [u32; 4]) -> [u32; 4]
     words(quartic::mul(element(x), element(y)))
 }
 
-// A power, and the turns that its loop made.
-#[derive(Clone, Copy)]
-pub struct PowerTurns {
-    pub power: [u32; 4],
-    pub turns: u32,
-}
-
 // The power, and as many turns as the exponent has binary digits; 0^0 is 1.
-pub fn power_turns(x: [u32; 4], exponent: u32) -> PowerTurns
-    ensures power_value { result.power ≡ spelt (power_turns3 (quad_at x) exponent).power }
+pub fn power_turns(x: [u32; 4], exponent: u32) -> Powered<[u32; 4]>
+    ensures power_value { result.value ≡ spelt (power_turns3 (quad_at x) exponent).power }
     ensures turns_value { result.turns ≡ (power_turns3 (quad_at x) exponent).turns }
 {
-    let p = quartic_power::pow_turns(element(x), exponent);
-    PowerTurns {
-        power: words(p.value),
+    let p = arithmetic::pow_turns(FourWords, element(x), exponent);
+    Powered {
+        value: words(p.value),
         turns: p.turns,
     }
 }
@@ -72,7 +66,7 @@ pub fn power(x: [u32; 4], exponent: u32) -> [u32; 4]
     ensures { result ≡ spelt (power3 (quad_at x) exponent) }
 {
     let p = power_turns(x, exponent);
-    p.power
+    p.value
 }
 
 // Each word taken modulo p.
@@ -88,7 +82,7 @@ fn reduce(x: Four) -> Four
 }
 
 // The inverse, or that there is none, which is so exactly where all four words are multiples of p.
-pub fn inverse(x: [u32; 4]) -> FourInverse
+pub fn inverse(x: [u32; 4]) -> Option<Four>
     ensures { inverse_four result ≡ inverse3 (quad_at x) }
 {
     quartic::inv(reduce(element(x)))

@@ -11,7 +11,6 @@ ghost use Rattle.nearest_bytes.specs.NearestInput.{nearest_written};
 ghost use Rattle.input.specs.Told.{Tells};
 
 use edition::Edition;
-use input::Input;
 use program_output::Written;
 use std::io::{Read, Write};
 
@@ -27,7 +26,7 @@ pub fn prove_input<R: Read, W: Write, E: Write>(
     ensures error { result ≡ true → Tells 16384 (λ bytes. (prove_written (edition_of e) bytes).error) (R.remaining reader.old) (E.contents err.old) (E.contents err.new) }
 {
     let mut bytes = [0u8; 16384];
-    let Input::Bytes(n) = input::fill(reader, &mut bytes) else {
+    let Ok(n) = input::fill(reader, &mut bytes) else {
         let _ = input::not_read(err);
         return false;
     };
@@ -43,13 +42,13 @@ pub fn prove_batch<R: Read, W: Write, E: Write>(reader: &mut R, out: &mut W, err
     ensures error { result ≡ true → Tells 32768 (λ bytes. (batch_written bytes).error) (R.remaining reader.old) (E.contents err.old) (E.contents err.new) }
 {
     let mut bytes = [0u8; 32768];
-    let Input::Bytes(n) = input::fill(reader, &mut bytes) else {
+    let Ok(n) = input::fill(reader, &mut bytes) else {
         let _ = input::not_read(err);
         return false;
     };
     let mut output = [0u8; 50688];
     let written = program_output::prove_batch(input::front(&bytes, n), &mut output);
-    deliver_batch(written, &output, out, err)
+    deliver(written, &output, out, err)
 }
 
 // Finds the nearest polynomial to a table, given as words: a sheet of edition 1, then table 0. Of a longer input the first 32,768 bytes are read; no order that is
@@ -59,13 +58,13 @@ pub fn find_nearest<R: Read, W: Write, E: Write>(reader: &mut R, out: &mut W, er
     ensures error { result ≡ true → Tells 32768 (λ bytes. (nearest_written bytes).error) (R.remaining reader.old) (E.contents err.old) (E.contents err.new) }
 {
     let mut bytes = [0u8; 32768];
-    let Input::Bytes(n) = input::fill(reader, &mut bytes) else {
+    let Ok(n) = input::fill(reader, &mut bytes) else {
         let _ = input::not_read(err);
         return false;
     };
     let mut output = [0u8; 12292];
     let written = nearest_bytes::find(input::front(&bytes, n), &mut output);
-    deliver_words(written, &output, out, err)
+    deliver(written, &output, out, err)
 }
 
 // Converts a file of the other edition to this one. Of a longer input the first 65,536 bytes are read; no file that is converted is so long.
@@ -79,7 +78,7 @@ pub fn convert_file<R: Read, W: Write, E: Write>(
     ensures error { result ≡ true → Tells 65536 (λ bytes. (convert_written (edition_of to) bytes).error) (R.remaining reader.old) (E.contents err.old) (E.contents err.new) }
 {
     let mut bytes = [0u8; 65536];
-    let Input::Bytes(n) = input::fill(reader, &mut bytes) else {
+    let Ok(n) = input::fill(reader, &mut bytes) else {
         let _ = input::not_read(err);
         return false;
     };
@@ -88,44 +87,14 @@ pub fn convert_file<R: Read, W: Write, E: Write>(
     deliver(written, &output, out, err)
 }
 
-// What goes to the output, of the places of a plain file, and what goes to the writer of refusals.
-fn deliver<W: Write, E: Write>(
+// What goes to the output, of the N places lent for it, and what goes to the writer of refusals.
+fn deliver<const N: usize, W: Write, E: Write>(
     written: Written,
-    output: &[u8; 34304],
+    output: &[u8; N],
     out: &mut W,
     err: &mut E,
 ) -> bool
-    requires { (written.length ≤ 34304) × (written.error.length ≤ 64) }
-    ensures output { result ≡ true → Appends (W.contents out.old) (W.contents out.new) (take written.length output.now) }
-    ensures error { result ≡ true → Appends (E.contents err.old) (E.contents err.new) (text_of written.error) }
-{
-    let all: &[u8] = output;
-    write(written, all, out, err)
-}
-
-// What goes to each of them, of the places of a batch.
-fn deliver_batch<W: Write, E: Write>(
-    written: Written,
-    output: &[u8; 50688],
-    out: &mut W,
-    err: &mut E,
-) -> bool
-    requires { (written.length ≤ 50688) × (written.error.length ≤ 64) }
-    ensures output { result ≡ true → Appends (W.contents out.old) (W.contents out.new) (take written.length output.now) }
-    ensures error { result ≡ true → Appends (E.contents err.old) (E.contents err.new) (text_of written.error) }
-{
-    let all: &[u8] = output;
-    write(written, all, out, err)
-}
-
-// What goes to each of them, of the places of the nearest polynomial's words.
-fn deliver_words<W: Write, E: Write>(
-    written: Written,
-    output: &[u8; 12292],
-    out: &mut W,
-    err: &mut E,
-) -> bool
-    requires { (written.length ≤ 12292) × (written.error.length ≤ 64) }
+    requires { (written.length ≤ N) × ((written.error.length ≤ 64) × (N ≤ 65536)) }
     ensures output { result ≡ true → Appends (W.contents out.old) (W.contents out.new) (take written.length output.now) }
     ensures error { result ≡ true → Appends (E.contents err.old) (E.contents err.new) (text_of written.error) }
 {

@@ -33,6 +33,10 @@ module _ {A : Type 0} (z : A) (pw : List A) where
   unfoldable pub inverse_power_in : ℕ → A
   inverse_power_in e = get_or pw (length pw - 1 - e % length pw) z
 
+-- the inverse of ω^e, a word of the prime field, as an element
+abbrev pub inverse_as : {C : Type 0} → (ℕ → C) → List ℕ → ℕ → C
+inverse_as number pw e = number (inverse_power_in 0 pw e)
+
 module _ {A : Type 0} (F : Field A) (L : FieldLaws F) where
   infixl 70 ◌⊗◌
   open F use {𝟘, 𝟙, ◌⊗◌}

@@ -3,7 +3,7 @@ use Prim.Native.Nat.{ℕ, ◌+◌, ◌*◌, ◌<◌}
 use mathlib.Core.Path.{◌≡◌}
 use mathlib.Core.List.{List}
 use lib.ListN.{length, get_or}
-use Rattle.definition.specs.Field.{Field, prime_field, prime_of, spelling_of, field_in, quads, elements_in}
+use Rattle.definition.specs.Field.{prime_field, prime_of, spelling_of, field_in, quads, elements_in}
 use Rattle.spelling.specs.Field3.{field3}
 use Rattle.list_laws.specs.Filled.{Filled, FilledOver}
 use Rattle.spelling.specs.ByField.{field_at, elements_at, at_three, at_one, from_three, from_one}

@@ -5,12 +5,15 @@
 #![tactic(auto)]
 
 ghost use Rattle.std.specs.Prelude.{◌≡◌, ℕ, ◌+◌, ◌*◌, ◌≤◌, ◌<◌, length, get_or};
-ghost use Rattle.definition.specs.Field.{Field, quads};
-ghost use Rattle.list_laws.specs.Filled.{Filled, FilledOver};
-ghost use Rattle.spelling.specs.Field3.{field3};
+ghost use Rattle.definition.specs.Field.{Field};
+ghost use Rattle.list_laws.specs.Filled.{FilledOver};
 ghost use Rattle.spelling.specs.ByField.{field_at, elements_at, points_at, words_at};
 ghost use Rattle.fractions.specs.Fraction.{Fraction};
 ghost use Rattle.fractions.specs.Values.{Fits, Clear, ShiftPowers, root_in};
+
+use arithmetic::Arithmetic;
+use field::Prime;
+use quartic::FourWords;
 
 // How the function of a level is worked out: its point m stands at scale·m in pw, the roots of a shift point have numbers that are `step` apart, and the first
 // `words` of the coefficients are in use. Before the first round there are no samples, no words, and the table's own values are the function's.
@@ -24,40 +27,25 @@ pub struct Oracle {
 // Places for the powers of a shift point, at most 66 / 2.
 const POWERS: usize = 33;
 
-// Every step-th word from number j on: of a table its values at the roots of shift point j.
-fn gather_one(table: &[u32], step: usize, j: usize, values: &mut [u32])
-    requires { (m : ℕ) → m < length values.old → j + step * m < length table.now }
-    ensures { Filled (λ m. get_or table.now (j + step * m) 0) values.old values.new (length values.old) }
-{
-    let mut m = 0;
-    while m < values.len() {
-        values[m] = sums::every(table, j, step, m);
-        m += 1;
-    }
-}
-
-// Every step-th element of four words from number j on.
-fn gather_four(table: &[u32], step: usize, j: usize, values: &mut [u32])
-    requires { (m : ℕ) → m < length (quads values.old) → j + step * m < length (quads table.now) }
-    ensures { FilledOver field3.𝟘 (λ m. get_or (quads table.now) (j + step * m) field3.𝟘) (quads values.old) (quads values.new) (length (quads values.old)) }
-{
-    let n = quartic::count(values);
-    let mut m = 0;
-    while m < n {
-        quartic::put(values, m, quartic::get(table, j + step * m));
-        m += 1;
-    }
-}
-
 // Every step-th element from number j on: of a table its values at the roots of shift point j.
+fn gather_over<A: Arithmetic>(a: A, table: &[u32], step: usize, j: usize, values: &mut [u32])
+    requires { (m : ℕ) → m < length (A.elements values.old) → j + step * m < length (A.elements table.now) }
+    ensures { FilledOver (A.over a).𝟘 (λ m. get_or (A.elements table.now) (j + step * m) (A.over a).𝟘) (A.elements values.old) (A.elements values.new) (length (A.elements values.old)) }
+{
+    for m in 0..a.count(values) {
+        a.put(values, m, a.get(table, j + step * m));
+    }
+}
+
+// The same in either spelling.
 pub fn gather(field: u32, table: &[u32], step: usize, j: usize, values: &mut [u32])
     requires { (m : ℕ) → m < length (elements_at field values.old) → j + step * m < length (elements_at field table.now) }
     ensures { FilledOver (field_at field).𝟘 (λ m. get_or (elements_at field table.now) (j + step * m) (field_at field).𝟘) (elements_at field values.old) (elements_at field values.new) (length (elements_at field values.old)) }
 {
     if field == 3 {
-        gather_four(table, step, j, values);
+        gather_over(FourWords, table, step, j, values);
     } else {
-        gather_one(table, step, j, values);
+        gather_over(Prime { field: field }, table, step, j, values);
     }
 }
 

@@ -46,30 +46,20 @@ impl Generator {
         ensures { record { value = out.new; next = result.v } ≡ draw_many limit (length out.old) self.v }
     {
         let mut generator = self;
-        let mut i = 0;
-        while i < out.len() {
+        for i in 0..out.len() {
             let d = generator.below(limit);
             out[i] = d.value;
             generator = d.next;
-            i += 1;
         }
         generator
     }
-}
-
-// Byte i, or 0 where it is missing.
-fn byte(bytes: &[u8], i: usize) -> u32
-    ensures { (result ≡ get_or bytes.now i 0) × (result < 256) }
-{
-    if i < bytes.len() {
-        return bytes[i] as u32;
-    }
-    0
 }
 
 // The word in the first four bytes, the least significant first.
 pub fn seed(bytes: &[u8]) -> u32
     ensures { result ≡ seed_of bytes.now }
 {
-    byte(bytes, 0) + 256 * byte(bytes, 1) + 65536 * byte(bytes, 2) + 16777216 * byte(bytes, 3)
+    // byte i, or 0 where it is missing
+    let at = |i: usize| bytes.get(i).copied().unwrap_or(0);
+    u32::from_le_bytes([at(0), at(1), at(2), at(3)])
 }

@@ -40,107 +40,6 @@ fn coin(w: &[u32], coins: &[u32], n: usize) -> Four
     elements::at(w[0], coins, at)
 }
 
-// The points of the round's samples, without repeats, in the last places of xs. They do not depend on the round's polynomial.
-fn sample_points(
-    e: Edition,
-    w: &[u32],
-    pw: &[u32],
-    level: usize,
-    scale: usize,
-    coins: &[u32],
-    xs: &mut [u32],
-) -> usize
-    requires invariant { (Invariant (edition_of e) w.now pw.now level scale) × (level < rounds_of (sheet_of (edition_of e) w.now)) }
-    requires round_coins_fit { (RoundCoinsFit (sheet_of (edition_of e) w.now) level coins.now) × (length (elements_at (get_or w.now 0 0) xs.old) ≡ 50) }
-    ensures points { Points (sheet_of (edition_of e) w.now) level coins.now result xs.new }
-    ensures upper_bound { (result ≤ length (elements_at (get_or w.now 0 0) xs.old)) × (length (elements_at (get_or w.now 0 0) xs.old) - result < degree_of (sheet_of (edition_of e) w.now) (level + 1)) }
-{
-    let s = w[5] as usize;
-    let t = w[6 + level] as usize;
-    let width = elements::width(w[0]);
-    let a = width * s;
-    let first = width * (s + 2);
-    let k = folding_number(e, w, level);
-    distinct::points(
-        w[0],
-        pw,
-        scale,
-        k,
-        &coins[..a],
-        &coins[first..first + t],
-        xs,
-    )
-}
-
-// The corrected polynomial of the next level, where g holds the round's polynomial, with places for the points. What g and they hold afterwards is of no use.
-fn correct_within(
-    e: Edition,
-    w: &[u32],
-    pw: &[u32],
-    level: usize,
-    scale: usize,
-    coins: &[u32],
-    xs: &mut [u32],
-    g: &mut [u32],
-    next: &mut [u32],
-)
-    requires invariant { (Invariant (edition_of e) w.now pw.now level scale) × (level < rounds_of (sheet_of (edition_of e) w.now)) }
-    requires next_len { length (elements_at (get_or w.now 0 0) next.old) ≡ degree_of (sheet_of (edition_of e) w.now) (level + 1) }
-    requires round_coins_fit { (RoundCoinsFit (sheet_of (edition_of e) w.now) level coins.now) × (length (elements_at (get_or w.now 0 0) next.old) ≤ length (elements_at (get_or w.now 0 0) g.old)) }
-    requires xs_len { (length (elements_at (get_or w.now 0 0) xs.old) ≡ 50) × (length xs.old ≤ 4096) }
-    ensures { CorrectedIn (sheet_of (edition_of e) w.now) level coins.now (length (elements_at (get_or w.now 0 0) next.old)) g.old next.new }
-{
-    let from = sample_points(e, w, pw, level, scale, coins, xs);
-    let d = elements::count(w[0], next);
-    let c = coin(w, coins, 0);
-    correction::corrected(w[0], xs, from, c, g, d, next);
-}
-
-// The same with places of its own for the points of four words.
-fn correct_four(
-    e: Edition,
-    w: &[u32],
-    pw: &[u32],
-    level: usize,
-    scale: usize,
-    coins: &[u32],
-    g: &mut [u32],
-    next: &mut [u32],
-)
-    requires invariant { (Invariant (edition_of e) w.now pw.now level scale) × (level < rounds_of (sheet_of (edition_of e) w.now)) }
-    requires next_len { length (elements_at (get_or w.now 0 0) next.old) ≡ degree_of (sheet_of (edition_of e) w.now) (level + 1) }
-    requires round_coins_fit { (RoundCoinsFit (sheet_of (edition_of e) w.now) level coins.now) × (length (elements_at (get_or w.now 0 0) next.old) ≤ length (elements_at (get_or w.now 0 0) g.old)) }
-    requires w_value { get_or w.now 0 0 ≡ 3 }
-    ensures { CorrectedIn (sheet_of (edition_of e) w.now) level coins.now (length (elements_at (get_or w.now 0 0) next.old)) g.old next.new }
-{
-    let mut xs = [0u32; FOUR_POINTS];
-    correct_within(e, w, pw, level, scale, coins, &mut xs, g, next);
-}
-
-// The same with places of its own for the points.
-fn correct(
-    e: Edition,
-    w: &[u32],
-    pw: &[u32],
-    level: usize,
-    scale: usize,
-    coins: &[u32],
-    g: &mut [u32],
-    next: &mut [u32],
-)
-    requires invariant { (Invariant (edition_of e) w.now pw.now level scale) × (level < rounds_of (sheet_of (edition_of e) w.now)) }
-    requires next_len { length (elements_at (get_or w.now 0 0) next.old) ≡ degree_of (sheet_of (edition_of e) w.now) (level + 1) }
-    requires round_coins_fit { (RoundCoinsFit (sheet_of (edition_of e) w.now) level coins.now) × (length (elements_at (get_or w.now 0 0) next.old) ≤ length (elements_at (get_or w.now 0 0) g.old)) }
-    ensures { CorrectedIn (sheet_of (edition_of e) w.now) level coins.now (length (elements_at (get_or w.now 0 0) next.old)) g.old next.new }
-{
-    if w[0] == 3 {
-        correct_four(e, w, pw, level, scale, coins, g, next);
-    } else {
-        let mut xs = [0u32; POINTS];
-        correct_within(e, w, pw, level, scale, coins, &mut xs, g, next);
-    }
-}
-
 // The number of coefficients of the fold of n coefficients at a level.
 pub fn fold_length(e: Edition, w: &[u32], level: usize, n: usize) -> usize
     requires { AtLevel (edition_of e) w.now level }
@@ -158,31 +57,98 @@ pub fn fold(e: Edition, w: &[u32], level: usize, r: Four, f: &[u32], out: &mut [
     correction::fold(w[0], k, r, f, out);
 }
 
-// What a round leaves, after a level whose polynomial's fold, of d coefficients, stands at the front of g: the corrected polynomial of the next level, in the
-// first d places of next; and that polynomial's fold, of `folded` coefficients, at the front of g again.
-fn next_fold(
+// A round: the edition, the sheet's words, the table of the points of domain 0, the level before it with its scale, and the coins still to come.
+#[derive(Clone, Copy)]
+struct Round<'a> {
     e: Edition,
-    w: &[u32],
-    pw: &[u32],
+    w: &'a [u32],
+    pw: &'a [u32],
     level: usize,
     scale: usize,
-    d: usize,
-    folded: usize,
-    coins: &[u32],
-    g: &mut [u32],
-    next: &mut [u32],
-)
-    requires invariant { (Invariant (edition_of e) w.now pw.now level scale) × (level < rounds_of (sheet_of (edition_of e) w.now)) }
-    requires d_value { (d ≡ degree_of (sheet_of (edition_of e) w.now) (level + 1)) × (folded ≡ degree_of (sheet_of (edition_of e) w.now) (level + 1 + 1)) }
-    requires round_coins_fit { (RoundCoinsFit (sheet_of (edition_of e) w.now) level coins.now) × ((words_at (get_or w.now 0 0) d ≤ length g.old) × (words_at (get_or w.now 0 0) d ≤ length next.old)) }
-    ensures { FoldAfter (sheet_of (edition_of e) w.now) level coins.now d folded g.old g.new }
-{
-    let width = elements::width(w[0]);
-    let n = width * d;
-    let m = width * folded;
-    correct(e, w, pw, level, scale, coins, g, &mut next[..n]);
-    let r = coin(w, coins, 1);
-    fold(e, w, level + 1, r, &next[..n], &mut g[..m]);
+    coins: &'a [u32],
+}
+
+impl<'a> Round<'a> {
+    // The points of the round's samples, without repeats, in the last places of xs. They do not depend on the round's polynomial.
+    fn sample_points(&self, xs: &mut [u32]) -> usize
+        requires invariant { (Invariant (edition_of self.now.e) self.now.w.now self.now.pw.now self.now.level self.now.scale) × (self.now.level < rounds_of (sheet_of (edition_of self.now.e) self.now.w.now)) }
+        requires round_coins_fit { (RoundCoinsFit (sheet_of (edition_of self.now.e) self.now.w.now) self.now.level self.now.coins.now) × (length (elements_at (get_or self.now.w.now 0 0) xs.old) ≡ 50) }
+        ensures points { Points (sheet_of (edition_of self.now.e) self.now.w.now) self.now.level self.now.coins.now result xs.new }
+        ensures upper_bound { (result ≤ length (elements_at (get_or self.now.w.now 0 0) xs.old)) × (length (elements_at (get_or self.now.w.now 0 0) xs.old) - result < degree_of (sheet_of (edition_of self.now.e) self.now.w.now) (self.now.level + 1)) }
+    {
+        let s = self.w[5] as usize;
+        let t = self.w[6 + self.level] as usize;
+        let width = elements::width(self.w[0]);
+        let a = width * s;
+        let first = width * (s + 2);
+        let k = folding_number(self.e, self.w, self.level);
+        distinct::points(
+            self.w[0],
+            self.pw,
+            self.scale,
+            k,
+            &self.coins[..a],
+            &self.coins[first..first + t],
+            xs,
+        )
+    }
+
+    // The corrected polynomial of the next level, where g holds the round's polynomial, with places for the points. What g and they hold afterwards is of
+    // no use.
+    fn correct_within(&self, xs: &mut [u32], g: &mut [u32], next: &mut [u32])
+        requires invariant { (Invariant (edition_of self.now.e) self.now.w.now self.now.pw.now self.now.level self.now.scale) × (self.now.level < rounds_of (sheet_of (edition_of self.now.e) self.now.w.now)) }
+        requires next_len { length (elements_at (get_or self.now.w.now 0 0) next.old) ≡ degree_of (sheet_of (edition_of self.now.e) self.now.w.now) (self.now.level + 1) }
+        requires round_coins_fit { (RoundCoinsFit (sheet_of (edition_of self.now.e) self.now.w.now) self.now.level self.now.coins.now) × (length (elements_at (get_or self.now.w.now 0 0) next.old) ≤ length (elements_at (get_or self.now.w.now 0 0) g.old)) }
+        requires xs_len { (length (elements_at (get_or self.now.w.now 0 0) xs.old) ≡ 50) × (length xs.old ≤ 4096) }
+        ensures { CorrectedIn (sheet_of (edition_of self.now.e) self.now.w.now) self.now.level self.now.coins.now (length (elements_at (get_or self.now.w.now 0 0) next.old)) g.old next.new }
+    {
+        let from = self.sample_points(xs);
+        let d = elements::count(self.w[0], next);
+        let c = coin(self.w, self.coins, 0);
+        correction::corrected(self.w[0], xs, from, c, g, d, next);
+    }
+
+    // The same with places of its own for the points, N words.
+    fn correct_by<const N: usize>(&self, g: &mut [u32], next: &mut [u32])
+        requires invariant { (Invariant (edition_of self.now.e) self.now.w.now self.now.pw.now self.now.level self.now.scale) × (self.now.level < rounds_of (sheet_of (edition_of self.now.e) self.now.w.now)) }
+        requires next_len { length (elements_at (get_or self.now.w.now 0 0) next.old) ≡ degree_of (sheet_of (edition_of self.now.e) self.now.w.now) (self.now.level + 1) }
+        requires round_coins_fit { (RoundCoinsFit (sheet_of (edition_of self.now.e) self.now.w.now) self.now.level self.now.coins.now) × (length (elements_at (get_or self.now.w.now 0 0) next.old) ≤ length (elements_at (get_or self.now.w.now 0 0) g.old)) }
+        requires places { N ≡ words_at (get_or self.now.w.now 0 0) 50 }
+        ensures { CorrectedIn (sheet_of (edition_of self.now.e) self.now.w.now) self.now.level self.now.coins.now (length (elements_at (get_or self.now.w.now 0 0) next.old)) g.old next.new }
+    {
+        let mut xs = [0u32; N];
+        self.correct_within(&mut xs, g, next);
+    }
+
+    // The same, by the field.
+    fn correct(&self, g: &mut [u32], next: &mut [u32])
+        requires invariant { (Invariant (edition_of self.now.e) self.now.w.now self.now.pw.now self.now.level self.now.scale) × (self.now.level < rounds_of (sheet_of (edition_of self.now.e) self.now.w.now)) }
+        requires next_len { length (elements_at (get_or self.now.w.now 0 0) next.old) ≡ degree_of (sheet_of (edition_of self.now.e) self.now.w.now) (self.now.level + 1) }
+        requires round_coins_fit { (RoundCoinsFit (sheet_of (edition_of self.now.e) self.now.w.now) self.now.level self.now.coins.now) × (length (elements_at (get_or self.now.w.now 0 0) next.old) ≤ length (elements_at (get_or self.now.w.now 0 0) g.old)) }
+        ensures { CorrectedIn (sheet_of (edition_of self.now.e) self.now.w.now) self.now.level self.now.coins.now (length (elements_at (get_or self.now.w.now 0 0) next.old)) g.old next.new }
+    {
+        if self.w[0] == 3 {
+            self.correct_by::<FOUR_POINTS>(g, next);
+        } else {
+            self.correct_by::<POINTS>(g, next);
+        }
+    }
+
+    // What a round leaves, after a level whose polynomial's fold, of d coefficients, stands at the front of g: the corrected polynomial of the next level,
+    // in the first d places of next; and that polynomial's fold, of `folded` coefficients, at the front of g again.
+    fn next_fold(&self, d: usize, folded: usize, g: &mut [u32], next: &mut [u32])
+        requires invariant { (Invariant (edition_of self.now.e) self.now.w.now self.now.pw.now self.now.level self.now.scale) × (self.now.level < rounds_of (sheet_of (edition_of self.now.e) self.now.w.now)) }
+        requires d_value { (d ≡ degree_of (sheet_of (edition_of self.now.e) self.now.w.now) (self.now.level + 1)) × (folded ≡ degree_of (sheet_of (edition_of self.now.e) self.now.w.now) (self.now.level + 1 + 1)) }
+        requires round_coins_fit { (RoundCoinsFit (sheet_of (edition_of self.now.e) self.now.w.now) self.now.level self.now.coins.now) × ((words_at (get_or self.now.w.now 0 0) d ≤ length g.old) × (words_at (get_or self.now.w.now 0 0) d ≤ length next.old)) }
+        ensures { FoldAfter (sheet_of (edition_of self.now.e) self.now.w.now) self.now.level self.now.coins.now d folded g.old g.new }
+    {
+        let width = elements::width(self.w[0]);
+        let n = width * d;
+        let m = width * folded;
+        self.correct(g, &mut next[..n]);
+        let r = coin(self.w, self.coins, 1);
+        fold(self.e, self.w, self.level + 1, r, &next[..n], &mut g[..m]);
+    }
 }
 
 // Places for the fold of a polynomial of at most 2,048 words, or for the next polynomial.
@@ -214,11 +180,19 @@ pub fn step(
     let width = elements::width(w[0]);
     let n = width * d;
     honest_words::round(e, w, pw, level, scale, &g[..n], coins, out);
+    let round = Round {
+        e: e,
+        w: w,
+        pw: pw,
+        level: level,
+        scale: scale,
+        coins: coins,
+    };
     if n <= FEW_FOLD {
         let mut few = [0u32; FEW_FOLD];
-        next_fold(e, w, pw, level, scale, d, folded, coins, g, &mut few);
+        round.next_fold(d, folded, g, &mut few);
     } else {
         let mut next = [0u32; FOLD];
-        next_fold(e, w, pw, level, scale, d, folded, coins, g, &mut next);
+        round.next_fold(d, folded, g, &mut next);
     }
 }

@@ -8,16 +8,9 @@ ghost use Rattle.input.specs.Count.{count_of, HoldsFront, ReadsFront};
 use std::io;
 use std::io::{Read, Write};
 
-#[derive(Clone, Copy)]
-pub enum Input {
-    // so many bytes, at the front of the buffer: it is full, or the input has ended
-    Bytes(usize),
-    // a read failed: what came before is no whole input, and is not to be answered
-    Failed,
-}
-
-// Reads until the buffer is full, the input ends or a read fails.
-pub fn fill<R: Read>(reader: &mut R, buffer: &mut [u8]) -> Input
+// Reads until the buffer is full, the input ends or a read fails. So many bytes are then at the front of the buffer; where a read failed, what came before
+// is no whole input, and is not to be answered. A read gives as many bytes as it has, so no range says where the next begins.
+pub fn fill<R: Read>(reader: &mut R, buffer: &mut [u8]) -> io::Result<usize>
     ensures buffer_len_unchanged { length buffer.new ≡ length buffer.old }
     ensures result_in_bounds { count_of result ≤ length buffer.old }
     ensures front { HoldsFront (R.remaining reader.old) result buffer.new }
@@ -25,26 +18,20 @@ pub fn fill<R: Read>(reader: &mut R, buffer: &mut [u8]) -> Input
 {
     let mut n: usize = 0;
     while n < buffer.len() {
-        let more = match reader.read(&mut buffer[n..]) {
-            Ok(more) => more,
-            Err(_) => return Input::Failed,
-        };
+        let more = reader.read(&mut buffer[n..])?;
         if more == 0 {
-            return Input::Bytes(n);
+            break;
         }
         n += more;
     }
-    Input::Bytes(n)
+    Ok(n)
 }
 
 // The first n bytes of the buffer.
 pub fn front(buffer: &[u8], n: usize) -> &[u8]
     ensures { result.now ≡ take n buffer.now }
 {
-    if buffer.len() < n {
-        return buffer;
-    }
-    &buffer[..n]
+    buffer.get(..n).unwrap_or(buffer)
 }
 
 // Says that a read failed.

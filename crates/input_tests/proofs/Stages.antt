@@ -17,11 +17,10 @@ use Rattle.definition.specs.Reading.{sheet_test}
 use Rattle.definition.specs.Sheet.{Edition, sheet_length, sheet_of}
 use Rattle.definition.specs.Verdict.{Outcome, accepted, refused, refuse_at, refuse_if, ◌then◌}
 use Rattle.input_tests.specs.OneByOne.{after_both, agree, both_refused, clear, differ, enough, found, short}
-use Rattle.outcome.specs.declared.Found.{Found}
-use Rattle.outcome.specs.declared.Found.TheVariants.{At, Nothing}
+use Rattle.std.specs.Prelude.{Some, None}
 use Rattle.outcome.specs.declared.Outcome.{Outcome as Answered}
 use Rattle.outcome.specs.declared.Outcome.TheVariants.{Accepted, Refused}
-use Rattle.outcome.specs.Meaning.{outcome_of, place_of}
+use Rattle.outcome.specs.Meaning.{Found, outcome_of, place_of}
 
 -- ---- the sheet's tests, and the tests after them
 
@@ -61,10 +60,10 @@ module _ (ed : Edition) (w f coins output : List ℕ) where
       from_range e = agree 10 1 (length f) (word_count (spelling_of (get_or w 0 0)) (get_or w 2 0)) right (agree 10 2 (length coins) _ full e)
 
       module _ {range : Found} (ranged : refuse_at 5 (place_of range) ≡ input_range_test (sheet_of ed w) (coin_kinds (layout (sheet_of ed w))) (f ++ coins)) where
-        pub out_of_range_lem : {place : ℕ} → range ≡ At place → refused 5 place ≡ prove_tests ed (sheet_of ed w) f coins output
+        pub out_of_range_lem : {place : ℕ} → range ≡ Some place → refused 5 place ≡ prove_tests ed (sheet_of ed w) f coins output
         out_of_range_lem h = from_range (found 5 _ ranged h)
 
-        module _ (in_range : range ≡ Nothing) {outs : Answered} (tested : outcome_of outs ≡ (coin_domain_test (sheet_of ed w) coins then coin_equal_test (sheet_of ed w) coins)) where
+        module _ (in_range : range ≡ None) {outs : Answered} (tested : outcome_of outs ≡ (coin_domain_test (sheet_of ed w) coins then coin_equal_test (sheet_of ed w) coins)) where
           pub out_coins_refused : {number place : ℕ} → outs ≡ Refused number place → refused number place ≡ prove_tests ed (sheet_of ed w) f coins output
           out_coins_refused h = from_range (clear 5 ranged in_range (both_refused (coin_domain_test (sheet_of ed w) coins) (coin_equal_test (sheet_of ed w) coins) tested _ h))
 
@@ -86,11 +85,11 @@ module _ (ed : Edition) (w f output : List ℕ) where
   other_count is h = differ 10 1 (length f) (word_count (spelling_of (get_or w 0 0)) (get_or w 2 0)) _ (λ e. h (e ∙ sym is))
 
   module _ (right : length f ≡ word_count (spelling_of (get_or w 0 0)) (get_or w 2 0)) {range : Found} (ranged : refuse_at 5 (place_of range) ≡ input_range_test (sheet_of ed w) [] f) where
-    pub no_element : {place : ℕ} → range ≡ At place → refused 5 place ≡ encode_tests (sheet_of ed w) f output
+    pub no_element : {place : ℕ} → range ≡ Some place → refused 5 place ≡ encode_tests (sheet_of ed w) f output
     unfolding encode_tests coefficients_test sheet_of
     no_element h = agree 10 1 (length f) (word_count (spelling_of (get_or w 0 0)) (get_or w 2 0)) right (found 5 _ ranged h)
 
-    module _ (elements : range ≡ Nothing) {room : ℕ} (has : length output ≡ room) {size : ℕ} (is : size ≡ word_count (spelling_of (get_or w 0 0)) (get_or w 1 0)) where
+    module _ (elements : range ≡ None) {room : ℕ} (has : length output ≡ room) {size : ℕ} (is : size ≡ word_count (spelling_of (get_or w 0 0)) (get_or w 1 0)) where
       with_words : {o : Outcome} → o ≡ output_test size size room → o ≡ encode_tests (sheet_of ed w) f output
       unfolding encode_tests coefficients_test sheet_of
       with_words e = agree 10 1 (length f) (word_count (spelling_of (get_or w 0 0)) (get_or w 2 0)) right (clear 5 ranged elements (e ∙ (λ i. output_test (is i) (is i) (sym has i))))

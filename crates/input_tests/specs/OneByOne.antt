@@ -7,11 +7,10 @@ use Rattle.definition.specs.Prove.{output_test, sheet_length_test}
 use Rattle.definition.specs.Reading.{sheet_test}
 use Rattle.definition.specs.Sheet.{Edition, sheet_length}
 use Rattle.definition.specs.Verdict.{Outcome, accepted, refused, refuse_at, refuse_if, ◌then◌}
-use Rattle.outcome.specs.declared.Found.{Found}
-use Rattle.outcome.specs.declared.Found.TheVariants.{At, Nothing}
+use Rattle.std.specs.Prelude.{Some, None}
 use Rattle.outcome.specs.declared.Outcome.{Outcome as Answered}
 use Rattle.outcome.specs.declared.Outcome.TheVariants.{Accepted, Refused}
-use Rattle.outcome.specs.Meaning.{outcome_of, place_of}
+use Rattle.outcome.specs.Meaning.{Found, outcome_of, place_of}
 
 -- ---- one test, and the tests after it
 
@@ -25,11 +24,11 @@ unfolding refuse_if ◌then◌
 agree number place a b h e = rw (eq-eqb a b h) e
 
 -- a test by the place that it finds
-pub found : (number : ℕ) {place : ℕ} {r : Found} {test : Outcome} (next : Outcome) → refuse_at number (place_of r) ≡ test → r ≡ At place → refused number place ≡ (test then next)
+pub found : (number : ℕ) {place : ℕ} {r : Found} {test : Outcome} (next : Outcome) → refuse_at number (place_of r) ≡ test → r ≡ Some place → refused number place ≡ (test then next)
 unfolding place_of refuse_at ◌then◌
 found number next e h = ap (λ (o : Outcome). o then next) (sym (ap (λ (x : Found). refuse_at number (place_of x)) h) ∙ e)
 
-pub clear : (number : ℕ) {r : Found} {test o next : Outcome} → refuse_at number (place_of r) ≡ test → r ≡ Nothing → o ≡ next → o ≡ (test then next)
+pub clear : (number : ℕ) {r : Found} {test o next : Outcome} → refuse_at number (place_of r) ≡ test → r ≡ None → o ≡ next → o ≡ (test then next)
 unfolding place_of refuse_at ◌then◌
 clear number {next = next} e h q = q ∙ ap (λ (o : Outcome). o then next) (sym (ap (λ (x : Found). refuse_at number (place_of x)) h) ∙ e)
 

@@ -13,24 +13,24 @@ ghost use Rattle.edition.specs.Meaning.{edition_of};
 ghost use Rattle.outcome.specs.Meaning.{outcome_of, place_of};
 
 use edition::Edition;
-use outcome::{Found, Outcome};
+use outcome::Outcome;
 
 // Refusal 5 of prove: the first word out of range, by its position in the coefficients followed by the coins.
-fn input_out_of_range(e: Edition, w: &[u32], f: &[u32], coins: &[u32]) -> Found
+fn input_out_of_range(e: Edition, w: &[u32], f: &[u32], coins: &[u32]) -> Option<usize>
     requires e_in_bounds { (sheet_length (edition_of e) ≤ length w.now) × (sheet_test (edition_of e) w.now ≡ accepted) }
     requires f_len { length f.now ≡ word_count (spelling_of (get_or w.now 0 0)) (get_or w.now 2 0) }
     requires coins_len { length coins.now ≡ length (coin_kinds (layout (sheet_of (edition_of e) w.now))) }
     ensures { refuse_at 5 (place_of result) ≡ input_range_test (sheet_of (edition_of e) w.now) (coin_kinds (layout (sheet_of (edition_of e) w.now))) (f.now ++ coins.now) }
 {
     let coefficient = ranges::coefficient_out_of_range(w[0], f);
-    if let Found::At(place) = coefficient {
-        return Found::At(place);
+    if let Some(place) = coefficient {
+        return Some(place);
     }
     let coin = ranges::coin_out_of_range(e, w, coins);
-    if let Found::At(place) = coin {
-        return Found::At(f.len() + place);
+    if let Some(place) = coin {
+        return Some(f.len() + place);
     }
-    Found::Nothing
+    None
 }
 
 // Refusals 7 and 14 of prove, with the table of points made for them. A small sheet is spared the clearing of many places.
@@ -57,7 +57,7 @@ pub fn sheet_tests(e: Edition, w: &[u32]) -> Outcome
         return Outcome::Refused(10, 0);
     }
     let broken = sheet::broken(e, w);
-    if let Found::At(place) = broken {
+    if let Some(place) = broken {
         return Outcome::Refused(3, place);
     }
     Outcome::Accepted
@@ -75,7 +75,7 @@ fn prove_after_sheet(e: Edition, w: &[u32], f: &[u32], coins: &[u32], room: usiz
         return Outcome::Refused(10, 2);
     }
     let range = input_out_of_range(e, w, f, coins);
-    if let Found::At(place) = range {
+    if let Some(place) = range {
         return Outcome::Refused(5, place);
     }
     let outs = coin_tests(e, w, coins);
@@ -99,7 +99,7 @@ fn encode_after_sheet(w: &[u32], f: &[u32], room: usize) -> Outcome
         return Outcome::Refused(10, 1);
     }
     let range = ranges::coefficient_out_of_range(field, f);
-    if let Found::At(place) = range {
+    if let Some(place) = range {
         return Outcome::Refused(5, place);
     }
     let size = widths::words(field, w[1] as usize);

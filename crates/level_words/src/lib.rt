@@ -13,7 +13,7 @@ use edition::Edition;
 use fractions::Oracle;
 
 // A place: the level's number, domain size and degree bound, and where its table and the words after its fold coin begin. It holds no element: the level's
-// fold coin is handed on beside it, and so are the reads so far.
+// fold coin is handed on beside it, and so are the reads so far. The edition and the words are too: the public functions keep these parameters.
 #[derive(Clone, Copy)]
 pub struct State {
     pub level: usize,

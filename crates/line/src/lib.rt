@@ -9,7 +9,7 @@ ghost use Rattle.line.specs.Text.{Extends, Holds, text_of};
 
 use outcome::{Outcome, Verdict};
 
-// The first `length` bytes are the line's.
+// The first `length` bytes are the line's: a buffer with its length beside it, since there is no heap.
 #[derive(Clone, Copy)]
 pub struct Line {
     pub bytes: [u8; 64],
@@ -43,12 +43,11 @@ pub fn text(line: Line, bytes: &[u8]) -> Line
     requires { line.length + length bytes.now ≤ 64 }
     ensures { Extends line bytes.now result }
 {
+    let at = line.length;
+    let end = at + bytes.len();
     let mut longer = line;
-    let mut i = 0;
-    while i < bytes.len() {
-        longer = put(longer, bytes[i]);
-        i += 1;
-    }
+    longer.bytes[at..end].copy_from_slice(bytes);
+    longer.length = end;
     longer
 }
 
@@ -108,12 +107,7 @@ pub fn write(line: Line, at: usize, out: &mut [u8]) -> usize
     ensures out_after { take result out.new ≡ take at out.old ++ text_of line }
     ensures value { result ≡ at + line.length }
 {
-    let bytes = line.bytes;
-    let length = line.length;
-    let mut i = 0;
-    while i < length {
-        out[at + i] = bytes[i];
-        i += 1;
-    }
-    at + length
+    let end = at + line.length;
+    out[at..end].copy_from_slice(&line.bytes[..line.length]);
+    end
 }

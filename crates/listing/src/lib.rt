@@ -42,12 +42,9 @@ fn points(pw: &[u32], scale: usize, at: usize, out: &mut [u8; 131072]) -> usize
     ensures out_after { take result out.new ≡ take at out.old ++ flat_map point_text (points_from pw.now scale 0 (length pw.now / scale)) }
     ensures upper_bound { result ≤ at + 11 * (length pw.now / scale) }
 {
-    let count = pw.len() / scale;
     let mut place = at;
-    let mut j: usize = 0;
-    while j < count {
+    for j in 0..pw.len() / scale {
         place = line::write(point(pw[scale * j]), place, out);
-        j += 1;
     }
     place
 }
@@ -71,11 +68,9 @@ fn domain_lines(pw: &[u32], rounds: usize, at: usize, out: &mut [u8; 131072]) ->
 {
     let mut place = at;
     let mut scale: usize = 1;
-    let mut i: usize = 0;
-    while i <= rounds {
+    for i in 0..rounds + 1 {
         place = domain_line(pw, i, scale, place, out);
         scale *= 2;
-        i += 1;
     }
     place
 }
@@ -127,7 +122,7 @@ pub fn output(bytes: &[u8], out: &mut [u8; 131072]) -> usize
     output_in(Edition::One, bytes, out)
 }
 
-// What the program `domains2` prints: the same of a sheet of edition 2.
+// What the program `domains2` prints: the same of a sheet of edition 2, under a name of its own, as the program has one.
 pub fn output_2(bytes: &[u8], out: &mut [u8; 131072]) -> usize
     ensures out_after { take result out.new ≡ listing edition2 bytes.now }
     ensures upper_bound { result ≤ 131072 }

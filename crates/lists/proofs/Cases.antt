@@ -3,7 +3,7 @@ use Prim.Native.Nat.{ℕ, ◌≤◌, ◌<◌}
 use mathlib.Core.Path.{◌≡◌}
 use mathlib.Core.List.{List}
 use lib.ListN.{length, drop}
-use Rattle.definition.specs.Field.{Field, prime_of, field_of, Spelling, spelling_of, field_in, word_count, quads, elements_in}
+use Rattle.definition.specs.Field.{prime_of, field_of, Spelling, spelling_of, field_in, word_count, quads, elements_in}
 use Rattle.definition.specs.Polynomial.{pair}
 use Rattle.algebra.specs.Different.{Apart}
 use Rattle.spelling.specs.Field3.{field3}

@@ -1,5 +1,5 @@
 -- The lines of several runs, one after the other; a run's line is short.
-use Prim.Native.Nat.{ℕ, zero, suc, ◌+◌, ◌-◌, ◌*◌, ◌^◌, ◌≤◌, ◌<◌}
+use Prim.Native.Nat.{ℕ, zero, suc, ◌+◌, ◌*◌, ◌^◌, ◌≤◌, ◌<◌}
 use native.Mathlib.Omega.{arith}
 use mathlib.Core.List.{List, [], ◌∷◌, ◌++◌, append_assoc, append-nil, flat_map}
 use mathlib.Core.Path.{◌≡◌, refl, sym, ap, subst, ◌∙◌}
@@ -45,15 +45,14 @@ verdict_short v e h = subst (λ (n : ℕ). n ≤ 34) (sym (h ∙ ap (λ (u : Ver
 
 -- ---- one run more
 
-pub lines_step : (left v : ℕ) (before : List ℕ) {next : ℕ} {verdict : Verdict} {line after whole : List ℕ} → 0 < left →
+pub lines_step : (left rest v : ℕ) (before : List ℕ) {next : ℕ} {verdict : Verdict} {line after whole : List ℕ} → suc rest ≡ left →
     verdict ≡ verdict_on (draw_input v).value → next ≡ (draw_input v).next → line ≡ line_of verdict → after ≡ before ++ line →
-    before ++ lines_from left v ≡ whole → after ++ lines_from (left - 1) next ≡ whole
-lines_step left v before {next} {verdict} {line} h e n l a w =
-    let one : suc (left - 1) ≡ left = omega arith in
-    ap (λ (xs : List ℕ). xs ++ lines_from (left - 1) next) a
-    ∙ append_assoc before line (lines_from (left - 1) next)
-    ∙ (λ t. before ++ ((l ∙ ap line_of e) t ++ lines_from (left - 1) (n t)))
-    ∙ ap (λ (xs : List ℕ). before ++ xs) (sym (lines_next (left - 1) v))
+    before ++ lines_from left v ≡ whole → after ++ lines_from rest next ≡ whole
+lines_step left rest v before {next} {verdict} {line} one e n l a w =
+    ap (λ (xs : List ℕ). xs ++ lines_from rest next) a
+    ∙ append_assoc before line (lines_from rest next)
+    ∙ (λ t. before ++ ((l ∙ ap line_of e) t ++ lines_from rest (n t)))
+    ∙ ap (λ (xs : List ℕ). before ++ xs) (sym (lines_next rest v))
     ∙ ap (λ (m : ℕ). before ++ lines_from m v) one
     ∙ w
 

@@ -49,18 +49,17 @@ pub fn run(generator: Generator) -> Ran
 }
 
 // The lines of so many runs on one generator, at the front of the output; answers the place behind them.
-fn run_lines(mut runs: usize, mut generator: Generator, out: &mut [u8; 34000]) -> usize
+fn run_lines(runs: usize, mut generator: Generator, out: &mut [u8; 34000]) -> usize
     requires { 34 * runs ≤ 34000 }
     ensures out_after { take result out.new ≡ lines_from runs generator.v }
     ensures upper_bound { result ≤ 34000 }
 {
     let mut place = 0;
-    while 0 < runs {
+    for _ in 0..runs {
         let done = run(generator);
         let verdict = done.verdict;
         generator = done.next;
         place = line::write(line::of_verdict(verdict), place, out);
-        runs -= 1;
     }
     place
 }

@@ -6,7 +6,6 @@ ghost use Rattle.std.specs.Io.KnownBytes.{Appends};
 ghost use Rattle.definition.specs.Load.{load_output};
 ghost use Rattle.input.specs.Told.{Tells};
 
-use input::Input;
 use std::io;
 use std::io::{Read, Write};
 
@@ -19,7 +18,7 @@ fn run<R: Read, W: Write, E: Write>(reader: &mut R, to: &mut W, err: &mut E) -> 
     ensures { result ≡ true → Tells 4 load_output (R.remaining reader.old) (W.contents to.old) (W.contents to.new) }
 {
     let mut bytes = [0u8; 4];
-    let Input::Bytes(n) = input::fill(reader, &mut bytes) else {
+    let Ok(n) = input::fill(reader, &mut bytes) else {
         let _ = input::not_read(err);
         return false;
     };

@@ -20,8 +20,6 @@ use Rattle.algebra.specs.PrimeField.{suited}
 use Rattle.decoding.specs.AllElements.{all_below, all_in}
 use Rattle.decoding.specs.Errors.{wrong_at}
 use Rattle.decoding.proofs.Exactly.{near_few, search_by, tested}
-use Rattle.decoder.specs.declared.Nearest.{Nearest}
-use Rattle.decoder.specs.declared.Nearest.TheVariants.{Found, Nothing}
 use Rattle.domain.specs.Powers.{Powers}
 use Rattle.spelling.specs.ByField.{elements_at, field_at, laws_at, points_at}
 use Rattle.spelling.specs.Points.{length_points, number_power, points_get}
@@ -47,7 +45,7 @@ module _ (field : ℕ) where
       (λ j u. points_get field pw j ∙ ap (number_in σ) (h.entry j (omega (arith, size))) ∙ sym (number_power field ω (1 + j))
       ∙ ap (λ (m : ℕ). power F (number_in σ ω) (1 + m)) (let z : 1 * j ≡ j = omega arith in sym (ap (λ (s : ℕ). s * j) scale ∙ z)))
 
-  module _ (pw table : List ℕ) (d : ℕ) (r : Nearest) (f : List ℕ) (is : FoundIn (spelling_of field) field pw table d r f) where
+  module _ (pw table : List ℕ) (d : ℕ) (r : Bool) (f : List ℕ) (is : FoundIn (spelling_of field) field pw table d r f) where
     -- the definition's search is the candidate, tested
     search_is : (ω : ℕ) (l : Level) → Powers field ω pw → 2 ^ l.number ≡ 1 → l.size ≡ length pw →
         nearest_of F (number_in σ ω) l (all_elements σ (prime_of field)) d (elements_at field table) ≡ tested F L (number_in σ ω) l d (elements_at field table) (polynomial_in σ r f)
@@ -69,11 +67,11 @@ module _ (field : ℕ) where
       searched_is = ap answered (search_is ω l h scale size)
 
     -- no candidate
-    pub nothing : (output : List ℕ) → r ≡ Nothing → Searched field pw table d output (refusal 19 0) output
+    pub nothing : (output : List ℕ) → r ≡ false → Searched field pw table d output (refusal 19 0) output
     unfolding polynomial_in searched found_test found_words finish tested
     nothing output e ω l h scale size =
         let t = searched_is ω l h scale size output
-        ∙ ap (λ (x : Nearest). answered ω l h scale size output (tested F L (number_in σ ω) l d (elements_at field table) (polynomial_in σ x f))) e in
+        ∙ ap (λ (x : Bool). answered ω l h scale size output (tested F L (number_in σ ω) l d (elements_at field table) (polynomial_in σ x f))) e in
         (sym (ap (λ (x : Result). x.answer) t), sym (ap (λ (x : Result). x.output) t))
 
     -- a candidate
@@ -85,7 +83,7 @@ module _ (field : ℕ) where
     conclusion_is ω l output true = refl
     conclusion_is ω l output false = refl
 
-    pub concluded : r ≡ Found → length (elements_at field f) ≡ d → (output : List ℕ) {a : Answer} {after : List ℕ} → Concluded field pw table f output a after → Searched field pw table d output a after
+    pub concluded : r ≡ true → length (elements_at field f) ≡ d → (output : List ℕ) {a : Answer} {after : List ℕ} → Concluded field pw table f output a after → Searched field pw table d output a after
     unfolding conclusion tested polynomial_in
     concluded e long output {a} {after} c ω l h scale size =
         let s = c ω l h scale size in
@@ -94,5 +92,5 @@ module _ (field : ℕ) where
         let t : conclusion σ F ω' l (elements_at field table) (elements_at field f) output ≡ searched_at field ω l table d output =
         ap (λ (m : ℕ). finish (cond (near F ω' l m (elements_at field table) (elements_at field f)) accepted (refused 19 0)) (length words) words output) long
         ∙ conclusion_is ω l output (near F ω' l d (elements_at field table) (elements_at field f))
-        ∙ sym (searched_is ω l h scale size output ∙ ap (λ (x : Nearest). answered ω l h scale size output (tested F L ω' l d (elements_at field table) (polynomial_in σ x f))) e) in
+        ∙ sym (searched_is ω l h scale size output ∙ ap (λ (x : Bool). answered ω l h scale size output (tested F L ω' l d (elements_at field table) (polynomial_in σ x f))) e) in
         (s.0 ∙ ap (λ (x : Result). x.answer) t, s.1 ∙ ap (λ (x : Result). x.output) t)

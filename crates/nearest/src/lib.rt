@@ -13,7 +13,6 @@ ghost use Rattle.candidate.specs.Tables.{Sized};
 ghost use Rattle.tables.specs.Halving.{Halves};
 ghost use Rattle.nearest.specs.Searched.{Searched, SearchedFor};
 
-use decoder::Nearest;
 use outcome::{Answer, Outcome};
 
 // The answer for a table over the points pw: the decoder's candidate goes to f, and is reported if it is near.
@@ -31,9 +30,9 @@ fn search(
     ensures { Searched field pw.now table.now d output.old (answer_of result) output.new }
 {
     let found = nearest_planes::candidate(field, pw, table, d, f);
-    let Nearest::Found = found else {
+    if !found {
         return Answer::Refusal(19, 0);
-    };
+    }
     closest::conclude(field, pw, table, f, output)
 }
 

@@ -42,10 +42,8 @@ fn put_word(out: &mut [u8], at: usize, w: u32)
     requires { at + 4 ≤ length out.old }
     ensures { out.new ≡ overwrite out.old at (bytes_of w) }
 {
-    out[at] = (w % 256) as u8;
-    out[at + 1] = (w / 256 % 256) as u8;
-    out[at + 2] = (w / 65536 % 256) as u8;
-    out[at + 3] = (w / 16777216 % 256) as u8;
+    let bytes = w.to_le_bytes();
+    out[at..at + 4].copy_from_slice(&bytes);
 }
 
 // The bytes of the words, at the front of the output; answers how many they are.
@@ -54,13 +52,10 @@ fn put_words(words: &[u32], output: &mut [u8]) -> usize
     ensures output_after { take result output.new ≡ flat_map bytes_of words.now }
     ensures value { result ≡ 4 * length words.now }
 {
-    let count = words.len();
-    let mut i = 0;
-    while i < count {
-        put_word(output, 4 * i, words[i]);
-        i += 1;
+    for (i, w) in words.iter().enumerate() {
+        put_word(output, 4 * i, *w);
     }
-    4 * count
+    4 * words.len()
 }
 
 // What `nearest` writes: the words of the nearest polynomial on standard output, or a refusal's line on standard error.

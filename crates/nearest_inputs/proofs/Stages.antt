@@ -18,9 +18,8 @@ use Rattle.layouts.proofs.PlainSheet.{sheet_plain}
 use Rattle.layouts.specs.Spellings.{largest_most}
 use Rattle.input_tests.specs.OneByOne.{agree, clear, differ, enough, found, short}
 use Rattle.input_tests.specs.Places as places
-use Rattle.outcome.specs.declared.Found.{Found}
-use Rattle.outcome.specs.declared.Found.TheVariants.{At, Nothing}
-use Rattle.outcome.specs.Meaning.{place_of}
+use Rattle.std.specs.Prelude.{Some, None}
+use Rattle.outcome.specs.Meaning.{Found, place_of}
 
 -- d0 is below n0, which is small
 pub fewer : (w : List ℕ) → sheet_test edition1 w ≡ accepted → (get_or w 2 0 ≤ get_or w 1 0) × (get_or w 1 0 ≤ 4096)
@@ -53,11 +52,11 @@ module _ (w table output : List ℕ) where
         go none q = ap (refuse_at 5) (places.in_neither (sheet_of edition1 w) message refl [] table [] (words_in (get_or w 1 0)) right q refl)
         go (some place) q = ap (refuse_at 5) (places.in_front (sheet_of edition1 w) message refl [] table [] (words_in (get_or w 1 0)) right place q)
 
-    pub no_entry : {place : ℕ} → range ≡ At place → refused 5 place ≡ tests
+    pub no_entry : {place : ℕ} → range ≡ Some place → refused 5 place ≡ tests
     unfolding nearest_tests entries_test sheet_of
     no_entry q = agree 10 1 (length table) (words_in (get_or w 1 0)) right (found 5 {r = range} _ ranged q)
 
-    module _ (elements : range ≡ Nothing) {room : ℕ} (has : length output ≡ room) {size : ℕ} (is : size ≡ words_in (get_or w 2 0) + 1 + (get_or w 1 0 - get_or w 2 0) / 2) where
+    module _ (elements : range ≡ None) {room : ℕ} (has : length output ≡ room) {size : ℕ} (is : size ≡ words_in (get_or w 2 0) + 1 + (get_or w 1 0 - get_or w 2 0) / 2) where
       with_size : {o : Outcome} → o ≡ output_test size size room → o ≡ tests
       unfolding nearest_tests entries_test nearest_size sheet_of
       with_size e = agree 10 1 (length table) (words_in (get_or w 1 0)) right (clear 5 {r = range} ranged elements (e ∙ (λ i. output_test (is i) (is i) (sym has i))))

@@ -11,7 +11,7 @@ ghost use Rattle.nearest_definition.specs.Nearest.{nearest_tests};
 ghost use Rattle.outcome.specs.Meaning.{outcome_of};
 
 use edition::Edition;
-use outcome::{Found, Outcome};
+use outcome::Outcome;
 
 // The tests after the sheet's: encode's, of the table's entries, and room for all that may be written.
 fn after_sheet(w: &[u32], table: &[u32], room: usize) -> Outcome
@@ -24,7 +24,7 @@ fn after_sheet(w: &[u32], table: &[u32], room: usize) -> Outcome
         return Outcome::Refused(10, 1);
     }
     let range = ranges::coefficient_out_of_range(field, table);
-    if let Found::At(place) = range {
+    if let Some(place) = range {
         return Outcome::Refused(5, place);
     }
     let d = w[2] as usize;

@@ -1,26 +1,24 @@
 -- The candidate in either spelling: of one word it is the decoder's, of four words it is the candidates of the four planes.
-use Prim.Native.Nat.{ℕ, zero, suc, ◌-◌, ◌*◌, ◌/◌, ◌≤◌, ◌<◌}
+use Prim.Native.Nat.{ℕ, ◌-◌, ◌*◌, ◌/◌, ◌≤◌, ◌<◌}
 use native.Mathlib.Omega.{arith}
 use mathlib.Core.Path.{◌≡◌, refl, sym, ap, ◌∙◌, subst}
 use mathlib.Core.List.{List, [], ◌∷◌, map}
-use mathlib.Core.Option.{Option, none, some}
+use mathlib.Core.Option.{Option, some}
 use lib.ListN.{length}
-use Rattle.definition.specs.Field.{Element, Field, Quad, Spelling, elements_in, embed, field_in, field_of, four, number_in, one, prime_field, prime_of, quads, quartic, spelling_of, word_count}
+use Rattle.definition.specs.Field.{Quad, elements_in, embed, field_in, field_of, four, number_in, one, prime_field, prime_of, quads, quartic, spelling_of, word_count}
 use Rattle.algebra.specs.Coefficients.{Elements}
 use Rattle.algebra.specs.FieldIn.{Below, below_in, reduced_in}
 use Rattle.algebra.specs.Field3.{laws₃}
 use Rattle.algebra.specs.Laws.{FieldLaws}
 use Rattle.algebra.specs.PrimeField.{laws, suited}
-use Rattle.list_laws.specs.All.{All, all_in_map, all_map}
+use Rattle.list_laws.specs.All.{All, all_map}
 use Rattle.list_laws.specs.Booleans.{some≢none}
 use Rattle.decoding.specs.Errors.{wrong_at}
 use Rattle.decoding.specs.FourPlanes.{found_by_planes, none_by_planes, part, plane_of}
 use Rattle.decoder.specs.Answer.{polynomial_of}
 use Rattle.decoder.specs.Steps.{OfElements}
-use Rattle.decoder.specs.declared.Nearest.{Nearest}
-use Rattle.decoder.specs.declared.Nearest.TheVariants.{Found, Nothing}
+use mathlib.Core.Bool.{Bool, true, false}
 use Rattle.candidate.specs.Tables.{Candidate}
-use Rattle.domain.specs.Powers.{Powers}
 use Rattle.spelling.specs.ByField.{at_one, at_three, from_one, from_three, words_at}
 use Rattle.spelling.specs.Words.{quads_many}
 use Rattle.nearest_planes.specs.InEither.{FoundIn, polynomial_in}
@@ -45,19 +43,19 @@ below_words field f h = all_map f h (λ x l. reduced_in one (prime_of field) (la
 
 -- ---- one word
 
-module _ (field : ℕ) (pw table : List ℕ) (d : ℕ) (r : Nearest) (out : List ℕ) where
+module _ (field : ℕ) (pw table : List ℕ) (d : ℕ) (r : Bool) (out : List ℕ) where
   one_is : polynomial_of r out ≡ polynomial_in one r out
   unfolding polynomial_of polynomial_in elements_in
   one_is = go r
     where
-      go : (x : Nearest) → polynomial_of x out ≡ polynomial_in one x out
-      go Found = refl
-      go Nothing = refl
+      go : (x : Bool) → polynomial_of x out ≡ polynomial_in one x out
+      go true = refl
+      go false = refl
 
-  long_in : (x : Nearest) (f : List ℕ) → length out ≡ d → polynomial_in one x out ≡ some f → length f ≡ d
+  long_in : (x : Bool) (f : List ℕ) → length out ≡ d → polynomial_in one x out ≡ some f → length f ≡ d
   unfolding polynomial_in elements_in
-  long_in Found f long e = ap length (sym (some_same e)) ∙ long
-  long_in Nothing f long e = absurd (some≢none f (sym e))
+  long_in true f long e = ap length (sym (some_same e)) ∙ long
+  long_in false f long e = absurd (some≢none f (sym e))
 
   found_one : length out ≡ d → Candidate field pw table d (polynomial_of r out) → OfElements field (polynomial_of r out) → FoundIn one field pw table d r out
   unfolding field_in field_of elements_in
@@ -97,9 +95,9 @@ module _ (pw table : List ℕ) (d : ℕ) (out : List ℕ) (entries : length tabl
   unfolding field_in
   elements_four f b = all_map f b (λ x l. reduced_in four (prime_of 3) four_laws x l)
 
-  found_four : (r : Nearest) → FourCandidates 3 pw table d out r → FoundIn four 3 pw table d r out
+  found_four : (r : Bool) → FourCandidates 3 pw table d out r → FoundIn four 3 pw table d r out
   unfolding polynomial_in elements_in field_in number_in embed prime_field field_of
-  found_four Found is = record {
+  found_four true is = record {
     candidate = λ ω p f n b few.
         ap {B = Option (List (Quad ℕ))} some
         (found_by_planes (field_of 3) (laws 3) 11 four_laws pw (quads table) d ((length pw - d) / 2) (quads out)
@@ -110,7 +108,7 @@ module _ (pw table : List ℕ) (d : ℕ) (out : List ℕ) (entries : length tabl
         subst (λ (g : List (Quad ℕ)). (length g ≡ d) × All (Below four (prime_of 3)) g) same
         (quads_many d out long, planes_below (quads out) (λ k h. words_below 3 (map (part k) (quads out)) (subst (Elements (field_of 3) (laws 3)) (out_plane k h) (is k h).1)));
   }
-  found_four Nothing is = record {
+  found_four false is = record {
     candidate = λ ω p f n b few. absurd
         (none_by_planes (field_of 3) (laws 3) 11 four_laws pw (quads table) d ((length pw - d) / 2) is.0 is.1.0
         (λ g lg eg fg. is.1.1 ω p g lg eg (subst (λ (ys : List ℕ). length (wrong_at (field_of 3) pw ys g) ≤ (length pw - d) / 2) (sym (table_plane is.0 is.1.0)) fg))
@@ -118,7 +116,7 @@ module _ (pw table : List ℕ) (d : ℕ) (out : List ℕ) (entries : length tabl
     in_range = λ f e. absurd (some≢none f (sym e));
   }
 
-pub by_four : (field : ℕ) (pw table : List ℕ) (d : ℕ) (r : Nearest) (out : List ℕ) → field ≡ 3 → length table ≡ 4 * length pw → length out ≡ 4 * d → FourCandidates field pw table d out r →
+pub by_four : (field : ℕ) (pw table : List ℕ) (d : ℕ) (r : Bool) (out : List ℕ) → field ≡ 3 → length table ≡ 4 * length pw → length out ≡ 4 * d → FourCandidates field pw table d out r →
     FoundIn (spelling_of field) field pw table d r out
 unfolding spelling_of
 by_four field pw table d r out h entries long is =

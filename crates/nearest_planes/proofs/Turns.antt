@@ -1,11 +1,11 @@
 -- The turns of `cut`, `put` and `candidates_in`, over plain lists.
-use Prim.Native.Nat.{ℕ, zero, suc, ◌+◌, ◌-◌, ◌*◌, ◌/◌, ◌≤◌, ◌<◌}
+use Prim.Native.Nat.{ℕ, suc, ◌+◌, ◌*◌, ◌≤◌, ◌<◌}
 use mathlib.Core.Logic.{⊎_elim}
 use native.Mathlib.Nat.{eq-or-lt_of_le}
 use native.Mathlib.Omega.{arith}
 use mathlib.Core.Path.{◌≡◌, refl, sym, ap, ◌∙◌, subst}
-use mathlib.Core.List.{List, map}
-use mathlib.Core.Option.{Option, none, some}
+use mathlib.Core.List.{List}
+use mathlib.Core.Option.{Option, some}
 use lib.ListN.{length, get_or, set, length-set}
 use lib.Seq.{get_or-set_same, get_or-set_other}
 use Rattle.definition.specs.Field.{field_of}
@@ -17,8 +17,7 @@ use Rattle.algebra.specs.PrimeField.{laws}
 use Rattle.algebra.specs.Coefficients.{Elements}
 use Rattle.decoder.specs.Answer.{polynomial_of}
 use Rattle.decoder.specs.Steps.{OfElements}
-use Rattle.decoder.specs.declared.Nearest.{Nearest}
-use Rattle.decoder.specs.declared.Nearest.TheVariants.{Found, Nothing}
+use mathlib.Core.Bool.{Bool, true, false}
 use Rattle.candidate.specs.Tables.{Candidate}
 use Rattle.nearest_planes.specs.Planes.{plane, FourCandidates}
 
@@ -67,13 +66,13 @@ Done field pw table d out k =
 pub done_none : (field : ℕ) (pw table : List ℕ) (d : ℕ) (out : List ℕ) → Done field pw table d out 0
 done_none field pw table d out j u = absurd (omega arith)
 
-module _ (field : ℕ) (pw table : List ℕ) (d k : ℕ) {one : List ℕ} (part : List ℕ) (r : Nearest) (is : one ≡ plane k (length pw) table) (c : Candidate field pw one d (polynomial_of r part)) where
-  pub plane_none : (out : List ℕ) → k < 4 → r ≡ Nothing → FourCandidates field pw table d out Nothing
+module _ (field : ℕ) (pw table : List ℕ) (d k : ℕ) {one : List ℕ} (part : List ℕ) (r : Bool) (is : one ≡ plane k (length pw) table) (c : Candidate field pw one d (polynomial_of r part)) where
+  pub plane_none : (out : List ℕ) → k < 4 → r ≡ false → FourCandidates field pw table d out false
   unfolding polynomial_of
   plane_none out u e =
-      (k, (u, subst (λ (o : Option (List ℕ)). Candidate field pw (plane k (length pw) table) d o) (ap (λ (x : Nearest). polynomial_of x part) e) (subst (λ (t : List ℕ). Candidate field pw t d (polynomial_of r part)) is c)))
+      (k, (u, subst (λ (o : Option (List ℕ)). Candidate field pw (plane k (length pw) table) d o) (ap (λ (x : Bool). polynomial_of x part) e) (subst (λ (t : List ℕ). Candidate field pw t d (polynomial_of r part)) is c)))
 
-  pub plane_next : (out out' : List ℕ) → k < 4 → r ≡ Found → OfElements field (polynomial_of r part) → plane k d out' ≡ part →
+  pub plane_next : (out out' : List ℕ) → k < 4 → r ≡ true → OfElements field (polynomial_of r part) → plane k d out' ≡ part →
       ((j : ℕ) → j < 4 → (j ≡ k → ⊥) → plane j d out' ≡ plane j d out) → Done field pw table d out k → Done field pw table d out' (k + 1)
   unfolding polynomial_of
   plane_next out out' u e elements ep eo h j l = ⊎_elim
@@ -82,7 +81,7 @@ module _ (field : ℕ) (pw table : List ℕ) (d k : ℕ) {one : List ℕ} (part 
       subst (λ (p : List ℕ). Candidate field pw (plane j (length pw) table) d (some p) × Elements (field_of field) (laws field) p) (sym s) (h j (omega arith))) (eq-or-lt_of_le l)
     where
       found : polynomial_of r part ≡ some (plane k d out')
-      found = ap (λ (x : Nearest). polynomial_of x part) e ∙ ap {B = Option (List ℕ)} some (sym ep)
+      found = ap (λ (x : Bool). polynomial_of x part) e ∙ ap {B = Option (List ℕ)} some (sym ep)
 
       here : Candidate field pw (plane k (length pw) table) d (some (plane k d out')) × Elements (field_of field) (laws field) (plane k d out')
       here = (subst (λ (o : Option (List ℕ)). Candidate field pw (plane k (length pw) table) d o) found (subst (λ (t : List ℕ). Candidate field pw t d (polynomial_of r part)) is c), elements (plane k d out') found)

@@ -1,18 +1,16 @@
 -- The decoder's candidate for a table, in either spelling.
-use Rattle.std.specs.Prelude.{ℕ, ◌-◌, ◌/◌, ◌≤◌, ◌≡◌, List, map, length}
+use Rattle.std.specs.Prelude.{ℕ, Bool, true, false, ◌-◌, ◌/◌, ◌≤◌, ◌≡◌, List, map, length}
 use Rattle.std.proofs.Math.Option.{Option, none, some}
 use Rattle.definition.specs.Field.{Element, Spelling, elements_in, field_in, number_in, prime_of}
 use Rattle.algebra.specs.FieldIn.{Below}
 use Rattle.list_laws.specs.All.{All}
 use Rattle.decoding.specs.Errors.{wrong_at}
-use Rattle.decoder.specs.declared.Nearest.{Nearest}
-use Rattle.decoder.specs.declared.Nearest.TheVariants.{Found, Nothing}
 use Rattle.domain.specs.Powers.{Powers}
 
 -- the polynomial in the places lent, by its elements, or that there is none
-unfoldable pub polynomial_in : (σ : Spelling) → Nearest → List ℕ → Option (List (Element σ))
-polynomial_in σ Found out = some (elements_in σ out)
-polynomial_in σ Nothing out = none
+unfoldable pub polynomial_in : (σ : Spelling) → Bool → List ℕ → Option (List (Element σ))
+polynomial_in σ true out = some (elements_in σ out)
+polynomial_in σ false out = none
 
 -- what was found has d coefficients, each an element in range
 abbrev pub InRange : (σ : Spelling) → ℕ → ℕ → Option (List (Element σ)) → Type 0
@@ -25,6 +23,6 @@ CandidateIn σ field pw table d o =
     length (wrong_at (field_in σ (prime_of field)) (map (number_in σ) pw) (elements_in σ table) f) ≤ (length pw - d) / 2 → o ≡ some f
 
 -- both of what stands in the places lent
-pub record FoundIn (σ : Spelling) (field : ℕ) (pw table : List ℕ) (d : ℕ) (r : Nearest) (out : List ℕ) : Type 0 where
+pub record FoundIn (σ : Spelling) (field : ℕ) (pw table : List ℕ) (d : ℕ) (r : Bool) (out : List ℕ) : Type 0 where
   pub candidate : CandidateIn σ field pw table d (polynomial_in σ r out)
   pub in_range : InRange σ (prime_of field) d (polynomial_in σ r out)

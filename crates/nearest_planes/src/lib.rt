@@ -9,17 +9,13 @@ ghost use Rattle.spelling.specs.ByField.{words_at};
 ghost use Rattle.nearest_planes.specs.InEither.{FoundIn};
 ghost use Rattle.nearest_planes.specs.Planes.{plane, FourCandidates};
 
-use decoder::Nearest;
-
 // Plane k of words, four to an element: word k of each.
 fn cut(w: &[u32], k: usize, out: &mut [u32])
     requires { (k < 4) × ((length w.now ≡ 4 * length out.old) × (length w.now ≤ 4096)) }
     ensures { out.new ≡ plane k (length out.old) w.now }
 {
-    let mut i = 0;
-    while i < out.len() {
-        out[i] = w[4 * i + k];
-        i += 1;
+    for (i, word) in out.iter_mut().enumerate() {
+        *word = w[4 * i + k];
     }
 }
 
@@ -29,10 +25,8 @@ fn put(f: &[u32], k: usize, out: &mut [u32])
     ensures out_after { plane k (length f.now) out.new ≡ f.now }
     ensures by_index { (j : ℕ) → j < 4 → (j ≡ k → ⊥) → plane j (length f.now) out.new ≡ plane j (length f.now) out.old }
 {
-    let mut i = 0;
-    while i < f.len() {
-        out[4 * i + k] = f[i];
-        i += 1;
+    for (i, word) in f.iter().enumerate() {
+        out[4 * i + k] = *word;
     }
 }
 
@@ -44,21 +38,19 @@ fn candidates_in(
     one: &mut [u32],
     part: &mut [u32],
     out: &mut [u32],
-) -> Nearest
+) -> bool
     requires { (Sized (length pw.now) (length part.old)) × ((length one.old ≡ length pw.now) × ((length table.now ≡ 4 * length pw.now) × ((length out.old ≡ 4 * length part.old) × (length table.now ≤ 4096)))) }
     ensures { FourCandidates field pw.now table.now (length part.old) out.new result }
 {
-    let mut k = 0;
-    while k < 4 {
+    for k in 0..4 {
         cut(table, k, one);
         let found = candidate::candidate(field, pw, one, part);
-        let Nearest::Found = found else {
-            return Nearest::Nothing;
-        };
+        if !found {
+            return false;
+        }
         put(part, k, out);
-        k += 1;
     }
-    Nearest::Found
+    true
 }
 
 // Places for a plane of the table, of at most 1,024 entries, and for one of the polynomial, of at most 512 coefficients.
@@ -67,7 +59,7 @@ const ENTRIES: usize = 1024;
 const COEFFICIENTS: usize = 512;
 
 // The candidate for a table of elements of four words, at most 1,024 of them.
-fn candidates(field: u32, pw: &[u32], table: &[u32], d: usize, out: &mut [u32]) -> Nearest
+fn candidates(field: u32, pw: &[u32], table: &[u32], d: usize, out: &mut [u32]) -> bool
     requires { (Sized (length pw.now) d) × ((length table.now ≡ 4 * length pw.now) × ((length out.old ≡ 4 * d) × ((length pw.now ≤ 1024) × (d ≤ 512)))) }
     ensures { FourCandidates field pw.now table.now d out.new result }
 {
@@ -78,7 +70,7 @@ fn candidates(field: u32, pw: &[u32], table: &[u32], d: usize, out: &mut [u32]) 
 }
 
 // The candidate for a table in either spelling, of d coefficients.
-pub fn candidate(field: u32, pw: &[u32], table: &[u32], d: usize, out: &mut [u32]) -> Nearest
+pub fn candidate(field: u32, pw: &[u32], table: &[u32], d: usize, out: &mut [u32]) -> bool
     requires sized { (Sized (length pw.now) d) × ((length table.now ≡ words_at field (length pw.now)) × (length out.old ≡ words_at field d)) }
     requires table_len_bound { (length table.now ≤ 4096) × (length out.old ≤ 2048) }
     ensures { FoundIn (spelling_of field) field pw.now table.now d result out.new }

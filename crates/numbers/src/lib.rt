@@ -1,15 +1,16 @@
 // What an operation answers as numbers, for callers from C, by value: whoever is lent places writes them himself, since a loan passed on makes a proof longer.
 #![tactic(auto)]
 
-ghost use Rattle.std.specs.Prelude.{◌≡◌};
+ghost use Rattle.std.specs.Prelude.{◌≡◌, MatchOption};
 ghost use Rattle.field.specs.Answer.{element_of, powered_of, inverted_of};
 ghost use Rattle.outcome.specs.Meaning.{answer_of, outcome_of, verdict_of};
 ghost use Rattle.reader.specs.Words.{value_of as word_of};
+ghost use Rattle.numbers.specs.Reasons.{reason_number};
 ghost use Rattle.numbers.specs.Numbers.{number_of, place_in, refusal_of, value_of, word_number, word_after, element_number, element_after, power_number, power_after, turns_after, inverse_number, inverse_after};
 
-use field::{Element, Inverted, PowerTurns};
+use arithmetic::Powered;
+use field::NoInverse;
 use outcome::{Answer, Outcome, Verdict};
-use reader::Word;
 
 // Why nothing is written, where the documents have no refusal for it: apart from their numbers, and none of them 0.
 pub const NO_FIELD: u32 = 100;
@@ -111,44 +112,46 @@ pub fn refusal_number(answer: Answer) -> u32
     }
 }
 
-pub fn of_word(answer: Word) -> Shown
+// A word that may be there: 0 and the word, or the reason and 0.
+fn word_or(answer: Option<u32>, reason: u32) -> Shown
+    ensures number_value { MatchOption answer (result.number ≡ reason) (λ x. result.number ≡ 0) }
+    ensures word_value { MatchOption answer (result.word ≡ 0) (λ x. result.word ≡ x) }
+{
+    match answer {
+        Some(x) => Shown { number: 0, word: x },
+        None => Shown {
+            number: reason,
+            word: 0,
+        },
+    }
+}
+
+pub fn of_word(answer: Option<u32>) -> Shown
     ensures number_value { result.number ≡ word_number (word_of answer) }
     ensures word_value { result.word ≡ word_after (word_of answer) 0 }
 {
-    match answer {
-        Word::Value(x) => Shown { number: 0, word: x },
-        Word::End => Shown {
-            number: NO_WORD,
-            word: 0,
-        },
-    }
+    word_or(answer, NO_WORD)
 }
 
-pub fn of_element(answer: Element) -> Shown
+pub fn of_element(answer: Option<u32>) -> Shown
     ensures number_value { result.number ≡ element_number (element_of answer) }
     ensures word_value { result.word ≡ element_after (element_of answer) 0 }
 {
-    match answer {
-        Element::Value(x) => Shown { number: 0, word: x },
-        Element::NoField => Shown {
-            number: NO_FIELD,
-            word: 0,
-        },
-    }
+    word_or(answer, NO_FIELD)
 }
 
-pub fn of_power(answer: PowerTurns) -> Raised
+pub fn of_power(answer: Option<Powered<u32>>) -> Raised
     ensures number_value { result.number ≡ power_number (powered_of answer) }
     ensures power_value { result.power ≡ power_after (powered_of answer) 0 }
     ensures turns_value { result.turns ≡ turns_after (powered_of answer) 0 }
 {
     match answer {
-        PowerTurns::Value(x, made) => Raised {
+        Some(p) => Raised {
             number: 0,
-            power: x,
-            turns: made,
+            power: p.value,
+            turns: p.turns,
         },
-        PowerTurns::NoField => Raised {
+        None => Raised {
             number: NO_FIELD,
             power: 0,
             turns: 0,
@@ -156,18 +159,24 @@ pub fn of_power(answer: PowerTurns) -> Raised
     }
 }
 
-pub fn of_inverse(answer: Inverted) -> Shown
+// The number of the reason why there is no inverse.
+fn reason_number(reason: NoInverse) -> u32
+    ensures { result ≡ reason_number reason }
+{
+    match reason {
+        NoInverse::Zero => NO_INVERSE,
+        NoInverse::NoField => NO_FIELD,
+    }
+}
+
+pub fn of_inverse(answer: Result<u32, NoInverse>) -> Shown
     ensures number_value { result.number ≡ inverse_number (inverted_of answer) }
     ensures word_value { result.word ≡ inverse_after (inverted_of answer) 0 }
 {
     match answer {
-        Inverted::Found(u) => Shown { number: 0, word: u },
-        Inverted::Nothing => Shown {
-            number: NO_INVERSE,
-            word: 0,
-        },
-        Inverted::NoField => Shown {
-            number: NO_FIELD,
+        Ok(u) => Shown { number: 0, word: u },
+        Err(reason) => Shown {
+            number: reason_number(reason),
             word: 0,
         },
     }

@@ -25,9 +25,9 @@ use Rattle.definition.specs.Sheet.{Edition, Level, Sheet, root_of_unity, sheet_l
 use Rattle.definition.specs.Verdict.{Outcome, ◌then◌, accepted, refuse_at, refused}
 use Rattle.domain.specs.OutCoins.{FirstInside, first_inside, or_else}
 use Rattle.domain.specs.Powers.{Powers}
-use Rattle.outcome.specs.declared.Found.{Found}
-use Rattle.outcome.specs.declared.Found.TheVariants.{At, Nothing}
-use Rattle.outcome.specs.Meaning.{place_of}
+use Rattle.std.specs.Option.{option_or}
+use Rattle.std.specs.Prelude.{Some, None}
+use Rattle.outcome.specs.Meaning.{Found, place_of}
 use Rattle.out_coins.specs.Kinds.{kinds_after_fold, kinds_first, kinds_last, messages_in, round_count, round_word_count}
 use Rattle.out_coins.specs.Walks.{begun, equal_none, equal_step, equal_at, equal_from, inside_none, inside_step, inside_from, rest_there, tests_are, tests_rest}
 
@@ -87,11 +87,20 @@ outs_first alone w i =
     omega (arith, count_add σ (s + messages_in alone s) 2, count_add σ s (messages_in alone s))
 
 -- what the noted pair says in the end
-pub ended_at : {f : Found} {place : ℕ} {o : Outcome} → f ≡ At place → (refuse_at 7 none then refuse_at 14 (place_of f)) ≡ o → refused 14 place ≡ o
+-- what is found earlier comes first
+or_place : (earlier later : Found) → place_of (option_or earlier later) ≡ or_else (place_of earlier) (place_of later)
+unfolding place_of
+or_place None later = refl
+or_place (Some place) later = refl
+
+pub found_first : (earlier later : Found) {r : Found} → r ≡ option_or earlier later → place_of r ≡ or_else (place_of earlier) (place_of later)
+found_first earlier later e = ap place_of e ∙ or_place earlier later
+
+pub ended_at : {f : Found} {place : ℕ} {o : Outcome} → f ≡ Some place → (refuse_at 7 none then refuse_at 14 (place_of f)) ≡ o → refused 14 place ≡ o
 unfolding place_of refuse_at ◌then◌
 ended_at e q = sym (ap (λ (x : Found). refuse_at 7 none then refuse_at 14 (place_of x)) e) ∙ q
 
-pub ended_nowhere : {f : Found} {o : Outcome} → f ≡ Nothing → (refuse_at 7 none then refuse_at 14 (place_of f)) ≡ o → accepted ≡ o
+pub ended_nowhere : {f : Found} {o : Outcome} → f ≡ None → (refuse_at 7 none then refuse_at 14 (place_of f)) ≡ o → accepted ≡ o
 unfolding place_of refuse_at ◌then◌
 ended_nowhere e q = sym (ap (λ (x : Found). refuse_at 7 none then refuse_at 14 (place_of x)) e) ∙ q
 

@@ -18,7 +18,7 @@ ghost use Rattle.out_coins.specs.Kinds.{kinds_after_fold, messages_in, round_wor
 ghost use Rattle.out_coins.specs.Walks.{equal_at};
 
 use edition::Edition;
-use outcome::{Found, Outcome};
+use outcome::Outcome;
 
 // How many of n messages stand among the words: none where the coins stand alone.
 fn messages(alone: bool, n: usize) -> usize
@@ -69,27 +69,17 @@ fn same(field: u32, words: &[u32], i: usize, j: usize) -> bool
 }
 
 // The second of two equal out coins of a round, which are the `count` elements from word `at` on.
-fn second_equal(field: u32, words: &[u32], at: usize, count: usize) -> Found
+fn second_equal(field: u32, words: &[u32], at: usize, count: usize) -> Option<usize>
     requires { at + word_count (spelling_of field) count ≤ length words.now }
     ensures { place_of result ≡ equal_at (spelling_of field) (prime_of field) words.now at count }
 {
     if 2 <= count {
         let second = at + widths::words(field, 1);
         if same(field, words, second, at) {
-            return Found::At(second);
+            return Some(second);
         }
     }
-    Found::Nothing
-}
-
-// What was found first.
-fn first_of(earlier: Found, later: Found) -> Found
-    ensures { place_of result ≡ or_else (place_of earlier) (place_of later) }
-{
-    if let Found::At(place) = earlier {
-        return Found::At(place);
-    }
-    later
+    None
 }
 
 // The tests of the out coins among the words from number `start` on, the first after fold coin 0. The words are those of a stream, or coins alone.
@@ -109,23 +99,21 @@ fn after_fold(
     let field = w[0];
     let rounds = w[4] as usize;
     let s = w[5] as usize;
-    let mut equal = Found::Nothing;
+    let mut equal = None;
     let mut at = start;
     let mut scale = 1;
-    let mut i = 0;
-    while i < rounds {
+    for i in 0..rounds {
         scale *= 2;
         // the table stands first
         let outs = at + widths::words(field, messages(alone, pw.len() / scale));
         let inside = domain::first_inside(field, words, pw, scale, outs, s);
-        if let Found::At(place) = inside {
+        if let Some(place) = inside {
             return Outcome::Refused(7, place);
         }
-        equal = first_of(equal, second_equal(field, words, outs, s));
+        equal = equal.or(second_equal(field, words, outs, s));
         at = after_round(w, alone, outs, i);
-        i += 1;
     }
-    if let Found::At(place) = equal {
+    if let Some(place) = equal {
         return Outcome::Refused(14, place);
     }
     Outcome::Accepted

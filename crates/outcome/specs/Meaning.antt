@@ -1,19 +1,21 @@
 -- What each case of an answer in code says, in the terms of the definition: its number and its values.
-use Rattle.std.specs.Prelude.{ℕ}
-use Rattle.std.proofs.Math.Option.{Option, none, some}
+use Rattle.std.specs.Prelude.{ℕ, Option, None, Some}
+use Rattle.std.proofs.Math.Option.{Option as Place, none, some}
 use Rattle.definition.specs.Verdict as definition
 use Rattle.definition.specs.Prove as prove
-use Rattle.outcome.specs.declared.Found.{Found}
-use Rattle.outcome.specs.declared.Found.TheVariants.{At, Nothing}
 use Rattle.outcome.specs.declared.Outcome.{Outcome}
 use Rattle.outcome.specs.declared.Outcome.TheVariants.{Accepted, Refused}
 use Rattle.outcome.specs.declared.Verdict.{Verdict}
 use Rattle.outcome.specs.declared.Answer.{Answer}
 use Rattle.outcome.specs.declared.Answer.TheVariants.{Done, Refusal}
 
-unfoldable pub place_of : Found → Option ℕ
-place_of (At place) = some place
-place_of Nothing = none
+-- where a test fails first, if it does, as code answers it
+abbrev pub Found : Type 0
+Found = Option ℕ
+
+unfoldable pub place_of : Found → Place ℕ
+place_of (Some place) = some place
+place_of None = none
 
 unfoldable pub outcome_of : Outcome → definition.Outcome
 outcome_of Accepted = definition.accepted

@@ -1,14 +1,8 @@
 // What tests and operations answer.
 #![tactic(auto)]
 
-// Where a test fails first, if it does.
-#[derive(Clone, Copy)]
-pub enum Found {
-    At(usize),
-    Nothing,
-}
-
-// Accepted, or a fault with number and place.
+// Accepted, or a fault with number and place. An enum of its own and no Result: the scope of the project names this form, and a device's state, which a caller
+// makes up, may hold any number.
 #[derive(Clone, Copy)]
 pub enum Outcome {
     Accepted,

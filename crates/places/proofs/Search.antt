@@ -1,23 +1,21 @@
--- Looking for x among the words from number i on: it is here, or further on, or nowhere. Assumes nothing.
-use Prim.Native.Nat.{ℕ, ◌+◌, ◌≤◌, ◌<◌}
-use mathlib.Core.Bool.{true, false}
-use mathlib.Core.List.{List}
-use mathlib.Core.Path.{◌≡◌}
-use native.Mathlib.Numerals.{add-one}
+-- The library's search of a slice for an element answers what `member` does. Assumes nothing.
+use Prim.Native.Nat.{ℕ}
+use mathlib.Core.Bool.{Bool, true, false}
+use mathlib.Core.List.{List, [], ◌∷◌}
+use mathlib.Core.Path.{◌≡◌, refl, sym}
 use lib.Dec.{eqb}
-use lib.ListN.{length, drop, get_or, drop_of_length-le}
-use lib.Seq.{drop-cons}
-use borrow.Author.Tests.{eq-eqb, ne_eqb}
+use Rattle.std.specs.List.{list_any}
+use Rattle.std.proofs.lemmas.Bool.{eqb-true, eqb-false, eq-eqb, ne_eqb}
 use Rattle.definition.specs.Lists.{member}
 
-pub here : (xs : List ℕ) (i x : ℕ) → i < length xs → x ≡ get_or xs i 0 → true ≡ member eqb x (drop i xs)
-unfolding member
-here xs i x h e = rw (drop-cons xs i 0 h) (simp (eq-eqb _ _ e))
+either_way : (x y : ℕ) → eqb y x ≡ eqb x y
+either_way x y = go (eqb x y) refl
+  where
+    go : (b : Bool) → eqb x y ≡ b → eqb y x ≡ b
+    go true e = eq-eqb y x (sym (eqb-true x y e))
+    go false e = ne_eqb y x (λ d. eqb-false x y e (sym d))
 
-pub next : (xs : List ℕ) (i x : ℕ) → i < length xs → (x ≡ get_or xs i 0 → ⊥) → member eqb x (drop (i + 1) xs) ≡ member eqb x (drop i xs)
+pub any_member : (x : ℕ) (ys : List ℕ) → list_any (λ y. eqb y x) ys ≡ member eqb x ys
 unfolding member
-next xs i x h e = rw (add-one, drop-cons xs i 0 h) (simp (ne_eqb _ _ e))
-
-pub nowhere : (xs : List ℕ) (i x : ℕ) → length xs ≤ i → false ≡ member eqb x (drop i xs)
-unfolding member
-nowhere xs i x h = rw (drop_of_length-le xs h)
+any_member x [] = refl
+any_member x (y ∷ ys) = rw (either_way x y, any_member x ys)

@@ -3,6 +3,7 @@ use Rattle.std.specs.Prelude.{ℕ, zero, suc, ◌+◌, ◌-◌, ◌≤◌, ◌<�
 use Rattle.std.proofs.Common.{le_refl, arith, sym, ap, ◌∙◌, length-set, drop_of_length-le, get_or-set_same, get_or-set_other, eqb-true}
 use Rattle.std.proofs.lemmas.List.{get_or-replicate, length-replicate}
 use Rattle.std.proofs.lemmas.Bool.{eqb-false, not-true, not-false}
+use Rattle.std.proofs.Math.Dec.{eqb-suc-zero}
 use Rattle.list_laws.specs.All.{All}
 use Rattle.definition.specs.Lists.{different, member}
 use Rattle.list_laws.specs.Backwards.{drop_back}
@@ -42,14 +43,11 @@ unfoldable pub is_mark : ℕ → Bool
 is_mark zero = false
 is_mark (suc m) = true
 
-pub no_mark : (m : ℕ) → m ≡ 0 → false ≡ is_mark m
+-- a byte is a mark exactly where it is not 0
+pub mark_test : (m : ℕ) → not (eqb m 0) ≡ is_mark m
 unfolding is_mark
-no_mark m e = rw e
-
-pub a_mark : (m : ℕ) → (m ≡ 0 → ⊥) → true ≡ is_mark m
-unfolding is_mark
-a_mark zero h = absurd (h refl)
-a_mark (suc m) h = refl
+mark_test zero = refl
+mark_test (suc m) = rw (eqb-suc-zero m)
 
 -- of n indices, those marked are the ones among js
 pub record Marked (n : ℕ) (js marks : List ℕ) : Type 0 where

@@ -11,24 +11,18 @@ pub fn found(xs: &[u32], from: usize, x: u32) -> bool
     requires { from ≤ length xs.now }
     ensures { result ≡ member eqb x (drop from xs.now) }
 {
-    let mut i = from;
-    while i < xs.len() {
-        if x == xs[i] {
-            return true;
-        }
-        i += 1;
-    }
-    false
+    xs[from..].contains(&x)
 }
+
+// As many indices are compared in pairs.
+const FEW: usize = 8;
 
 // The number of different ones, each compared with those after it: for a few indices this takes less time than clearing the marks.
 fn count_few(js: &[u32]) -> usize
     ensures { result ≡ length (different eqb js.now) }
 {
     let mut count = 0;
-    let mut i = js.len();
-    while 0 < i {
-        i -= 1;
+    for i in (0..js.len()).rev() {
         if !found(js, i + 1, js[i]) {
             count += 1;
         }
@@ -47,20 +41,18 @@ fn mark(marks: &mut [u8], j: usize) -> bool
 {
     let was = marks[j];
     marks[j] = 1;
-    if was == 0 { false } else { true }
+    was != 0
 }
 
 // The number of different ones, from the last on, by the marks lent, of which none is set.
 fn count_by(js: &[u32], marks: &mut [u8]) -> usize
-    requires all { All (λ j. j < 2048) js.now }
-    requires marks_value { marks.old ≡ replicate 2048 0 }
+    requires all { All (λ j. j < INDICES) js.now }
+    requires marks_value { marks.old ≡ replicate INDICES 0 }
     ensures { result ≡ length (different eqb js.now) }
 {
     let mut count = 0;
-    let mut i = js.len();
-    while 0 < i {
-        i -= 1;
-        if !mark(marks, js[i] as usize) {
+    for j in js.iter().rev() {
+        if !mark(marks, *j as usize) {
             count += 1;
         }
     }
@@ -69,7 +61,7 @@ fn count_by(js: &[u32], marks: &mut [u8]) -> usize
 
 // The number of different ones, by marks.
 fn count_many(js: &[u32]) -> usize
-    requires { All (λ j. j < 2048) js.now }
+    requires { All (λ j. j < INDICES) js.now }
     ensures { result ≡ length (different eqb js.now) }
 {
     let mut marks = [0u8; INDICES];
@@ -81,8 +73,9 @@ pub fn count(js: &[u32]) -> usize
     requires { All (λ j. j < 2048) js.now }
     ensures { result ≡ length (different eqb js.now) }
 {
-    if js.len() <= 8 {
-        return count_few(js);
+    if js.len() <= FEW {
+        count_few(js)
+    } else {
+        count_many(js)
     }
-    count_many(js)
 }

@@ -4,7 +4,7 @@
 ghost use Rattle.std.specs.Prelude.{◌≡◌, ℕ, ◌+◌, ◌*◌, ◌≤◌, ◌<◌, length, get_or};
 ghost use Rattle.definition.specs.Field.{quads};
 ghost use Rattle.tables.specs.Halving.{Halves, Spaced};
-ghost use Rattle.plane_tables.specs.FourTable.{FourTable, FourDomain, TableAt, DomainTableAt};
+ghost use Rattle.plane_tables.specs.FourTable.{FourTable, TableAt, DomainTableAt};
 ghost use Rattle.spelling.specs.ByField.{elements_at, words_at};
 
 // Word number c of each element of out becomes the value in its place.
@@ -13,10 +13,8 @@ fn put_plane(values: &[u32], c: usize, out: &mut [u32])
     ensures by_index { (k : ℕ) → k < length values.now → get_or out.new (4 * k + c) 0 ≡ get_or values.now k 0 }
     ensures by_index_2 { (e k : ℕ) → e < c → get_or out.new (4 * k + e) 0 ≡ get_or out.old (4 * k + e) 0 }
 {
-    let mut j = 0;
-    while j < values.len() {
-        out[4 * j + c] = values[j];
-        j += 1;
+    for (j, value) in values.iter().enumerate() {
+        out[4 * j + c] = *value;
     }
 }
 
@@ -27,38 +25,19 @@ pub fn by_planes(f: &[u32], pw: &[u32], at: usize, step: usize, plane: &mut [u32
     ensures { FourTable f.now pw.now at step (length plane.old) out.new }
 {
     let n = quartic::count(f);
-    let mut c = 0;
-    while c < 4 {
+    for c in 0..4 {
         tables::table(2, f, c, 4, n, pw, at, step, plane);
         put_plane(plane, c, out);
-        c += 1;
     }
 }
 
-// Places for a plane of a table over a domain, and over the roots of a point.
-const DOMAIN: usize = 1024;
-
-const ROOTS: usize = 16;
-
-// The table over a domain, of four words each.
-fn on_domain_four(f: &[u32], pw: &[u32], scale: usize, out: &mut [u32])
-    requires halves { Halves (length (quads f.now)) (length (quads out.old)) }
-    requires scale_nonzero { (0 < scale) × (scale * length (quads out.old) ≡ length pw.now) }
-    requires out_len { (length out.old ≡ 4 * length (quads out.old)) × (length out.old ≤ 4096) }
-    ensures { FourDomain f.now pw.now scale (length (quads out.old)) out.new }
-{
-    let mut plane = [0u32; DOMAIN];
-    let n = quartic::count(out);
-    by_planes(f, pw, 0, scale, &mut plane[..n], out);
-}
-
-// The table over as many points as there are coefficients, of four words each.
-fn on_roots_four(f: &[u32], pw: &[u32], at: usize, step: usize, out: &mut [u32])
+// The table of at most POINTS entries, of four words each, by way of a plane of its own.
+fn by_own_plane<const POINTS: usize>(f: &[u32], pw: &[u32], at: usize, step: usize, out: &mut [u32])
     requires halves { Halves (length (quads f.now)) (length (quads out.old)) × Spaced at step (length (quads out.old)) (length pw.now) }
-    requires out_len { (length out.old ≡ 4 * length (quads out.old)) × (length (quads out.old) ≤ 16) }
+    requires out_len { (length out.old ≡ 4 * length (quads out.old)) × ((length (quads out.old) ≤ POINTS) × (POINTS ≤ 1024)) }
     ensures { FourTable f.now pw.now at step (length (quads out.old)) out.new }
 {
-    let mut plane = [0u32; ROOTS];
+    let mut plane = [0u32; POINTS];
     let n = quartic::count(out);
     by_planes(f, pw, at, step, &mut plane[..n], out);
 }
@@ -71,7 +50,8 @@ pub fn domain_table(field: u32, f: &[u32], pw: &[u32], scale: usize, out: &mut [
     ensures { DomainTableAt field f.now pw.now scale (length (elements_at field out.old)) out.new }
 {
     if field == 3 {
-        on_domain_four(f, pw, scale, out);
+        let at = 0;
+        by_own_plane::<1024>(f, pw, at, scale, out);
     } else {
         tables::on_domain(field, f, pw, scale, out);
     }
@@ -84,7 +64,7 @@ pub fn roots_table(field: u32, f: &[u32], pw: &[u32], at: usize, step: usize, ou
     ensures { TableAt field f.now pw.now at step (length (elements_at field out.old)) out.new }
 {
     if field == 3 {
-        on_roots_four(f, pw, at, step, out);
+        by_own_plane::<16>(f, pw, at, step, out);
     } else {
         tables::on_roots(field, f, pw, at, step, out);
     }

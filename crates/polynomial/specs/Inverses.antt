@@ -1,16 +1,16 @@
 -- The inverses of two elements from that of their product. In the three fields an inverse is reduced.
-use Prim.Native.Nat.{ℕ, ◌-◌, ◌%◌}
-use Rattle.std.proofs.Common.{mul-one, ◌∙◌}
-use Rattle.std.specs.Prelude.{eqb, Bool, true, false, cond, ◌≡◌}
-use Rattle.std.proofs.Math.Option.{Option, none, some}
+use Prim.Native.Nat.{ℕ}
+use Rattle.std.proofs.Common.{◌∙◌}
+use Rattle.std.specs.Prelude.{◌≡◌}
+use Rattle.std.proofs.Math.Option.{Option, some}
 use Rattle.std.proofs.Math.Path.{sym, ap, ◌≡⟨◌⟩◌, ◌∎}
-use Rattle.definition.specs.Field.{Field, power_mod, prime_field, prime_of, field_of, found_or, reciprocal}
+use Rattle.definition.specs.Field.{Field, field_of, found_or, reciprocal}
 use Rattle.algebra.specs.Divisors as divisors
 use Rattle.algebra.specs.Divisors.{found_differs}
 use Rattle.algebra.specs.Laws.{FieldLaws}
-use Rattle.algebra.specs.PowerBySquaring.{power_mod_reduced}
 use Rattle.algebra.specs.PrimeField.{laws}
 use Rattle.algebra.specs.RingLaws.{one_mul}
+use Rattle.field.specs.OneWord.{reduced_by_one}
 
 module _ {A : Type 0} (F : Field A) (L : FieldLaws F) (reduced : (x : A) → L.reduce (reciprocal F x) ≡ reciprocal F x) where
   infixl 70 ◌⊗◌
@@ -59,12 +59,4 @@ Nonzero field x = divisors.Nonzero (field_of field) (laws field) x
 
 module _ (field : ℕ) where
   pub inverse_reduced : (x : ℕ) → (laws field).reduce (reciprocal (field_of field) x) ≡ reciprocal (field_of field) x
-  unfolding field_of prime_field reciprocal found_or
-  inverse_reduced x = go (eqb (x % prime_of field) 0)
-    where
-      u : ℕ
-      u = power_mod x (prime_of field - 2) (prime_of field)
-
-      go : (b : Bool) → (laws field).reduce (found_or 0 (cond b none (some u))) ≡ found_or 0 (cond b none (some u))
-      go true = (laws field).reduce_zero
-      go false = sym ((laws field).mul_one u) ∙ ap (λ (n : ℕ). n % prime_of field) (mul-one u) ∙ power_mod_reduced x (prime_of field - 2) (prime_of field)
+  inverse_reduced x = reduced_by_one field x

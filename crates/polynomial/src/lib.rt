@@ -1,22 +1,9 @@
-// Polynomials over one of the fields, at a point, by their coefficients.
+// The geometric sum over one of the prime fields, at a point.
 #![tactic(auto)]
 
 ghost use Rattle.std.specs.Prelude.{◌≡◌};
 ghost use Rattle.definition.specs.Field.{field_of};
 ghost use Rattle.definition.specs.Polynomial.{evaluate, geometric};
-
-// The value at x of the polynomial with these coefficients, by Horner's rule.
-pub fn value_at(field: u32, coefficients: &[u32], x: u32) -> u32
-    ensures { result ≡ evaluate (field_of field) coefficients.now x }
-{
-    let mut value: u32 = 0;
-    let mut i = coefficients.len();
-    while 0 < i {
-        i -= 1;
-        value = field::add_product(field, coefficients[i], x, value);
-    }
-    value
-}
 
 // 1 + cx + .. + (cx)^e, which has e + 1 terms, by doubling. What is left to add is b·(1 + q + .. + q^(n-1)): of an odd number of terms the first goes
 // to a, and an even number is half as many at the square of q, 1 + q times.

@@ -73,7 +73,7 @@ pub fn prove(sheet: &[u32], coefficients: &[u32], coins: &[u32], output: &mut [u
     prove_in(Edition::One, sheet, coefficients, coins, output)
 }
 
-// The same of edition 2.
+// The same of edition 2, under a name of its own, as the C function has one.
 pub fn prove_2(sheet: &[u32], coefficients: &[u32], coins: &[u32], output: &mut [u8]) -> Answer
     ensures result_value { answer_of result ≡ (prove_in edition2 sheet.now coefficients.now coins.now output.old).answer }
     ensures output_after { output.new ≡ (prove_in edition2 sheet.now coefficients.now coins.now output.old).output }

@@ -43,7 +43,7 @@ pub fn prove_input(bytes: &[u8], output: &mut [u8]) -> Answer
     prove_input_in(Edition::One, bytes, output)
 }
 
-// The program `prove2`: the same with a sheet of edition 2.
+// The program `prove2`: the same with a sheet of edition 2, under a name of its own, as the program has one.
 pub fn prove_input_2(bytes: &[u8], output: &mut [u8]) -> Answer
     ensures result_value { answer_of result ≡ (prove_input_in edition2 bytes.now output.old).answer }
     ensures output_after { output.new ≡ (prove_input_in edition2 bytes.now output.old).output }

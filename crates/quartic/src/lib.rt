@@ -2,16 +2,17 @@
 // caller. A slice of words holds elements one after the other.
 #![tactic(auto)]
 
-ghost use Rattle.std.specs.Prelude.{◌≡◌, ◌*◌, ◌%◌, ◌≤◌, ◌<◌, length, get_or, set};
-ghost use Rattle.definition.specs.Field.{Field, field_of, embed, norm_first, norm_second, norm, quads};
+ghost use Rattle.std.specs.Prelude.{◌≡◌, ℕ, ◌*◌, ◌%◌, ◌≤◌, ◌<◌, length, get_or, set};
+ghost use Rattle.definition.specs.Field.{Field, Quad, field_of, embed, norm_first, norm_second, norm, quads};
 ghost use Rattle.spelling.specs.Field3.{field3, base};
-ghost use Rattle.definition.specs.Polynomial.{evaluate};
+ghost use Rattle.spelling.specs.Words.{quads_length, quads_take, quads_drop};
 ghost use Rattle.quartic.specs.Meaning.{quad_of, inverse_four};
+ghost use Rattle.quartic.specs.FourWords.{laws_of_four, wide_four, reduced_by_four};
 
-use field::Inversion;
+use arithmetic::{Arithmetic, Inversion};
 
 // An element by its four words.
-#[derive(Clone, Copy)]
+#[derive(Clone, Copy, PartialEq, Eq)]
 pub struct Four {
     pub a: u32,
     pub b: u32,
@@ -173,15 +174,8 @@ fn norm_second(x: Four) -> u32
     field::sub(2, s, t)
 }
 
-// What an inversion answers: the inverse, or that there is none, which is so for 0 alone.
-#[derive(Clone, Copy)]
-pub enum FourInverse {
-    Found(Four),
-    Nothing,
-}
-
 // The inverse: with i that of n² - 11m², it is (a - bX + cX² - dX³)·(n - mX²)·i.
-pub fn inv(x: Four) -> FourInverse
+pub fn inv(x: Four) -> Option<Four>
     ensures { inverse_four result ≡ field3.inverse (quad_of x) }
 {
     let n = norm_first(x);
@@ -191,10 +185,7 @@ pub fn inv(x: Four) -> FourInverse
         field::mul(2, n, n),
         field::mul(2, 11, field::mul(2, m, m)),
     );
-    let inversion = field::inv(2, norm);
-    let Inversion::Found(i) = inversion else {
-        return FourInverse::Nothing;
-    };
+    let i = field::inv(2, norm)?;
     let y = Four {
         a: x.a,
         b: field::sub(2, 0, x.b),
@@ -207,23 +198,14 @@ pub fn inv(x: Four) -> FourInverse
         c: field::mul(2, field::sub(2, 0, m), i),
         d: 0,
     };
-    FourInverse::Found(mul(y, z))
+    Some(mul(y, z))
 }
 
 // Are two elements the same four words?
 pub fn same(x: Four, y: Four) -> bool
     ensures { result ≡ field3.equal (quad_of x) (quad_of y) }
 {
-    if x.a != y.a {
-        return false;
-    }
-    if x.b != y.b {
-        return false;
-    }
-    if x.c != y.c {
-        return false;
-    }
-    x.d == y.d
+    x == y
 }
 
 // Element i of the words.
@@ -259,20 +241,97 @@ pub fn count(w: &[u32]) -> usize
     w.len() / 4
 }
 
-// The value at x of the polynomial with these coefficients, by Horner's rule.
-pub fn value_at(coefficients: &[u32], x: Four) -> Four
-    ensures { quad_of result ≡ evaluate field3 (quads coefficients.now) (quad_of x) }
-{
-    let mut value = Four {
-        a: 0,
-        b: 0,
-        c: 0,
-        d: 0,
-    };
-    let mut i = count(coefficients);
-    while 0 < i {
-        i -= 1;
-        value = add_product(get(coefficients, i), x, value);
+// Field 3 itself: an element is four words.
+#[derive(Clone, Copy)]
+pub struct FourWords;
+
+impl Arithmetic for FourWords {
+    type Element = Four;
+
+    ghost Carrier = { Quad ℕ };
+
+    ghost over = { λ s. field3 };
+
+    ghost laws = { λ s. laws_of_four };
+
+    ghost numbered = { embed base };
+
+    ghost value = { quad_of };
+
+    ghost width = { 4 };
+
+    ghost elements = { quads };
+
+    fn zero(self) -> Four {
+        self.number(0)
     }
-    value
+
+    fn one(self) -> Four {
+        self.number(1)
+    }
+
+    fn number(self, x: u32) -> Four {
+        Four {
+            a: x,
+            b: 0,
+            c: 0,
+            d: 0,
+        }
+    }
+
+    fn add(self, x: Four, y: Four) -> Four {
+        add(x, y)
+    }
+
+    fn sub(self, x: Four, y: Four) -> Four {
+        sub(x, y)
+    }
+
+    fn mul(self, x: Four, y: Four) -> Four {
+        mul(x, y)
+    }
+
+    fn add_product(self, s: Four, x: Four, y: Four) -> Four {
+        add_product(s, x, y)
+    }
+
+    fn scale(self, k: u32, y: Four) -> Four {
+        scale(k, y)
+    }
+
+    fn add_scaled(self, s: Four, k: u32, y: Four) -> Four {
+        add_scaled(s, k, y)
+    }
+
+    fn same(self, x: Four, y: Four) -> bool {
+        same(x, y)
+    }
+
+    fn count(self, w: &[u32]) -> usize {
+        count(w)
+    }
+
+    fn get(self, w: &[u32], i: usize) -> Four {
+        get(w, i)
+    }
+
+    fn put(self, w: &mut [u32], i: usize, x: Four) {
+        put(w, i, x);
+    }
+
+    ghost wide = { wide_four };
+
+    ghost counted = { quads_length };
+
+    ghost first = { quads_take };
+
+    ghost behind = { quads_drop };
+}
+
+impl Inversion for FourWords {
+    fn inv(self, x: Four) -> Option<Four> {
+        inv(x)
+    }
+
+    ghost reduced = { λ s x. reduced_by_four x };
 }

@@ -18,7 +18,6 @@ ghost use Rattle.outcome.specs.Meaning.{place_of};
 ghost use Rattle.ranges.specs.Rounds.{Fine, all_limits, divided, element_count, index_count, index_limit};
 
 use edition::Edition;
-use outcome::Found;
 
 // A word, to count with: sums of a few words fit.
 fn word(w: &[u32], i: usize) -> usize
@@ -34,10 +33,8 @@ fn divide(x: usize, b: usize, times: usize) -> usize
     ensures { result ≡ divided x b times }
 {
     let mut q = x;
-    let mut i = 0;
-    while i < times {
+    for i in 0..times {
         q /= b;
-        i += 1;
     }
     q
 }
@@ -99,7 +96,7 @@ fn limit(e: Edition, w: &[u32], round: usize) -> usize
 }
 
 // The first of the words from number `from` on that is not below its limit, by its number. They are those after the sheet w, or the coins alone.
-fn first_beyond(e: Edition, w: &[u32], alone: bool, words: &[u32], from: usize) -> Found
+fn first_beyond(e: Edition, w: &[u32], alone: bool, words: &[u32], from: usize) -> Option<usize>
     requires fine { Fine (edition_of e) w.now }
     requires w_in_bounds { from + length (all_limits alone (edition_of e) w.now) ≤ length words.now }
     ensures { place_of result ≡ first_true from (zip_with leb (all_limits alone (edition_of e) w.now) (drop from words.now)) }
@@ -107,30 +104,26 @@ fn first_beyond(e: Edition, w: &[u32], alone: bool, words: &[u32], from: usize) 
     let field = w[0];
     let p = field::modulus(field) as usize;
     let rounds = word(w, 4) + 2;
-    let mut found = Found::Nothing;
+    let mut found = None;
     let mut at = from;
-    let mut round = 0;
-    'walk: while round < rounds {
+    'walk: for round in 0..rounds {
         let first = widths::words(field, elements(e, w, alone, round));
         let count = first + indices(w, round);
         let below = limit(e, w, round);
-        let mut j = 0;
-        while j < count {
+        for j in 0..count {
             let bound = if j < first { p } else { below };
-            if bound <= word(words, at) {
-                found = Found::At(at);
+            if bound <= word(words, at + j) {
+                found = Some(at + j);
                 break 'walk;
             }
-            at += 1;
-            j += 1;
         }
-        round += 1;
+        at += count;
     }
     found
 }
 
 // Refusal 5 of a stream: the first word after the sheet that is not below its limit, by its number in the stream.
-pub fn out_of_range(e: Edition, w: &[u32]) -> Found
+pub fn out_of_range(e: Edition, w: &[u32]) -> Option<usize>
     requires w_value { sheet_test (edition_of e) w.now ≡ accepted }
     requires w_in_bounds { words_due (edition_of e) (sheet_of (edition_of e) w.now) ≤ length w.now }
     ensures { place_of result ≡ first_true (sheet_length (edition_of e)) (zip_with (out_of_range (sheet_of (edition_of e) w.now)) (layout (sheet_of (edition_of e) w.now)) (drop (sheet_length (edition_of e)) w.now)) }
@@ -139,7 +132,7 @@ pub fn out_of_range(e: Edition, w: &[u32]) -> Found
 }
 
 // Refusal 5 of a full coin list: the first of its words that is not below its limit, by its number in the list.
-pub fn coin_out_of_range(e: Edition, w: &[u32], coins: &[u32]) -> Found
+pub fn coin_out_of_range(e: Edition, w: &[u32], coins: &[u32]) -> Option<usize>
     requires e_in_bounds { (sheet_length (edition_of e) ≤ length w.now) × (sheet_test (edition_of e) w.now ≡ accepted) }
     requires coins_len { length coins.now ≡ length (coin_kinds (layout (sheet_of (edition_of e) w.now))) }
     ensures { place_of result ≡ first_true 0 (zip_with (out_of_range (sheet_of (edition_of e) w.now)) (coin_kinds (layout (sheet_of (edition_of e) w.now))) coins.now) }
@@ -148,31 +141,27 @@ pub fn coin_out_of_range(e: Edition, w: &[u32], coins: &[u32]) -> Found
 }
 
 // Refusal 5 of coefficients: the first of their words that is not below p, by its number.
-pub fn coefficient_out_of_range(field: u32, f: &[u32]) -> Found
+pub fn coefficient_out_of_range(field: u32, f: &[u32]) -> Option<usize>
     ensures { place_of result ≡ first_true 0 (map (leb (prime_of field)) f.now) }
 {
     let p = field::modulus(field);
-    let mut i = 0;
-    while i < f.len() {
+    for i in 0..f.len() {
         if p <= f[i] {
-            return Found::At(i);
+            return Some(i);
         }
-        i += 1;
     }
-    Found::Nothing
+    None
 }
 
 // Refusal 6: the first word after those due that is not zero, by its number in the stream.
-pub fn fill_not_zero(w: &[u32], due: usize) -> Found
+pub fn fill_not_zero(w: &[u32], due: usize) -> Option<usize>
     requires { due ≤ length w.now }
     ensures { place_of result ≡ first_true due (map (λ x. not (eqb x 0)) (drop due w.now)) }
 {
-    let mut at = due;
-    while at < w.len() {
+    for at in due..w.len() {
         if w[at] != 0 {
-            return Found::At(at);
+            return Some(at);
         }
-        at += 1;
     }
-    Found::Nothing
+    None
 }

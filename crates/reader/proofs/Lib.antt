@@ -1,3 +1,2 @@
 pub mod ByNumber
-pub mod Held
 pub mod SheetAnswer

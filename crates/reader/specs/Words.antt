@@ -1,12 +1,11 @@
 -- A stream's words by their numbers, and what each case of an answer in code says. Assumes nothing.
 use Rattle.std.specs.Prelude.{ℕ, zero, suc, cond, List, [], ◌∷◌, ltb, length, take}
+use Rattle.std.specs.Prelude.{Option as Optional, None, Some}
 use Rattle.std.proofs.Math.Option.{Option, none, some}
 use Rattle.definition.specs.Block.{stream_of}
 use Rattle.definition.specs.Verdict.{refuse_if, ◌then◌}
 use Rattle.definition.specs.Sheet.{edition1, sheet_length}
 use Rattle.definition.specs.Prove.{Result, finish, output_test}
-use Rattle.reader.specs.declared.Word.{Word}
-use Rattle.reader.specs.declared.Word.TheVariants.{Value, End}
 
 -- the word with number n, from 0 on, or none past the end
 unfoldable pub word_in : List ℕ → ℕ → Option ℕ
@@ -23,6 +22,6 @@ unfoldable pub sheet_words : List ℕ → List ℕ → Result
 sheet_words file output =
     finish (refuse_if 1 0 (ltb (length file) 512) then output_test (sheet_length edition1) (sheet_length edition1) (length output)) (sheet_length edition1) (take (sheet_length edition1) (stream_of file)) output
 
-unfoldable pub value_of : Word → Option ℕ
-value_of (Value word) = some word
-value_of End = none
+unfoldable pub value_of : Optional ℕ → Option ℕ
+value_of (Some word) = some word
+value_of None = none

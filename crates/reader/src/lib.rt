@@ -10,13 +10,6 @@ ghost use Rattle.reader.specs.Words.{value_of, word_in, number_after, sheet_word
 
 use outcome::Answer;
 
-// A word of the stream, or that it has ended.
-#[derive(Clone, Copy)]
-pub enum Word {
-    Value(u32),
-    End,
-}
-
 // The number of words in a file's whole blocks.
 fn words_held(file: &[u8]) -> usize
     ensures { result ≡ 127 * (length file.now / 512) }
@@ -24,21 +17,21 @@ fn words_held(file: &[u8]) -> usize
     127 * (file.len() / 512)
 }
 
-// The word with number n of the stream that a file holds. A check word has no number: one is skipped after each 127 words.
-pub fn word_at(file: &[u8], n: usize) -> Word
+// The word with number n of the stream that a file holds, or none past its end. A check word has no number: one is skipped after each 127 words.
+pub fn word_at(file: &[u8], n: usize) -> Option<u32>
     ensures { value_of result ≡ word_in (stream_of file.now) n }
 {
     if n < words_held(file) {
-        Word::Value(stream::word(file, 4 * (n + n / 127)))
+        Some(stream::word(file, 4 * (n + n / 127)))
     } else {
-        Word::End
+        None
     }
 }
 
 // A word, and the number of the one after it; at the end the number stays.
 #[derive(Clone, Copy)]
 pub struct Step {
-    pub word: Word,
+    pub word: Option<u32>,
     pub next: usize,
 }
 
@@ -47,16 +40,8 @@ pub fn step_at(file: &[u8], n: usize) -> Step
     ensures { (value_of result.word ≡ word_in (stream_of file.now) n) × (result.next ≡ number_after (stream_of file.now) n) }
 {
     let word = word_at(file, n);
-    if n < words_held(file) {
-        return Step {
-            word: word,
-            next: n + 1,
-        };
-    }
-    Step {
-        word: word,
-        next: n,
-    }
+    let next = if word.is_some() { n + 1 } else { n };
+    Step { word, next }
 }
 
 #[derive(Clone, Copy)]
@@ -94,11 +79,10 @@ pub fn step_in(file: &[u8], n: usize) -> Step
 }
 
 // The word with number n of the stream that a file holds, by a reader.
-pub fn word_in(file: &[u8], n: usize) -> Word
+pub fn word_in(file: &[u8], n: usize) -> Option<u32>
     ensures { value_of result ≡ word_in (stream_of file.now) n }
 {
-    let step = step_in(file, n);
-    step.word
+    step_in(file, n).word
 }
 
 // Walks over the first 12 words, and places them at the front of the output.
@@ -106,15 +90,11 @@ fn walk_sheet(file: &[u8], output: &mut [u32])
     requires { (512 ≤ length file.now) × (12 ≤ length output.old) }
     ensures { output.new ≡ overwrite output.old 0 (take 12 (stream_of file.now)) }
 {
-    let mut at = 0;
-    while at < 12 {
-        let step = step_in(file, at);
-        let word = step.word;
-        let Word::Value(x) = word else {
+    for at in 0..12 {
+        let Some(x) = word_in(file, at) else {
             return;
         };
         output[at] = x;
-        at = step.next;
     }
 }
 

@@ -16,11 +16,10 @@ use Rattle.definition.specs.Layout.{layout, words_due}
 use Rattle.definition.specs.Block.{block_count}
 use Rattle.definition.specs.Verdict.{Outcome, accepted, refused, refuse_at, refuse_if, ◌then◌}
 use Rattle.definition.specs.Reading.{sheet_test, blocks_test, out_of_range, range_test, fill_test, body_tests, stream_tests, reading}
-use Rattle.outcome.specs.declared.Found.{Found}
-use Rattle.outcome.specs.declared.Found.TheVariants.{Nothing}
+use Rattle.std.specs.Prelude.{None}
 use Rattle.outcome.specs.declared.Outcome.{Outcome as Answered}
 use Rattle.outcome.specs.declared.Outcome.TheVariants.{Refused}
-use Rattle.outcome.specs.Meaning.{outcome_of}
+use Rattle.outcome.specs.Meaning.{Found, outcome_of}
 use Rattle.sheet.specs.Rules.{none_broken, refusal_of}
 use Rattle.sheet.specs.Front.{test_front, sheet_front}
 use Rattle.stream.specs.Loaded.{Loaded, loaded_all}
@@ -167,5 +166,5 @@ pub read_refused : (ed : Edition) (file words : List ℕ) {n p : ℕ} → refuse
 unfolding outcome_of
 read_refused ed file words e = record { outcome = e; stream = λ h. absurd (never (e ∙ h)) }
 
-pub read_loaded : (ed : Edition) (file : List ℕ) {found : Found} {r : Answered} {words : List ℕ} → Loaded file 67 found words → found ≡ Nothing → outcome_of r ≡ reading ed file → Read ed file r words
+pub read_loaded : (ed : Edition) (file : List ℕ) {found : Found} {r : Answered} {words : List ℕ} → Loaded file 67 found words → found ≡ None → outcome_of r ≡ reading ed file → Read ed file r words
 read_loaded ed file loaded right e = record { outcome = e; stream = λ h. loaded_all file loaded right (few_blocks ed file h) }

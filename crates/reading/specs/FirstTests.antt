@@ -9,13 +9,13 @@ use Rattle.definition.specs.Lists.{first_true}
 use Rattle.definition.specs.Reading.{check_test, length_test}
 use Rattle.definition.specs.Verdict.{Outcome, refuse_at, refuse_if, refused, ◌then◌}
 use Rattle.layouts.specs.FileWords.{stream_length}
-use Rattle.outcome.specs.declared.Found.{Found}
-use Rattle.outcome.specs.declared.Found.TheVariants.{Nothing}
+use Rattle.std.specs.Prelude.{None}
+use Rattle.outcome.specs.Meaning.{Found}
 use Rattle.stream.specs.Loaded.{Loaded}
 use Rattle.reading.specs.Stages.{Loads}
 
 -- what is loaded is the stream's words
-pub loads_stream : (file : List ℕ) {most : ℕ} {found : Found} {words : List ℕ} → Loaded file most found words → found ≡ Nothing → Loads most words (length file / 512) (stream_of file)
+pub loads_stream : (file : List ℕ) {most : ℕ} {found : Found} {words : List ℕ} → Loaded file most found words → found ≡ None → Loads most words (length file / 512) (stream_of file)
 loads_stream file loaded right = record { size = stream_length file; front = loaded.front right }
 
 module _ (file : List ℕ) (next : Outcome) where

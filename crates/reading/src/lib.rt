@@ -11,7 +11,7 @@ ghost use Rattle.outcome.specs.Meaning.{outcome_of};
 ghost use Rattle.reading.specs.Stages.{Loads, Read};
 
 use edition::Edition;
-use outcome::{Found, Outcome};
+use outcome::Outcome;
 
 // Refusals 5 and 6, of the words of a stream whose sheet passes and that has all words due, whose number is given.
 pub fn body(e: Edition, w: &[u32], due: usize) -> Outcome
@@ -20,11 +20,11 @@ pub fn body(e: Edition, w: &[u32], due: usize) -> Outcome
     ensures { outcome_of result ≡ (range_test (sheet_of (edition_of e) w.now) (sheet_length (edition_of e)) (layout (sheet_of (edition_of e) w.now)) w.now then fill_test (words_due (edition_of e) (sheet_of (edition_of e) w.now)) w.now) }
 {
     let range = ranges::out_of_range(e, w);
-    if let Found::At(place) = range {
+    if let Some(place) = range {
         return Outcome::Refused(5, place);
     }
     let fill = ranges::fill_not_zero(w, due);
-    if let Found::At(place) = fill {
+    if let Some(place) = fill {
         return Outcome::Refused(6, place);
     }
     Outcome::Accepted
@@ -38,7 +38,7 @@ fn after_checks(e: Edition, words: &[u32], blocks: usize) -> Outcome
     let first = edition::sheet_words(e);
     let head = &words[..first];
     let broken = sheet::broken(e, head);
-    if let Found::At(place) = broken {
+    if let Some(place) = broken {
         return Outcome::Refused(3, place);
     }
     let due = sizes::words_due(e, head);
@@ -61,7 +61,7 @@ pub fn read(e: Edition, file: &[u8], words: &mut [u32]) -> Outcome
         return Outcome::Refused(1, 0);
     }
     let check = stream::load(file, 67, words);
-    if let Found::At(place) = check {
+    if let Some(place) = check {
         return Outcome::Refused(2, place);
     }
     after_checks(e, words, file.len() / 512)

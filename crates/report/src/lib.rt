@@ -9,7 +9,6 @@ ghost use Rattle.input.specs.Told.{Tells};
 ghost use Rattle.program_output.specs.Output.{check_batch_text, check_text, read_text};
 
 use edition::Edition;
-use input::Input;
 use line::Line;
 use std::io;
 use std::io::{Read, Write};
@@ -35,7 +34,7 @@ pub fn check<R: Read, W: Write, E: Write>(
     ensures { result ≡ true → Tells 65536 (check_text (edition_of e)) (R.remaining reader.old) (W.contents out.old) (W.contents out.new) }
 {
     let mut buffer = [0u8; 65536];
-    let Input::Bytes(n) = input::fill(reader, &mut buffer) else {
+    let Ok(n) = input::fill(reader, &mut buffer) else {
         let _ = input::not_read(err);
         return false;
     };
@@ -48,7 +47,7 @@ pub fn check_batch<R: Read, W: Write, E: Write>(reader: &mut R, out: &mut W, err
     ensures { result ≡ true → Tells 65536 check_batch_text (R.remaining reader.old) (W.contents out.old) (W.contents out.new) }
 {
     let mut buffer = [0u8; 65536];
-    let Input::Bytes(n) = input::fill(reader, &mut buffer) else {
+    let Ok(n) = input::fill(reader, &mut buffer) else {
         let _ = input::not_read(err);
         return false;
     };
@@ -66,7 +65,7 @@ pub fn read<R: Read, W: Write, E: Write>(
     ensures { result ≡ true → Tells 65536 (read_text (edition_of e)) (R.remaining reader.old) (W.contents out.old) (W.contents out.new) }
 {
     let mut buffer = [0u8; 65536];
-    let Input::Bytes(n) = input::fill(reader, &mut buffer) else {
+    let Ok(n) = input::fill(reader, &mut buffer) else {
         let _ = input::not_read(err);
         return false;
     };

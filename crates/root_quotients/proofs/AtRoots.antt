@@ -1,8 +1,8 @@
 -- The values at the k roots of a point by sums of products and a table by halves, and the numerators there. Assumes nothing.
-use Prim.Native.Nat.{ℕ, zero, suc, ◌+◌, ◌-◌, ◌*◌, ◌≤◌, ◌<◌}
-use mathlib.Core.Path.{◌≡◌, refl, sym, ap, ◌∙◌}
+use Prim.Native.Nat.{ℕ, zero, suc, ◌+◌, ◌-◌, ◌*◌, ◌/◌, ◌≤◌, ◌<◌}
+use mathlib.Core.Path.{◌≡◌, refl, sym, ap, ◌∙◌, subst}
 use mathlib.Core.List.{List, ◌∷◌, ◌++◌}
-use native.Mathlib.Nat.{le_of_eq, le_refl, suc-mul}
+use native.Mathlib.Nat.{mul-div_cancel_left, suc-mul}
 use native.Mathlib.Omega.{arith}
 use lib.ListN.{length, get_or, take, drop, length-drop, get_or-append}
 use lib.Seq.{get_or-take, length-take-le, take_at, take-take}
@@ -61,21 +61,36 @@ module _ {A : Type 0} (F : Field A) (L : FieldLaws F) {pw : List A} {at step k :
       (λ m u. each m (omega (arith, size_room)) ∙ ap (λ (n : ℕ). products F (every_nth F f m n (length powers)) powers) size_room)
       (λ m u. table m (omega (arith, size-old)) ∙ ap (λ (t : List A). evaluate F t (get_or pw (at + step * m) 𝟘)) whole) m l
 
--- ---- loops over the roots
-
-pub numerator_turn : {A : Type 0} (F : Field A) (f : ℕ → A) (old new : List A) (m : ℕ) (a g : A) {d r : A} → FilledOver F.𝟘 f old new m → d ≡ F.◌⊖◌ (get_or new m F.𝟘) a →
-    r ≡ F.◌⊗◌ d g → r ≡ F.◌⊗◌ (F.◌⊖◌ (get_or old m F.𝟘) a) g
-numerator_turn {A} F f old new m a g t ed er =
-    er ∙ ap (λ (x : A). F.◌⊗◌ x g) (ed ∙ ap (λ (x : A). F.◌⊖◌ x a) (t.left m (le_refl m)))
-
 -- ---- numerators and denominators at the roots
 
 -- the elements behind the first 66, from which the geometric sum is read
 abbrev behind : {A : Type 0} → List A → List A
 behind vg = take (length vg - 66) (drop 66 vg)
 
-pub part_room : {A : Type 0} (l : List A) (at n : ℕ) → at + n ≤ length l → n ≤ length (take (length l - at) (drop at l))
-part_room l at n h = omega (arith, length-take-le (length l - at) (drop at l) (le_of_eq (sym (length-drop at l))))
+-- words as elements of one width, in the words of the trait
+module _ {C : Type 0} (elements : List ℕ → List C) (width : ℕ) (wide : 0 < width) (counted : (w : List ℕ) → length w / width ≡ length (elements w)) where
+  pub many : (n : ℕ) (w : List ℕ) → length w ≡ width * n → length (elements w) ≡ n
+  many n w e = sym (counted w) ∙ ap (λ (m : ℕ). m / width) e ∙ mul-div_cancel_left n wide
+
+  module _ (first : (n : ℕ) (w : List ℕ) → elements (take (width * n) w) ≡ take n (elements w)) (behind_laws : (n : ℕ) (w : List ℕ) → elements (drop (width * n) w) ≡ drop n (elements w))
+      (vg : List ℕ) (e : length vg ≡ width * 132) where
+    -- the second half of the words, from which the geometric sum is read
+    pub second_half : elements (take (length vg - length vg / 2) (drop (length vg / 2) vg)) ≡ behind (elements vg)
+    second_half =
+        let half : length vg / 2 ≡ width * 66 = omega (arith, e) in
+        let rest : length vg - length vg / 2 ≡ width * 66 = omega (arith, e) in
+        (λ i. elements (take (rest i) (drop (half i) vg))) ∙ first 66 (drop (width * 66) vg) ∙ ap (take 66) (behind_laws 66 vg)
+        ∙ ap (λ (n : ℕ). take (n - 66) (drop 66 (elements vg))) (sym (many 132 vg e))
+
+    pub second_half_many : length (elements (take (length vg - length vg / 2) (drop (length vg / 2) vg))) ≡ 66
+    second_half_many =
+        let all = many 132 vg e in
+        ap length second_half ∙ length-take-le (length (elements vg) - 66) (drop 66 (elements vg)) (omega (arith, length-drop 66 (elements vg))) ∙ omega (arith, all)
+
+-- for as many roots as are counted
+pub at_count : {C : Type 0} (F : Field C) (k n c : ℕ) (x : ℕ → C) (l out : List C) → k ≡ n → ((m : ℕ) → m < k → get_or out m F.𝟘 ≡ evaluate F (take (k * c) l) (x m)) →
+    (m : ℕ) → m < n → get_or out m F.𝟘 ≡ evaluate F (take (n * c) l) (x m)
+at_count F k n c x l out e h = subst (λ (q : ℕ). (m : ℕ) → m < q → get_or out m F.𝟘 ≡ evaluate F (take (q * c) l) (x m)) e h
 
 pub numerators_are : {A : Type 0} (F : Field A) (words : ℕ) (ac vg : List A) (x : ℕ → A) (old new a g : List A) → words ≤ length vg - 66 →
     ((m : ℕ) → m < length old → get_or a m F.𝟘 ≡ evaluate F (take words ac) (x m)) →

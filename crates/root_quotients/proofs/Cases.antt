@@ -3,7 +3,7 @@ use Prim.Native.Nat.{ℕ, ◌+◌, ◌*◌, ◌≤◌, ◌<◌}
 use mathlib.Core.Path.{◌≡◌}
 use mathlib.Core.List.{List}
 use lib.ListN.{length, get_or}
-use Rattle.definition.specs.Field.{Field, prime_field, prime_of, field_of, embed, Spelling, spelling_of, field_in, number_in, word_count, quads, elements_in}
+use Rattle.definition.specs.Field.{prime_field, prime_of, field_of, embed, Spelling, spelling_of, field_in, number_in, word_count, quads, elements_in}
 use Rattle.definition.specs.Polynomial.{evaluate}
 use Rattle.spelling.specs.Field3.{field3, base}
 use Rattle.spelling.specs.ByField.{at_three, at_one, from_three, from_one}

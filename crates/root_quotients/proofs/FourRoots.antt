@@ -2,15 +2,15 @@
 use Prim.Native.Nat.{ℕ, suc, ◌+◌, ◌-◌, ◌*◌, ◌≤◌, ◌<◌}
 use native.Mathlib.Nat.{mul_comm}
 use native.Mathlib.Omega.{arith}
-use mathlib.Core.Path.{◌≡◌, sym, ap, ◌∙◌, subst}
+use mathlib.Core.Path.{◌≡◌, sym, ap, ◌∙◌}
 use mathlib.Core.List.{List, ◌++◌}
-use lib.ListN.{length, get_or, take, drop, length-drop, get_or-append}
+use lib.ListN.{length, get_or, take, drop, get_or-append}
 use lib.Seq.{length-take-le, take_at}
-use Rattle.definition.specs.Field.{Field, prime_field, prime_of, field_of, Quad, embed, quads}
-use Rattle.definition.specs.Polynomial.{evaluate, geometric}
+use Rattle.definition.specs.Field.{prime_field, prime_of, field_of, Quad, embed, quads}
+use Rattle.definition.specs.Polynomial.{evaluate}
 use Rattle.spelling.specs.Field3.{field3, base}
 use Rattle.planes.specs.Roots.{residues_of_four}
-use Rattle.spelling.specs.Words.{quads_append, quads_drop, quads_many, quads_take}
+use Rattle.spelling.specs.Words.{quads_append, quads_many, quads_take}
 use Rattle.sums.specs.AtRoots.{every_nth}
 use Rattle.sums.specs.Sums.{products}
 use Rattle.root_quotients.specs.Rooted.{Rooted}
@@ -50,19 +50,3 @@ module _ {pw : List ℕ} {at step k : ℕ} {powers : List ℕ} (r : Rooted (fiel
       ∙ table m l ∙ ap (λ (t : List ℕ). evaluate field3 (quads t) (embed base (get_or pw (at + step * m) 0))) whole
       ∙ at_root f sums long (ls ∙ size_room)
       (λ i u. each i (omega (arith, size_room)) ∙ ap (λ (n : ℕ). products (field_of 2) (every_nth (field_of 2) f i n (length powers)) powers) size_room) m l
-
--- the elements behind the first 66, from which the geometric sum is read
-pub behind_four : (vg : List ℕ) → length vg ≡ 528 → quads (take (length vg - 264) (drop 264 vg)) ≡ take (length (quads vg) - 66) (drop 66 (quads vg))
-behind_four vg e =
-    ap (λ (n : ℕ). quads (take (n - 264) (drop 264 vg))) e ∙ quads_take 66 (drop 264 vg) ∙ ap (take 66) (quads_drop 66 vg)
-    ∙ ap (λ (n : ℕ). take (n - 66) (drop 66 (quads vg))) (sym (quads_many 132 vg e))
-
-pub behind_many : (vg : List ℕ) → length vg ≡ 528 → length (quads (take (length vg - 264) (drop 264 vg))) ≡ 66
-behind_many vg e =
-    let back = length-drop 264 vg in
-    quads_many 66 (take (length vg - 264) (drop 264 vg)) (length-take-le (length vg - 264) (drop 264 vg) (omega (arith, back)) ∙ omega (arith, e))
-
--- for as many roots as are counted
-pub at_count : (k n c : ℕ) (x : ℕ → Quad ℕ) (l out : List (Quad ℕ)) → k ≡ n → ((m : ℕ) → m < k → get_or out m field3.𝟘 ≡ evaluate field3 (take (k * c) l) (x m)) →
-    (m : ℕ) → m < n → get_or out m field3.𝟘 ≡ evaluate field3 (take (n * c) l) (x m)
-at_count k n c x l out e h = subst (λ (q : ℕ). (m : ℕ) → m < q → get_or out m field3.𝟘 ≡ evaluate field3 (take (q * c) l) (x m)) e h

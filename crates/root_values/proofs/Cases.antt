@@ -3,7 +3,7 @@ use Prim.Native.Nat.{ℕ, ◌≤◌}
 use mathlib.Core.Path.{◌≡◌}
 use mathlib.Core.List.{List}
 use lib.ListN.{length}
-use Rattle.definition.specs.Field.{Field, prime_field, prime_of, field_of, Spelling, spelling_of, field_in, quads, elements_in}
+use Rattle.definition.specs.Field.{prime_of, field_of, Spelling, spelling_of, field_in, quads, elements_in}
 use Rattle.spelling.specs.Field3.{field3}
 use Rattle.spelling.specs.ByField.{at_three, at_one, from_three, from_one}
 use Rattle.root_values.specs.Dividing.{DividedOver, Divisible}

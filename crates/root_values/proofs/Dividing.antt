@@ -10,7 +10,7 @@ use mathlib.Core.Option.{none, some}
 use lib.ListN.{length, get_or, set, length-set}
 use lib.Seq.{get_or-set_same, get_or-set_other}
 use Rattle.definition.specs.Field.{Field, found_or, reciprocal}
-use Rattle.algebra.specs.Divisors.{Nonzero, found_differs, never_none}
+use Rattle.algebra.specs.Divisors.{found_differs, never_none}
 use Rattle.algebra.specs.Laws.{FieldLaws}
 use Rattle.algebra.specs.RingLaws.{cancel, one_mul}
 use Rattle.algebra.specs.Solver.{◌:*◌, ◌:=◌, solve₃, solve₄}

@@ -6,19 +6,18 @@
 
 ghost use Rattle.std.specs.Prelude.{◌≡◌, ℕ, ◌+◌, ◌*◌, ◌≤◌, ◌<◌, length, get_or};
 ghost use Rattle.std.proofs.Math.Option.{some};
-ghost use Rattle.definition.specs.Field.{Field, field_of, quads};
-ghost use Rattle.list_laws.specs.Filled.{Filled, FilledOver};
-ghost use Rattle.spelling.specs.Field3.{field3};
+ghost use Rattle.definition.specs.Field.{Field};
+ghost use Rattle.list_laws.specs.Filled.{FilledOver};
 ghost use Rattle.spelling.specs.ByField.{field_at, elements_at, points_at, words_at};
-ghost use Rattle.quartic.specs.Meaning.{quad_of};
 ghost use Rattle.fractions.specs.Fraction.{Fraction};
 ghost use Rattle.fractions.specs.Values.{Fits, Below, Clear, root_in};
 ghost use Rattle.root_values.specs.Dividing.{DividedOver, Divisible, SharedOver, product_before};
 ghost use Rattle.root_values.specs.Places.{PlacedOver, PreparedOver};
 
-use field::Inversion;
+use arithmetic::{Arithmetic, Inversion};
+use field::Prime;
 use fractions::Oracle;
-use quartic::{Four, FourInverse};
+use quartic::FourWords;
 
 // The table's values at the roots of one coin after the other.
 fn all_tables(field: u32, table: &[u32], step: usize, k: usize, js: &[u32], out: &mut [u32])
@@ -27,17 +26,15 @@ fn all_tables(field: u32, table: &[u32], step: usize, k: usize, js: &[u32], out:
     ensures { PlacedOver (field_at field).𝟘 (λ j m v w. v ≡ get_or (elements_at field table.now) (j + step * m) (field_at field).𝟘) k js.now (elements_at field out.new) (elements_at field out.new) (length js.now) }
 {
     let words = elements::words(field, k);
-    let mut coin = 0;
-    while coin < js.len() {
+    for (coin, j) in js.iter().enumerate() {
         let from = coin * words;
         fractions::gather(
             field,
             table,
             step,
-            folds::wide(js[coin]),
+            folds::wide(*j),
             &mut out[from..from + words],
         );
-        coin += 1;
     }
 }
 
@@ -60,8 +57,7 @@ fn all_fractions(
     ensures { PlacedOver (field_at field).𝟘 (λ j m v w. Fraction field (root_in (field_at field) (points_at field pw.now) (elements_at field table.now) (elements_at field ac.now) (elements_at field vg.now) oracle j m) v w) k js.now (elements_at field tops.new) (elements_at field bottoms.new) (length js.now) }
 {
     let words = elements::words(field, k);
-    let mut coin = 0;
-    while coin < js.len() {
+    for (coin, j) in js.iter().enumerate() {
         let at = coin * words;
         fractions::fractions(
             field,
@@ -70,122 +66,64 @@ fn all_fractions(
             ac,
             vg,
             oracle,
-            folds::wide(js[coin]),
+            folds::wide(*j),
             &mut tops[at..at + words],
             &mut bottoms[at..at + words],
         );
-        coin += 1;
     }
 }
 
 // Each numerator is multiplied by all denominators before its own. Answers the product of all.
-fn times_before(field: u32, bottoms: &[u32], tops: &mut [u32]) -> u32
-    requires { length tops.old ≤ length bottoms.now }
-    ensures filled { Filled (λ m. (field_of field).◌⊗◌ (get_or tops.old m 0) (product_before (field_of field) bottoms.now m)) tops.old tops.new (length tops.old) }
-    ensures value { result ≡ product_before (field_of field) bottoms.now (length tops.old) }
+fn times_before<A: Arithmetic>(a: A, bottoms: &[u32], tops: &mut [u32]) -> A::Element
+    requires { length (A.elements tops.old) ≤ length (A.elements bottoms.now) }
+    ensures filled { FilledOver (A.over a).𝟘 (λ m. (A.over a).◌⊗◌ (get_or (A.elements tops.old) m (A.over a).𝟘) (product_before (A.over a) (A.elements bottoms.now) m)) (A.elements tops.old) (A.elements tops.new) (length (A.elements tops.old)) }
+    ensures value { A.value result ≡ product_before (A.over a) (A.elements bottoms.now) (length (A.elements tops.old)) }
 {
-    let mut all = 1;
-    let mut m = 0;
-    while m < tops.len() {
-        tops[m] = field::mul(field, tops[m], all);
-        all = field::mul(field, all, bottoms[m]);
-        m += 1;
+    let mut all = a.one();
+    for m in 0..a.count(tops) {
+        a.put(tops, m, a.mul(a.get(tops, m), all));
+        all = a.mul(a.get(bottoms, m), all);
     }
     all
 }
 
 // Such a product, times u, the inverse of all denominators, and times those behind its own, is the numerator times the inverse of its own.
-fn share(field: u32, u: u32, bottoms: &[u32], tops: &mut [u32])
-    requires tops_in_bounds { length tops.old ≤ length bottoms.now }
-    requires tops_value { (field_of field).inverse (product_before (field_of field) bottoms.now (length tops.old)) ≡ some u }
-    ensures { SharedOver (field_of field) bottoms.now tops.old tops.new }
+fn share<A: Arithmetic>(a: A, u: A::Element, bottoms: &[u32], tops: &mut [u32])
+    requires tops_in_bounds { length (A.elements tops.old) ≤ length (A.elements bottoms.now) }
+    requires tops_value { (A.over a).inverse (product_before (A.over a) (A.elements bottoms.now) (length (A.elements tops.old))) ≡ some (A.value u) }
+    ensures { SharedOver (A.over a) (A.elements bottoms.now) (A.elements tops.old) (A.elements tops.new) }
 {
     let mut left = u;
-    let mut m = tops.len();
-    while 0 < m {
-        m -= 1;
-        tops[m] = field::mul(field, tops[m], left);
-        left = field::mul(field, left, bottoms[m]);
+    for m in (0..a.count(tops)).rev() {
+        a.put(tops, m, a.mul(a.get(tops, m), left));
+        left = a.mul(a.get(bottoms, m), left);
     }
 }
 
 // Each numerator is divided by its denominator, with one inversion for all of them, of which none is 0.
-fn divide_one(field: u32, bottoms: &[u32], tops: &mut [u32])
-    requires tops_in_bounds { length tops.old ≤ length bottoms.now }
-    requires divisible { Divisible (field_of field) bottoms.now (length tops.old) }
-    ensures { DividedOver (field_of field) bottoms.now tops.old tops.new }
+fn divide_over<A: Inversion>(a: A, bottoms: &[u32], tops: &mut [u32])
+    requires tops_in_bounds { length (A.elements tops.old) ≤ length (A.elements bottoms.now) }
+    requires divisible { Divisible (A.over a) (A.elements bottoms.now) (length (A.elements tops.old)) }
+    ensures { DividedOver (A.over a) (A.elements bottoms.now) (A.elements tops.old) (A.elements tops.new) }
 {
-    let all = times_before(field, bottoms, tops);
-    let inversion = field::inv(field, all);
-    let Inversion::Found(u) = inversion else {
+    let all = times_before(a, bottoms, tops);
+    let Some(u) = a.inv(all) else {
         // never: no denominator is 0
         return;
     };
-    share(field, u, bottoms, tops);
+    share(a, u, bottoms, tops);
 }
 
-// Each numerator of four words is multiplied by all denominators before its own. Answers the product of all.
-fn times_before_four(bottoms: &[u32], tops: &mut [u32]) -> Four
-    requires { length (quads tops.old) ≤ length (quads bottoms.now) }
-    ensures filled_over { FilledOver field3.𝟘 (λ m. field3.◌⊗◌ (get_or (quads tops.old) m field3.𝟘) (product_before field3 (quads bottoms.now) m)) (quads tops.old) (quads tops.new) (length (quads tops.old)) }
-    ensures result_value { quad_of result ≡ product_before field3 (quads bottoms.now) (length (quads tops.old)) }
-{
-    let n = quartic::count(tops);
-    let mut all = Four {
-        a: 1,
-        b: 0,
-        c: 0,
-        d: 0,
-    };
-    let mut m = 0;
-    while m < n {
-        quartic::put(tops, m, quartic::mul(quartic::get(tops, m), all));
-        all = quartic::mul(quartic::get(bottoms, m), all);
-        m += 1;
-    }
-    all
-}
-
-// The numerators of four words times the inverses of their own denominators.
-fn share_four(u: Four, bottoms: &[u32], tops: &mut [u32])
-    requires tops_in_bounds { length (quads tops.old) ≤ length (quads bottoms.now) }
-    requires tops_value { field3.inverse (product_before field3 (quads bottoms.now) (length (quads tops.old))) ≡ some (quad_of u) }
-    ensures { SharedOver field3 (quads bottoms.now) (quads tops.old) (quads tops.new) }
-{
-    let mut left = u;
-    let mut m = quartic::count(tops);
-    while 0 < m {
-        m -= 1;
-        quartic::put(tops, m, quartic::mul(quartic::get(tops, m), left));
-        left = quartic::mul(quartic::get(bottoms, m), left);
-    }
-}
-
-// Each numerator of four words is divided by its denominator.
-fn divide_four(bottoms: &[u32], tops: &mut [u32])
-    requires tops_in_bounds { length (quads tops.old) ≤ length (quads bottoms.now) }
-    requires divisible { Divisible field3 (quads bottoms.now) (length (quads tops.old)) }
-    ensures { DividedOver field3 (quads bottoms.now) (quads tops.old) (quads tops.new) }
-{
-    let all = times_before_four(bottoms, tops);
-    let inversion = quartic::inv(all);
-    let FourInverse::Found(u) = inversion else {
-        // never: no denominator is 0
-        return;
-    };
-    share_four(u, bottoms, tops);
-}
-
-// Each numerator is divided by its denominator, of which none is 0.
+// The same in either spelling.
 fn divide(field: u32, bottoms: &[u32], tops: &mut [u32])
     requires tops_in_bounds { length (elements_at field tops.old) ≤ length (elements_at field bottoms.now) }
     requires divisible { Divisible (field_at field) (elements_at field bottoms.now) (length (elements_at field tops.old)) }
     ensures { DividedOver (field_at field) (elements_at field bottoms.now) (elements_at field tops.old) (elements_at field tops.new) }
 {
     if field == 3 {
-        divide_four(bottoms, tops);
+        divide_over(FourWords, bottoms, tops);
     } else {
-        divide_one(field, bottoms, tops);
+        divide_over(Prime { field: field }, bottoms, tops);
     }
 }
 

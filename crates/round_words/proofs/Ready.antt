@@ -16,9 +16,8 @@ use Rattle.spelling.specs.ByField.{elements_at, field_at, words_at}
 use Rattle.elements.specs.Meaning.{value_at, value_in}
 use Rattle.quartic.specs.declared.Four.{Four}
 use Rattle.lists.specs.Correcting.{CorrectingOver}
-use Rattle.samples.specs.declared.Gathered.{Gathered}
-use Rattle.samples.specs.declared.Gathered.TheVariants.{Clash, From}
-use Rattle.samples.specs.Samples.{Room, kept}
+use Rattle.std.specs.Prelude.{Some, None}
+use Rattle.samples.specs.Samples.{Gathered, Room, kept}
 use Rattle.fractions.specs.declared.Oracle.{Oracle}
 use Rattle.fractions.specs.Values.{Below, Clear, Fits}
 use Rattle.rounds.specs.RoundLaws.{Answered, Compared}
@@ -141,5 +140,5 @@ module _ (ed : Edition) (h : Sheet) (w : List ℕ) {points answers factors : ℕ
 -- ---- room for the samples
 
 pub room_most : (n t : ℕ) (g : Gathered) → n ≡ 50 → t ≤ 50 → Room n t g → Room 50 50 g
-room_most n t Clash e h r = tt
-room_most n t (From k) e h r = (omega arith, omega arith)
+room_most n t None e h r = tt
+room_most n t (Some k) e h r = (omega arith, omega arith)

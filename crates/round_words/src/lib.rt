@@ -21,9 +21,7 @@ ghost use Rattle.round_words.specs.Handed.{Differing, NextCorrecting, NextSample
 use edition::Edition;
 use fractions::Oracle;
 use level_words::State;
-use outcome::Found;
 use quartic::Four;
-use samples::Gathered;
 
 // What the next table is corrected by, from the round's samples, which stand from number `from` on. Answers how many coefficients are in use, which goes by the
 // next level's folding number.
@@ -62,7 +60,7 @@ pub fn next_samples(
     vg: &[u32],
     px: &mut [u32],
     py: &mut [u32],
-) -> Gathered
+) -> Option<usize>
     requires table_inside { TableInside (sheet_of (edition_of e) w.now) w.now (length pw.now) (length ac.now) (length vg.now) state oracle }
     requires round_inside { RoundInside (edition_of e) (sheet_of (edition_of e) w.now) w.now state }
     requires px_len { (length px.old ≡ words_for (sheet_of (edition_of e) w.now) 50) × (length py.old ≡ words_for (sheet_of (edition_of e) w.now) 50) }
@@ -102,7 +100,7 @@ pub fn final_difference(
     oracle: Oracle,
     ac: &[u32],
     vg: &[u32],
-) -> Found
+) -> Option<usize>
     requires table_inside { TableInside (sheet_of (edition_of e) w.now) w.now (length pw.now) (length ac.now) (length vg.now) state oracle }
     requires final_inside { FinalInside (edition_of e) (sheet_of (edition_of e) w.now) w.now state }
     requires clear { Clear (get_or w.now 0 0) pw.now state.size vg.now oracle }

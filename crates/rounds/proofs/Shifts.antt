@@ -16,9 +16,8 @@ use Rattle.algebra.specs.RootsOfUnity.{minus_one}
 use Rattle.list_laws.specs.Backwards.{drop_back}
 use Rattle.spelling.specs.ByField.{ElementOf, elements_at, field_at, points_at}
 use Rattle.element_folds.specs.Points.{inverse_at}
-use Rattle.samples.specs.Samples.{put, distinct_or_clash, Room}
-use Rattle.samples.specs.declared.Gathered.{Gathered}
-use Rattle.samples.specs.declared.Gathered.TheVariants.{Clash, From}
+use Rattle.samples.specs.Samples.{Gathered, put, distinct_or_clash, Room}
+use Rattle.std.specs.Prelude.{Some, None}
 use Rattle.samples.specs.SampleLaws.{put_ok, clash_drop, clash_append, distinct_nil}
 use Rattle.fractions.specs.declared.Oracle.{Oracle}
 use Rattle.folds.specs.Halving.{halving, exponent_of}
@@ -148,5 +147,5 @@ module _ {A : Type 0} (F : Field A) (S : ℕ → ℕ → Sample A) (shifts : Lis
 
 -- samples put in front of samples
 pub room_add : {n k : ℕ} (t u : ℕ) (r : Gathered) → (n ≤ k + t) × (k ≤ n) → Room k u r → Room n (u + t) r
-room_add t u Clash h l = tt
-room_add t u (From m) h l = (omega arith, omega arith)
+room_add t u None h l = tt
+room_add t u (Some m) h l = (omega arith, omega arith)

@@ -1,8 +1,8 @@
 -- Shift points and the inverses of points, which are numbers of the table of powers, as elements. Assumes nothing.
-use Rattle.std.specs.Prelude.{ℕ, ◌+◌, ◌-◌, ◌*◌, ◌%◌, List, ◌≡◌, length, get_or}
+use Rattle.std.specs.Prelude.{ℕ, ◌+◌, ◌-◌, ◌*◌, ◌%◌, List, ◌≡◌, get_or}
 use Rattle.std.proofs.Common.{sym, ap, ◌∙◌}
-use Rattle.definition.specs.Field.{Field, number_in, spelling_of}
-use Rattle.spelling.specs.ByField.{ElementOf, field_at, points_at}
+use Rattle.definition.specs.Field.{number_in, spelling_of}
+use Rattle.spelling.specs.ByField.{field_at, points_at}
 use Rattle.spelling.specs.Points.{length_points, points_get}
 use Rattle.folds.specs.PointsIn.{inverse_power_in, shift_in}
 use Rattle.element_folds.specs.Points.{inverse_at}

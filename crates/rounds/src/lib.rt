@@ -15,7 +15,6 @@ ghost use Rattle.rounds.specs.SamplesIn.{fold_by, sample_by, numbered};
 
 use fractions::Oracle;
 use quartic::Four;
-use samples::Gathered;
 
 // The fold at shift index j, number i of a list, with coin r. The values at its roots stand in `roots`.
 pub fn fold_at(
@@ -93,7 +92,7 @@ fn gather_by_roots(
     values: &mut [u32],
     px: &mut [u32],
     py: &mut [u32],
-) -> Gathered
+) -> Option<usize>
     requires k_in_bounds { length shifts.now * k ≤ length (elements_at field roots.now) }
     requires fits { Fits (length pw.now) (k * oracle.step) oracle k }
     requires below { (Below oracle.step shifts.now) × (length values.old ≡ words_at field k) }
@@ -102,15 +101,9 @@ fn gather_by_roots(
     ensures room { Room (length (elements_at field px.old)) (length (elements_at field outs.now) + length shifts.now) result }
 {
     let mut from = elements::count(field, px);
-    let mut i = shifts.len();
-    while 0 < i {
-        i -= 1;
+    for i in (0..shifts.len()).rev() {
         let s = sample_at(field, pw, roots, oracle, k, r, shifts, i, values);
-        let f = samples::push(field, px, py, from, s.x, s.y);
-        let Gathered::From(j) = f else {
-            return Gathered::Clash;
-        };
-        from = j;
+        from = samples::push(field, px, py, from, s.x, s.y)?;
     }
     samples::push_all(field, outs, replies, px, py, from)
 }
@@ -133,7 +126,7 @@ pub fn gather_samples(
     bottoms: &mut [u32],
     px: &mut [u32],
     py: &mut [u32],
-) -> Gathered
+) -> Option<usize>
     requires ac_len { (length ac.now ≡ words_at field 66) × ((length vg.now ≡ words_at field 132) × (Clear field pw.now (length (elements_at field table.now)) vg.now oracle)) }
     requires fits { Fits (length pw.now) (length (elements_at field table.now)) oracle k }
     requires below { Below oracle.step shifts.now }

@@ -1,15 +1,13 @@
 -- Samples with different points, gathered one by one in front of those that are there.
-use Rattle.std.specs.Prelude.{ℕ, ◌+◌, ◌≤◌, Bool, cond, List, [], ◌∷◌, drop}
+use Rattle.std.specs.Prelude as prelude
+use Rattle.std.specs.Prelude.{Some, None, ℕ, ◌+◌, ◌≤◌, Bool, cond, List, [], ◌∷◌, drop}
 use Rattle.std.proofs.Math.Option.{Option, none, some}
-use Rattle.definition.specs.Field.{Field, Quad}
+use Rattle.definition.specs.Field.{Field}
 use Rattle.definition.specs.Polynomial.{Sample, pair, distinct, clash}
-use Rattle.quartic.specs.Meaning.{quad_of}
-use Rattle.samples.specs.declared.FoundValue.{FoundValue}
-use Rattle.samples.specs.declared.FoundValue.TheVariants.{Value, Nothing}
-use Rattle.samples.specs.declared.FoundFour.{FoundFour}
-use Rattle.samples.specs.declared.FoundFour.TheVariants as found_fours
-use Rattle.samples.specs.declared.Gathered.{Gathered}
-use Rattle.samples.specs.declared.Gathered.TheVariants.{Clash, From}
+
+-- what gathering gives: none where two equal points have different values, else the number from which on the samples stand
+abbrev pub Gathered : Type 0
+Gathered = prelude.Option ℕ
 
 -- the definition's G of a list of samples: none where two equal points have different values, else one sample for each point
 unfoldable pub distinct_or_clash : {A : Type 0} → Field A → List (Sample A) → Option (List (Sample A))
@@ -30,22 +28,12 @@ module _ {A : Type 0} (equal : A → A → Bool) where
   unfoldable pub put : Sample A → List (Sample A) → Option (List (Sample A))
   put s g = put_by s g (lookup s.point g)
 
--- what an answer says is found
-unfoldable pub found_of : FoundValue → Option ℕ
-found_of Nothing = none
-found_of (Value v) = some v
-
--- the same of four words
-unfoldable pub found_four : FoundFour → Option (Quad ℕ)
-found_four found_fours.Nothing = none
-found_four (found_fours.Value v) = some (quad_of v)
-
 -- what an answer says of two lists: the samples that stand there from a number on
 unfoldable pub kept : {A : Type 0} → Gathered → List A → List A → Option (List (Sample A))
-kept Clash xs ys = none
-kept (From k) xs ys = some (pair (drop k xs) (drop k ys))
+kept None xs ys = none
+kept (Some k) xs ys = some (pair (drop k xs) (drop k ys))
 
 -- the samples that an answer names begin at most t places before number n
 abbrev pub Room : ℕ → ℕ → Gathered → Type 0
-Room n t Clash = Unit {0}
-Room n t (From k) = (n ≤ k + t) × (k ≤ n)
+Room n t None = Unit {0}
+Room n t (Some k) = (n ≤ k + t) × (k ≤ n)

@@ -69,7 +69,7 @@ pub fn prove_then_verify(
     prove_then_verify_in(Edition::One, sheet, coefficients, coins, output)
 }
 
-// The same of edition 2.
+// The same of edition 2, under a name of its own, as the C function has one.
 pub fn prove_then_verify_2(
     sheet: &[u32],
     coefficients: &[u32],

@@ -12,7 +12,6 @@ ghost use Rattle.sheet.specs.Rules.{Shape, front_rules, later_words};
 ghost use Rattle.sizes.specs.Degrees.{DegreeAt, Folds};
 
 use edition::Edition;
-use outcome::Found;
 
 // Is x one of 1, 2, 4, .., 4096: a single one bit, and not too high?
 fn is_power(x: u32) -> bool
@@ -127,29 +126,29 @@ fn out_coins_rule(w: &[u32]) -> bool
 }
 
 // The first of words 0 to 5 that breaks its rule, given those before it.
-fn broken_front(e: Edition, w: &[u32]) -> Found
+fn broken_front(e: Edition, w: &[u32]) -> Option<usize>
     requires { 12 ≤ length w.now }
     ensures { place_of result ≡ first_of (range 0 6) (map not (front_rules (edition_of e) w.now)) }
 {
     if !field_rule(w) {
-        return Found::At(0);
+        return Some(0);
     }
     if !size_rule(w) {
-        return Found::At(1);
+        return Some(1);
     }
     if !degree_rule(w) {
-        return Found::At(2);
+        return Some(2);
     }
     if !folding_number(w, w[3]) {
-        return Found::At(3);
+        return Some(3);
     }
     if !rounds_rule(e, w) {
-        return Found::At(4);
+        return Some(4);
     }
     if !out_coins_rule(w) {
-        return Found::At(5);
+        return Some(5);
     }
-    Found::Nothing
+    None
 }
 
 // Word 11 + i of edition 2, k_i, with d for d_i: a folding number for i up to M, with k_0·..·k_i at most d0, which is k_i at most d_i; past k_M zero.
@@ -169,44 +168,42 @@ fn later_fold_rule(w: &[u32], i: usize, d: u32) -> bool
 }
 
 // The first of k_1 to k_5 of edition 2 that breaks its rule, where words 2 to 5 hold theirs.
-fn broken_folds(w: &[u32]) -> Found
+fn broken_folds(w: &[u32]) -> Option<usize>
     requires { (18 ≤ length w.now) × (Shape edition2 w.now) }
     ensures { place_of result ≡ first_of (range 12 5) (map not (map (later_fold_rule w.now) (range 1 5))) }
 {
     let mut d = sizes::next_degree(Edition::Two, w, 0, w[2]);
-    let mut i = 1;
-    while i < 6 {
+    for i in 1..6 {
         if !later_fold_rule(w, i, d) {
-            return Found::At(11 + i);
+            return Some(11 + i);
         }
         d = sizes::next_degree(Edition::Two, w, i, d);
-        i += 1;
     }
-    Found::Nothing
+    None
 }
 
 // The first of words 12 to 17 of edition 2 that breaks its rule; word 17 is the edition's number.
-fn broken_past_11(w: &[u32]) -> Found
+fn broken_past_11(w: &[u32]) -> Option<usize>
     requires { (18 ≤ length w.now) × (Shape edition2 w.now) }
     ensures { place_of result ≡ first_of (range 12 6) (map not (later_rules edition2 w.now)) }
 {
     let folds = broken_folds(w);
-    if let Found::At(place) = folds {
-        return Found::At(place);
+    if let Some(place) = folds {
+        return Some(place);
     }
     if w[17] != 2 {
-        return Found::At(17);
+        return Some(17);
     }
-    Found::Nothing
+    None
 }
 
 // The first word past word 11 that breaks its rule, where words 2 to 5 hold theirs. Edition 1 has none.
-fn broken_later(e: Edition, w: &[u32]) -> Found
+fn broken_later(e: Edition, w: &[u32]) -> Option<usize>
     requires { (sheet_length (edition_of e) ≤ length w.now) × (Shape (edition_of e) w.now) }
     ensures { place_of result ≡ first_of (later_words (edition_of e)) (map not (later_rules (edition_of e) w.now)) }
 {
     match e {
-        Edition::One => Found::Nothing,
+        Edition::One => None,
         Edition::Two => broken_past_11(w),
     }
 }
@@ -232,35 +229,33 @@ fn repetitions_rule(e: Edition, w: &[u32], i: usize, next: u32) -> bool
 }
 
 // The first of t_0 to t_5 that breaks its rule, where words 2 to 5 and the folding numbers hold theirs.
-fn broken_repetitions(e: Edition, w: &[u32]) -> Found
+fn broken_repetitions(e: Edition, w: &[u32]) -> Option<usize>
     requires e_in_bounds { (sheet_length (edition_of e) ≤ length w.now) × (Shape (edition_of e) w.now) }
     requires folds { Folds (edition_of e) w.now 6 }
     ensures { place_of result ≡ first_of (range 6 6) (map not (map (repetitions_rule (edition_of e) w.now) (range 0 6))) }
 {
     let mut d = w[2];
-    let mut i = 0;
-    while i < 6 {
+    for i in 0..6 {
         d = sizes::next_degree(e, w, i, d);
         if !repetitions_rule(e, w, i, d) {
-            return Found::At(6 + i);
+            return Some(6 + i);
         }
-        i += 1;
     }
-    Found::Nothing
+    None
 }
 
 // The first sheet word that breaks its rule, in the order of the tests: words 0 to 5, those past word 11, then words 6 to 11.
-pub fn broken(e: Edition, w: &[u32]) -> Found
+pub fn broken(e: Edition, w: &[u32]) -> Option<usize>
     requires { sheet_length (edition_of e) ≤ length w.now }
     ensures { place_of result ≡ first_of (test_order (edition_of e)) (map not (sheet_rules (edition_of e) w.now)) }
 {
     let front = broken_front(e, w);
-    if let Found::At(place) = front {
-        return Found::At(place);
+    if let Some(place) = front {
+        return Some(place);
     }
     let later = broken_later(e, w);
-    if let Found::At(place) = later {
-        return Found::At(place);
+    if let Some(place) = later {
+        return Some(place);
     }
     broken_repetitions(e, w)
 }

@@ -1,7 +1,7 @@
 // A sheet of one edition laid anew as one of the other, over the places before a stream's body; and the level whose folding number has no place in edition 1.
 #![tactic(auto)]
 
-ghost use Rattle.std.specs.Prelude.{◌≡◌, ◌++◌, ◌+◌, ◌≤◌, ◌<◌, length, get_or, take, drop};
+ghost use Rattle.std.specs.Prelude.{◌≡◌, ◌++◌, ◌≤◌, ◌<◌, length, get_or, take, drop};
 ghost use Rattle.definition.specs.Convert.{folds_test, spread};
 ghost use Rattle.definition.specs.Sheet.{edition2, sheet_of};
 ghost use Rattle.definition.specs.Verdict.{refuse_at};
@@ -10,20 +10,6 @@ ghost use Rattle.list_laws.specs.Overwriting.{overwrite};
 ghost use Rattle.sheet_change.specs.Laid.{later_folds};
 
 use edition::Edition;
-use outcome::Found;
-
-// Copies `count` words to other places, one after the other: down, or up to places past them.
-fn copy_within(words: &mut [u32], from: usize, to: usize, count: usize)
-    requires count_in_bounds { (from + count ≤ length words.old) × (to + count ≤ length words.old) }
-    requires count_bound { from < to → from + count ≤ to }
-    ensures { words.new ≡ overwrite words.old to (take count (drop from words.old)) }
-{
-    let mut i = 0;
-    while i < count {
-        words[to + i] = words[from + i];
-        i += 1;
-    }
-}
 
 // Word 12 + j of edition 2, for j below 5, from words 4 and 3 of edition 1: k up to k_M, then zero.
 fn later_fold(rounds: u32, k: u32, j: usize) -> u32
@@ -40,10 +26,8 @@ fn put_later_folds(words: &mut [u32])
 {
     let rounds = words[4];
     let k = words[3];
-    let mut j = 0;
-    while j < 5 {
+    for j in 0..5 {
         words[12 + j] = later_fold(rounds, k, j);
-        j += 1;
     }
 }
 
@@ -52,7 +36,7 @@ pub fn spread_sheet(words: &mut [u32])
     requires { 18 ≤ length words.old }
     ensures { words.new ≡ spread (drop 6 words.old) ++ drop 18 words.old }
 {
-    copy_within(words, 6, 0, 12);
+    words.copy_within(6..18, 0);
     put_later_folds(words);
     words[17] = 2;
 }
@@ -62,23 +46,21 @@ pub fn cut_sheet(words: &mut [u32])
     requires { 18 ≤ length words.old }
     ensures { drop 6 words.new ≡ take 12 words.old ++ drop 18 words.old }
 {
-    copy_within(words, 6, 12, 6);
-    copy_within(words, 0, 6, 6);
+    words.copy_within(6..12, 12);
+    words.copy_within(0..6, 6);
 }
 
 // The first level of a sheet of edition 2 whose folding number is not k_0.
-pub fn other_fold(w: &[u32]) -> Found
+pub fn other_fold(w: &[u32]) -> Option<usize>
     requires { (18 ≤ length w.now) × (get_or w.now 4 0 ≤ 5) }
     ensures { refuse_at 13 (place_of result) ≡ folds_test (sheet_of edition2 w.now) }
 {
     let first = edition::fold(Edition::Two, w, 0);
     let rounds = w[4] as usize;
-    let mut i = 1;
-    while i <= rounds {
+    for i in 1..rounds + 1 {
         if edition::fold(Edition::Two, w, i) != first {
-            return Found::At(i);
+            return Some(i);
         }
-        i += 1;
     }
-    Found::Nothing
+    None
 }

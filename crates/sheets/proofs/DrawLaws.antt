@@ -7,33 +7,28 @@ use mathlib.Core.Bool.{Bool, true, cond}
 use mathlib.Core.List.{List, [], ◌∷◌, ◌++◌}
 use mathlib.Core.Path.{◌≡◌, refl, sym, ap, ◌∙◌, subst}
 use lib.Dec.{eqb}
-use lib.ListN.{length, get_or, take, set, drop_of_length-le, length-set}
-use lib.Seq.{get_or-take, length-take-le, sets-eq, take_all, take-suc-set}
+use lib.ListN.{length, get_or, take, set, length-set}
+use lib.Seq.{get_or-take, length-take-le, take_all, take-suc-set}
 use borrow.Author.Tests.{eq-eqb, ne_eqb}
 use Rattle.list_laws.specs.All.{at_place}
 use Rattle.layouts.proofs.SheetByWord.{keep_all, kept_more, rule_kept}
 use Rattle.layouts.specs.PlainRules.{Kept}
 use Rattle.definition.specs.Load.{Drawn, step, draw_below, candidates, permits, permitted, worked_sheet, draw_words, draw_sheet}
 
-pub worked_words : (w : List ℕ) → length w ≡ 12 →
-    set (set (set (set (set (set (set (set (set (set (set (set w 0 0) 1 16) 2 8) 3 2) 4 1) 5 1) 6 1) 7 1) 8 0) 9 0) 10 0) 11 0 ≡ worked_sheet
-worked_words w e = sets-eq worked_sheet w 0 (omega arith) ∙ ap (λ (l : List ℕ). worked_sheet ++ l) (drop_of_length-le w {i = 12} (omega arith))
-
 -- After j words, with the generator at v: they keep their rules, and the words to come make the sheet that is drawn from the state `first`.
 pub record Drawing (first : ℕ) (w : List ℕ) (j v : ℕ) : Type 0 where
-  pub most : j ≤ 12
   pub words : length w ≡ 12
   pub kept : Kept (take j w)
   pub rest : draw_words (12 - j) (take j w) v ≡ draw_sheet first
 
 pub none_drawn : (v : ℕ) (w : List ℕ) → length w ≡ 12 → Drawing v w 0 v
 unfolding draw_sheet
-none_drawn v w e = record { most = omega arith; words = e; kept = λ i l. absurd (omega arith); rest = refl }
+none_drawn v w e = record { words = e; kept = λ i l. absurd (omega arith); rest = refl }
 
-pub all_drawn : {first j v : ℕ} {w : List ℕ} → Drawing first w j v → 12 ≤ j → ◌≡◌ {A = Drawn (List ℕ)} (record { value = w; next = v }) (draw_sheet first)
+pub all_drawn : {first j v : ℕ} {w : List ℕ} → Drawing first w j v → j ≡ 12 → ◌≡◌ {A = Drawn (List ℕ)} (record { value = w; next = v }) (draw_sheet first)
 unfolding draw_words
 all_drawn {first} {j} {v} {w} t h =
-    let e : 12 - j ≡ 0 = omega (arith, t.most) in
+    let e : 12 - j ≡ 0 = omega arith in
     ap {B = Drawn (List ℕ)} (λ (l : List ℕ). record { value = l; next = v }) (sym (take_all j w (omega (arith, t.words))))
     ∙ ap (λ (n : ℕ). draw_words n (take j w) v) (sym e) ∙ t.rest
 
@@ -82,7 +77,6 @@ module _ {first j v : ℕ} {w : List ℕ} (values : List ℕ) (n : ℕ) (t : Dra
     pub one_drawn : Drawing first (set u j (get_or values d 0)) (j + 1) later
     unfolding draw_below
     one_drawn = record {
-      most = omega arith;
       words = length-set u j (get_or values d 0) ∙ long;
       kept = subst (λ (s : List ℕ). Kept s) (sym words_now) (kept_more (take j w) (get_or values d 0) t.kept (rule_kept (take j w) (get_or values d 0) allowed));
       rest =

@@ -128,7 +128,6 @@ candidate_count = refl
 -- After i candidates: n values are permitted, and those among the candidates to come are all the others. Word j may be any.
 pub record Tried (start : List ℕ) (j : ℕ) (w values : List ℕ) (n i : ℕ) : Type 0 where
   pub few : n ≤ i
-  pub most : i ≤ 56
   pub words : length w ≡ 12
   pub places : length values ≡ 56
   pub front : take j w ≡ take j start
@@ -136,7 +135,7 @@ pub record Tried (start : List ℕ) (j : ℕ) (w values : List ℕ) (n i : ℕ) 
 
 pub none_tried : (start values : List ℕ) (j : ℕ) → length start ≡ 12 → length values ≡ 56 → Tried start j start values 0 0
 unfolding permitted
-none_tried start values j long room = record { few = omega arith; most = omega arith; words = long; places = room; front = refl; all = refl }
+none_tried start values j long room = record { few = omega arith; words = long; places = room; front = refl; all = refl }
 
 pub all_tried : {start w values : List ℕ} {j n i : ℕ} → Tried start j w values n i → 56 ≤ i → take n values ≡ permitted (take j start)
 unfolding keep
@@ -168,7 +167,6 @@ module _ {start w u values : List ℕ} {j n i x : ℕ} {b : Bool} (t : Tried sta
   unfolding test rest
   one_taken {later} {m} h f g = record {
     few = omega (arith, t.few);
-    most = omega arith;
     words = words_stay;
     places = ap length f ∙ simp length-set t.places;
     front = front_stays;
@@ -182,7 +180,6 @@ module _ {start w u values : List ℕ} {j n i x : ℕ} {b : Bool} (t : Tried sta
   unfolding test rest
   one_left {later} {m} h f g = record {
     few = omega (arith, t.few);
-    most = omega arith;
     words = words_stay;
     places = ap length f ∙ t.places;
     front = front_stays;

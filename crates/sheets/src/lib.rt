@@ -7,17 +7,13 @@ ghost use Rattle.definition.specs.Load.{candidates, permits as permits_in, permi
 
 use edition::Edition;
 use generator::Generator;
-use outcome::Found;
 
 // 0 to 48, then 64, 128, .., 4096: no rule of a sheet word permits another value.
 fn candidate(i: u32) -> u32
     requires { i < 56 }
     ensures { result ≡ get_or candidates i 0 }
 {
-    if i < 49 {
-        return i;
-    }
-    64 << (i - 49)
+    if i < 49 { i } else { 64 << (i - 49) }
 }
 
 // Puts x into word j; the answer is whether the word's rule permits it. The words before keep their rules, and no rule looks at a later word: so the rule of word
@@ -32,7 +28,7 @@ fn permits(w: &mut [u32], j: usize, x: u32) -> bool
         return x < 3;
     }
     let broken = sheet::broken(Edition::One, w);
-    if let Found::At(place) = broken {
+    if let Some(place) = broken {
         return place != j;
     }
     true
@@ -46,14 +42,12 @@ fn permitted(w: &mut [u32], j: usize, values: &mut [u32]) -> usize
     ensures upper_bound { (result ≤ 56) × (take j w.new ≡ take j w.old) }
 {
     let mut n = 0;
-    let mut i = 0u32;
-    while i < 56 {
+    for i in 0..56u32 {
         let x = candidate(i);
         if permits(w, j, x) {
             values[n] = x;
             n += 1;
         }
-        i += 1;
     }
     n
 }
@@ -63,18 +57,7 @@ fn worked(w: &mut [u32])
     requires { length w.old ≡ 12 }
     ensures { w.new ≡ worked_sheet }
 {
-    w[0] = 0;
-    w[1] = 16;
-    w[2] = 8;
-    w[3] = 2;
-    w[4] = 1;
-    w[5] = 1;
-    w[6] = 1;
-    w[7] = 1;
-    w[8] = 0;
-    w[9] = 0;
-    w[10] = 0;
-    w[11] = 0;
+    w.copy_from_slice(&[0, 16, 8, 2, 1, 1, 1, 1, 0, 0, 0, 0]);
 }
 
 // Places for the values that a rule permits.
@@ -88,8 +71,7 @@ pub fn draw(generator: Generator, w: &mut [u32]) -> Generator
 {
     let mut values = [0u32; VALUES];
     let mut generator = generator;
-    let mut j = 0;
-    while j < 12 {
+    for j in 0..12 {
         let count = permitted(w, j, &mut values);
         if count == 0 {
             worked(w);
@@ -98,7 +80,6 @@ pub fn draw(generator: Generator, w: &mut [u32]) -> Generator
         let d = generator.below(count as u32);
         w[j] = values[d.value as usize];
         generator = d.next;
-        j += 1;
     }
     generator
 }

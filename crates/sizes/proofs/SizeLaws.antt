@@ -53,19 +53,17 @@ parts_small σ n s t = omega (arith, count_least σ n, count_least σ s)
 
 -- i of the rounds are counted in due, and d is the degree bound of level i
 pub record Counted (ed : Edition) (w : List ℕ) (due d i : ℕ) : Type 0 where
-  pub within : i ≤ get_or w 4 0
   pub sum : due ≡ round_start ed (sheet_of ed w) (suc i)
   pub degree : DegreeAt ed w i d
 
 -- the same for the coins, whatever the edition
 pub record CountedCoins (w : List ℕ) (due i : ℕ) : Type 0 where
-  pub within : i ≤ get_or w 4 0
   pub small : due ≤ 4 + 64 * i
   pub sum : (ed : Edition) → sheet_length ed ≤ length w → sheet_test ed w ≡ accepted → due ≡ coins_before (sheet_of ed w) (suc i)
 
 pub coins_start : (w : List ℕ) {v : ℕ} → v ≡ word_count (spelling_of (get_or w 0 0)) 1 → CountedCoins w v 0
 unfolding coins_before coin_count sheet_of
-coins_start w e = record { within = omega arith; small = omega (arith, e, count_most (spelling_of (get_or w 0 0)) 1); sum = λ ed l p. omega (arith, e) }
+coins_start w e = record { small = omega (arith, e, count_most (spelling_of (get_or w 0 0)) 1); sum = λ ed l p. omega (arith, e) }
 
 module _ (ed : Edition) (w : List ℕ) (long : sheet_length ed ≤ length w) (passed : sheet_test ed w ≡ accepted) where
   abbrev h : Sheet
@@ -134,7 +132,6 @@ module _ (ed : Edition) (w : List ℕ) (long : sheet_length ed ≤ length w) (pa
   pub words_start : (log : ℕ) → get_or w 1 0 ≡ 2 ^ log → {words n v : ℕ} → words ≡ sheet_length ed → n ≡ 2 ^ (log - 0) → v ≡ word_count (spelling_of (get_or w 0 0)) (n + 1) → Counted ed w (words + v) (get_or w 2 0) 0
   unfolding round_start round_count sheet_of
   words_start log e {n = n} a b v = record {
-    within = omega arith;
     sum = omega (arith, a, v, count_add (spelling_of (get_or w 0 0)) n 1, ap (word_count (spelling_of (get_or w 0 0))) (first_size log e b ∙ sym (undivided (get_or w 1 0))));
     degree = degree_first ed w;
   }
@@ -162,26 +159,25 @@ module _ (ed : Edition) (w : List ℕ) (long : sheet_length ed ≤ length w) (pa
 
       pub words_turn : {r d' : ℕ} → r ≡ round_word_count (spelling_of (get_or w 0 0)) n (get_or w 5 0) (get_or w (6 + i) 0) → DegreeAt ed w (i + 1) d' → Counted ed w (due + r) d' (i + 1)
       words_turn t g = record {
-        within = omega arith;
         sum = omega (arith, t, next_start, ap (λ (x : ℕ). round_start ed (sheet_of ed w) (suc x)) (add-one i));
         degree = g;
       }
 
-    pub words_done : get_or w 4 0 ≤ i → {d' v : ℕ} → DegreeAt ed w (i + 1) d' → v ≡ word_count (spelling_of (get_or w 0 0)) d' → due + v + get_or w (6 + i) 0 ≡ words_due ed (sheet_of ed w)
+    pub words_done : i ≡ get_or w 4 0 → {d' v : ℕ} → DegreeAt ed w (get_or w 4 0 + 1) d' → v ≡ word_count (spelling_of (get_or w 0 0)) d' → due + v + get_or w (6 + get_or w 4 0) 0 ≡ words_due ed (sheet_of ed w)
     unfolding sheet_of
     words_done last {d'} g ev =
         let M = rounds_of (sheet_of ed w) in
-        let l : i ≡ get_or w 4 0 = omega (arith, c.within) in
         let q : i ≡ M = omega (arith, rounds_word ed w long passed) in
+        let m : get_or w 4 0 ≡ M = omega (arith, rounds_word ed w long passed) in
         omega (
           arith,
           c.sum,
           ap (λ (x : ℕ). round_start ed (sheet_of ed w) (suc x)) q,
           ev,
           ap (word_count (spelling_of (get_or w 0 0)))
-              (g.degree (omega arith) ∙ ap (λ (x : ℕ). get_or w 2 0 / product_of (take x (fold_words ed w))) (add-one i ∙ ap suc l) ∙ sym final_count_lem),
-          time i (omega arith),
-          ap (λ (x : ℕ). (level_of (sheet_of ed w) x).repetitions) q,
+              (g.degree (omega arith) ∙ ap (λ (x : ℕ). get_or w 2 0 / product_of (take x (fold_words ed w))) (add-one (get_or w 4 0)) ∙ sym final_count_lem),
+          time (get_or w 4 0) (omega arith),
+          ap (λ (x : ℕ). (level_of (sheet_of ed w) x).repetitions) m,
           words_due_lem ed (sheet_of ed w) law.paired,
         )
 
@@ -197,22 +193,22 @@ module _ (ed : Edition) (w : List ℕ) (long : sheet_length ed ≤ length w) (pa
   unfolding coins_before coin_count later_count sheet_of
   coins_next {due} {i} more ev e = omega (arith, ev, count_add (spelling_of (get_or w 0 0)) (get_or w 5 0) 2, time i (omega arith), ap (λ (x : ℕ). coins_before (sheet_of ed w) (suc x)) (add-one i))
 
-  pub coins_done : {due i : ℕ} → CountedCoins w due i → get_or w 4 0 ≤ i → due + get_or w (6 + i) 0 ≡ length (coin_kinds (layout (sheet_of ed w)))
+  pub coins_done : {due i : ℕ} → CountedCoins w due i → i ≡ get_or w 4 0 → due + get_or w (6 + get_or w 4 0) 0 ≡ length (coin_kinds (layout (sheet_of ed w)))
   coins_done {due} {i} c last =
-      let q : i ≡ rounds_of (sheet_of ed w) = omega (arith, c.within, rounds_word ed w long passed) in
+      let q : i ≡ rounds_of (sheet_of ed w) = omega (arith, rounds_word ed w long passed) in
+      let m : get_or w 4 0 ≡ rounds_of (sheet_of ed w) = omega (arith, rounds_word ed w long passed) in
       omega (
         arith,
         c.sum ed long passed,
         ap (λ (x : ℕ). coins_before (sheet_of ed w) (suc x)) q,
-        time i c.within,
-        ap (λ (x : ℕ). (level_of (sheet_of ed w) x).repetitions) q,
+        time (get_or w 4 0) (omega arith),
+        ap (λ (x : ℕ). (level_of (sheet_of ed w) x).repetitions) m,
         coins_due_lem ed (sheet_of ed w) law.paired,
       )
 
 pub coins_turn : (ed : Edition) (w : List ℕ) → sheet_length ed ≤ length w → sheet_test ed w ≡ accepted → {due i v : ℕ} → CountedCoins w due i → i < get_or w 4 0 →
     v ≡ word_count (spelling_of (get_or w 0 0)) (get_or w 5 0 + 2) → CountedCoins w (due + (v + get_or w (6 + i) 0)) (i + 1)
 coins_turn ed w long passed {due} {i} c more ev = record {
-  within = omega arith;
   small = omega (arith, c.small, ev, count_most (spelling_of (get_or w 0 0)) (get_or w 5 0 + 2), outs_small ed w long passed, time_small ed w long passed i (omega arith));
   sum = λ ed' l p. coins_next ed' w l p more ev (c.sum ed' l p);
 }

@@ -36,6 +36,7 @@ pub fn next_degree(e: Edition, w: &[u32], i: usize, d: u32) -> u32
 }
 
 // The words of a round whose table has n entries, after a level with t repetitions: table, out coins, replies, combination coin, fold coin, shift indices.
+#[tactic(auto, using(crate::proofs::SizeLaws::parts_small, crate::proofs::SizeLaws::round_joined))]
 fn round_words(field: u32, n: usize, s: usize, t: usize) -> usize
     requires { round_word_count (spelling_of field) n s t ≤ 8509 }
     ensures { result ≡ round_word_count (spelling_of field) n s t }
@@ -71,14 +72,12 @@ pub fn words_due(e: Edition, w: &[u32]) -> usize
     // the sheet, table 0 and fold coin 0
     let mut due = edition::sheet_words(e) + widths::words(field, domain_size(log, 0) + 1);
     let mut d = w[2];
-    let mut i = 0;
-    while i < rounds {
+    for i in 0..rounds {
         due += round_words(field, domain_size(log, i + 1), s, w[6 + i] as usize);
         d = next_degree(e, w, i, d);
-        i += 1;
     }
     // the final coefficients and the final indices
-    due + widths::words(field, next_degree(e, w, i, d) as usize) + w[6 + i] as usize
+    due + widths::words(field, next_degree(e, w, rounds, d) as usize) + w[6 + rounds] as usize
 }
 
 // The number of blocks of 127 words that they fill.
@@ -99,12 +98,10 @@ pub fn coins_due(e: Edition, w: &[u32]) -> usize
     let s = w[5] as usize;
     // fold coin 0
     let mut due = widths::words(field, 1);
-    let mut i = 0;
-    while i < rounds {
+    for i in 0..rounds {
         // out coins, combination coin, fold coin, shift indices
         due += widths::words(field, s + 2) + w[6 + i] as usize;
-        i += 1;
     }
     // the final indices
-    due + w[6 + i] as usize
+    due + w[6 + rounds] as usize
 }

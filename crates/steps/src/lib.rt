@@ -18,7 +18,7 @@ pub fn read(file: &[u8]) -> Outcome
     verify::read_in(Edition::One, file)
 }
 
-// The same of edition 2.
+// The same of edition 2, under a name of its own, as the C function has one.
 pub fn read_2(file: &[u8]) -> Outcome
     ensures { outcome_of result ≡ reading edition2 file.now }
 {
@@ -39,7 +39,7 @@ pub fn decide(file: &[u8]) -> Verdict
     decide_in(Edition::One, file)
 }
 
-// The same of edition 2.
+// The same of edition 2, under a name of its own, as the C function has one.
 pub fn decide_2(file: &[u8]) -> Verdict
     ensures { verdict_of result ≡ decide_file edition2 file.now }
 {
@@ -67,7 +67,7 @@ pub fn read_then_decide(file: &[u8]) -> Verdict
     read_then_decide_in(Edition::One, file)
 }
 
-// The same of edition 2.
+// The same of edition 2, under a name of its own, as the C function has one.
 pub fn read_then_decide_2(file: &[u8]) -> Verdict
     ensures { verdict_of result ≡ verify_in edition2 file.now }
 {

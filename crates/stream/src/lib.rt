@@ -9,20 +9,12 @@ ghost use Rattle.stream.specs.Checks.{right_check};
 ghost use Rattle.stream.specs.Loaded.{Loaded};
 ghost use Rattle.stream.specs.WrittenBlocks.{checked_block, block_of};
 
-use outcome::Found;
-
-fn wide(b: u8) -> u32
-    ensures { (result ≡ b) × (result < 256) }
-{
-    b as u32
-}
-
 // The word in the four bytes from number `at` on, the least significant first.
 pub fn word(s: &[u8], at: usize) -> u32
     requires { at + 4 ≤ length s.now }
     ensures { result ≡ word_at s.now at }
 {
-    wide(s[at]) + 256 * wide(s[at + 1]) + 65536 * wide(s[at + 2]) + 16777216 * wide(s[at + 3])
+    u32::from_le_bytes([s[at], s[at + 1], s[at + 2], s[at + 3]])
 }
 
 // The sum with word w of a block added, w + 1 times. The bounds keep the sum of 127 words in 64 bits.
@@ -41,12 +33,10 @@ fn take_block(file: &[u8], b: usize, words: &mut [u32], at: usize) -> bool
 {
     let from = 512 * b;
     let mut sum = b as u64 + 1;
-    let mut w = 0;
-    while w < 127 {
+    for w in 0..127 {
         let x = word(file, from + 4 * w);
         words[at + w] = x;
         sum = add_weighted(sum, w, x);
-        w += 1;
     }
     word(file, from + 508) as u64 == sum % 4294967291
 }
@@ -61,20 +51,18 @@ fn place(b: usize, most: usize) -> usize
 }
 
 // Reads a file in one pass: checks each block up to the first that is wrong, and stores the words. There are places for the file's blocks, up to `most` and one more.
-pub fn load(file: &[u8], most: usize, words: &mut [u32]) -> Found
+pub fn load(file: &[u8], most: usize, words: &mut [u32]) -> Option<usize>
     requires { 127 * min (length file.now / 512) (most + 1) ≤ length words.old }
     ensures { Loaded file.now most result words.new }
 {
     let blocks = file.len() / 512;
-    let mut b = 0;
-    while b < blocks {
+    for b in 0..blocks {
         let at = place(b, most);
         if !take_block(file, b, words, at) {
-            return Found::At(b);
+            return Some(b);
         }
-        b += 1;
     }
-    Found::Nothing
+    None
 }
 
 // Stores a word in the four bytes from number `at` on, the least significant first.
@@ -82,10 +70,7 @@ pub fn put_word(out: &mut [u8], at: usize, w: u32)
     requires { at + 4 ≤ length out.old }
     ensures { out.new ≡ overwrite out.old at (bytes_of w) }
 {
-    out[at] = (w % 256) as u8;
-    out[at + 1] = (w / 256 % 256) as u8;
-    out[at + 2] = (w / 65536 % 256) as u8;
-    out[at + 3] = (w / 16777216 % 256) as u8;
+    out[at..at + 4].copy_from_slice(&w.to_le_bytes());
 }
 
 // Word n of the first `count` words, and zero past them.
@@ -103,12 +88,10 @@ fn write_block(words: &[u32], count: usize, b: usize, out: &mut [u8])
 {
     let from = 512 * b;
     let mut total = b as u64 + 1;
-    let mut i = 0;
-    while i < 127 {
+    for i in 0..127 {
         let x = filled(words, count, 127 * b + i);
         put_word(out, from + 4 * i, x);
         total = add_weighted(total, i, x);
-        i += 1;
     }
     put_word(out, from + 508, (total % 4294967291) as u32);
 }
@@ -119,9 +102,7 @@ pub fn write_file(words: &[u32], count: usize, out: &mut [u8])
     ensures { out.new ≡ file_of (take count words.now) ++ drop (length (file_of (take count words.now))) out.old }
 {
     let blocks = (count + 126) / 127;
-    let mut k = 0;
-    while k < blocks {
+    for k in 0..blocks {
         write_block(words, count, k, out);
-        k += 1;
     }
 }

@@ -38,9 +38,7 @@ pub fn sum(field: u32, a: &[u32], b: &[u32]) -> u32
 {
     let mut high: u64 = 0;
     let mut low: u64 = 0;
-    let mut i = a.len();
-    while 0 < i {
-        i -= 1;
+    for i in (0..a.len()).rev() {
         high += high_half(a[i], b[i]);
         low += low_half(a[i], b[i]);
     }
@@ -62,9 +60,7 @@ fn sum_every(field: u32, f: &[u32], from: usize, stride: usize, b: &[u32]) -> u3
 {
     let mut high: u64 = 0;
     let mut low: u64 = 0;
-    let mut i = b.len();
-    while 0 < i {
-        i -= 1;
+    for i in (0..b.len()).rev() {
         let x = every(f, from, stride, i);
         high += high_half(x, b[i]);
         low += low_half(x, b[i]);
@@ -78,10 +74,8 @@ fn later_powers(field: u32, x: u32, out: &mut [u32])
     requires { (2 ≤ length out.old) × PowersTo field x out.old 2 }
     ensures { out.new ≡ geometric (field_of field) x (length out.old - 1) }
 {
-    let mut i = 2;
-    while i < out.len() {
+    for i in 2..out.len() {
         out[i] = field::mul(field, out[i / 2], out[i - i / 2]);
-        i += 1;
     }
 }
 
@@ -115,11 +109,9 @@ pub fn powers_in(pw: &[u32], s: usize, out: &mut [u32])
     ensures { (field ω : ℕ) → Powers field ω pw.now → out.new ≡ geometric (field_of field) (power (field_of field) ω s) (length out.old - 1) }
 {
     let mut place = pw.len() - 1;
-    let mut i = 0;
-    while i < out.len() {
-        out[i] = pw[place];
+    for x in out.iter_mut() {
+        *x = pw[place];
         place = further(pw.len(), place, s);
-        i += 1;
     }
 }
 
@@ -128,9 +120,7 @@ pub fn residues(field: u32, f: &[u32], powers: &[u32], out: &mut [u32])
     requires { (length out.old * length powers.now ≤ length f.now) × (length powers.now ≤ 65536) }
     ensures { (m : ℕ) → m < length out.old → get_or out.new m 0 ≡ products (field_of field) (every_nth (field_of field) f.now m (length out.old) (length powers.now)) powers.now }
 {
-    let mut m = 0;
-    while m < out.len() {
+    for m in 0..out.len() {
         out[m] = sum_every(field, f, m, out.len(), powers);
-        m += 1;
     }
 }

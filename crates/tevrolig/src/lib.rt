@@ -19,7 +19,6 @@ ghost use Rattle.device_calls.specs.Calls.{fresh_answer, fresh_state, line_call,
 ghost use Rattle.numbers.specs.Numbers.{number_of, place_in, refusal_of, value_of, word_number, word_after, element_number, element_after, power_number, power_after, turns_after, inverse_number, inverse_after};
 
 use edition::Edition;
-use quartic::FourInverse;
 
 // The number of this interface, of which the symbol's name has it too: the header and the Rust interface refer to the symbol, so that neither links with an archive
 // of another number.
@@ -406,7 +405,7 @@ pub extern "C" fn tevrolig_power_turns_3(
     ensures turns_after { turns.new ≡ (power_turns3 (quad_at a.now) exponent).turns }
 {
     let powered = field3::power_turns(*a, exponent);
-    let power = powered.power;
+    let power = powered.value;
     *out = power;
     *turns = powered.turns;
     0
@@ -419,7 +418,7 @@ pub extern "C" fn tevrolig_inverse_3(a: &[u32; 4], out: &mut [u32; 4]) -> u32
     ensures out_after { out.new ≡ inverse_after3 (inverse3 (quad_at a.now)) out.old }
 {
     let inverse = field3::inverse(*a);
-    let FourInverse::Found(x) = inverse else {
+    let Some(x) = inverse else {
         return numbers::NO_INVERSE;
     };
     *out = [x.a, x.b, x.c, x.d];

@@ -1,10 +1,11 @@
 -- Hashes are 32 bytes; a node's message and its bytes from words; the nodes of a path and the leaves of a table, one by one.
 use Rattle.std.specs.Prelude.{ℕ, suc, ◌+◌, ◌-◌, ◌*◌, ◌/◌, ◌%◌, ◌^◌, ◌≤◌, ◌<◌, ◌≡◌, refl, set}
-use Rattle.std.proofs.Common.{mul_assoc, mul_comm, pow-suc, add-one, arith, ◌∙◌, eq-eqb, ne_eqb, length-append, length-drop, drop_of_length-le, length-take-le, take_all, take_at, take-suc}
+use Rattle.std.proofs.Common.{mul_assoc, mul_comm, pow-suc, add-one, arith, ◌∙◌, eq-eqb, ne_eqb, length-append, length-take, length-drop, drop-drop, drop_of_length-le, length-take-le, take_all, take-suc}
 use Rattle.std.proofs.Math.Path.{sym, ap, ap₂}
 use mathlib.Core.List.{List, [], ◌∷◌, ◌++◌, map, flat_map, append_assoc, append-nil}
 use Rattle.std.proofs.Math.ListN.{length, get_or, take, drop, length-map, get_or-map}
 use Rattle.std.proofs.Math.Seq.{drop-cons}
+use borrow.Rule.Slice.PartMut.{put_mid}
 use Rattle.std.proofs.lemmas.List.Edits.{sets-eq}
 use Rattle.definition.specs.Lists.{chunks}
 use Rattle.definition.specs.Block.{low_bytes, bytes_of}
@@ -12,7 +13,7 @@ use Rattle.hashing.specs.Sha256.{big_bytes, digest_of, sha256}
 use Rattle.list_laws.specs.Chunks.{chunks_length, chunks_at}
 use Rattle.hashing.specs.Tree.{leaf_of, node_of, root_of, parent_of, climb}
 use Rattle.hash_laws.specs.TwoStoreys.{chunks_drop, chunks_front, chunks_take, map_drop, map_take, twice}
-use Rattle.list_laws.specs.Overwriting.{overwrite, overwrite_join}
+use Rattle.list_laws.specs.Overwriting.{overwrite, overwrite_front, overwrite_join}
 use Rattle.tree.specs.Nodes.{leaves_of, nodes_of}
 
 pub hash_length : (m : List ℕ) → length (sha256 m) ≡ 32
@@ -63,17 +64,17 @@ bytes_four : (v : ℕ) → length (bytes_of v) ≡ 4
 unfolding bytes_of low_bytes
 bytes_four v = refl
 
--- the words x as bytes from place 0 on: one word more
-pub bytes_next : (l x : List ℕ) (i : ℕ) {v : ℕ} {o p : List ℕ} → i < length x → v ≡ get_or x i 0 → o ≡ overwrite l 0 (flat_map bytes_of (take i x))
-    → p ≡ overwrite o (4 * i) (bytes_of v) → p ≡ overwrite l 0 (flat_map bytes_of (take (i + 1) x))
-bytes_next l x i {v} h e eo ep =
+-- the words x as bytes from place `at` on: one word more
+pub bytes_next : (l : List ℕ) (at : ℕ) (x : List ℕ) (i : ℕ) {v : ℕ} {o p : List ℕ} → at ≤ length l → i < length x → v ≡ get_or x i 0
+    → o ≡ overwrite l at (flat_map bytes_of (take i x)) → p ≡ overwrite o (at + 4 * i) (bytes_of v) → p ≡ overwrite l at (flat_map bytes_of (take (i + 1) x))
+bytes_next l at x i {v} b h e eo ep =
     let q = flat_map bytes_of (take i x) in
-    let n : 4 * i ≡ 0 + length q = omega (arith, bytes_length (take i x), length-take-le i x (omega arith)) in
+    let n : at + 4 * i ≡ at + length q = omega (arith, bytes_length (take i x), length-take-le i x (omega arith)) in
     let t : flat_map bytes_of (take (i + 1) x) ≡ q ++ bytes_of v =
     ap (λ (k : ℕ). flat_map bytes_of (take k x)) (add-one i) ∙ ap (flat_map bytes_of) (take-suc x i 0 h) ∙ bytes_join (take i x) (get_or x i 0 ∷ [])
     ∙ ap (λ (y : List ℕ). q ++ y) (bytes_one (get_or x i 0) ∙ ap bytes_of (sym e)) in
-    ep ∙ ap (λ (y : List ℕ). overwrite y (4 * i) (bytes_of v)) eo ∙ ap (λ (k : ℕ). overwrite (overwrite l 0 q) k (bytes_of v)) n
-    ∙ overwrite_join l 0 q (omega arith) (bytes_of v) ∙ ap (overwrite l 0) (sym t)
+    ep ∙ ap (λ (y : List ℕ). overwrite y (at + 4 * i) (bytes_of v)) eo ∙ ap (λ (k : ℕ). overwrite (overwrite l at q) k (bytes_of v)) n
+    ∙ overwrite_join l at q b (bytes_of v) ∙ ap (overwrite l at) (sym t)
 
 pub bytes_all : (l x : List ℕ) (i : ℕ) {o : List ℕ} → length l ≡ 32 → length x ≡ 8 → 8 ≤ i → o ≡ overwrite l 0 (flat_map bytes_of (take i x)) → o ≡ flat_map bytes_of x
 unfolding overwrite
@@ -82,6 +83,9 @@ bytes_all l x i n m h e =
     let z : length l ≤ 0 + length q = omega (arith, bytes_length x) in
     e ∙ ap (λ (y : List ℕ). overwrite l 0 (flat_map bytes_of y)) (take_all i x (omega arith))
     ∙ ap (λ (y : List ℕ). q ++ y) (drop_of_length-le l {i = 0 + length q} z) ∙ append-nil q
+
+pub bytes_whole : (l x : List ℕ) {o : List ℕ} → length l ≡ 32 → length x ≡ 8 → o ≡ overwrite l 0 (flat_map bytes_of x) → o ≡ flat_map bytes_of x
+bytes_whole l x n m e = bytes_all l x 8 n m (omega arith) (e ∙ ap (λ (y : List ℕ). overwrite l 0 (flat_map bytes_of y)) (sym (take_all 8 x (omega arith))))
 
 -- the nodes of a path in words
 module _ (w : List ℕ) where
@@ -110,19 +114,19 @@ module _ (w : List ℕ) where
       let n : length (nodes_of w) ≤ h = omega (arith, nodes_length) in
       ap (climb x j) (drop_of_length-le (nodes_of w) {i = h} n)
 
--- a leaf's message: 0, and the entry's words as bytes behind it: one word more
-pub message_next : (m x : List ℕ) (i : ℕ) {v : ℕ} {o : List ℕ} → length m ≡ 17 → length x ≤ 4 → i < length x → v ≡ get_or x i 0 → o ≡ overwrite m (1 + 4 * i) (bytes_of v)
-    → take (1 + 4 * i) m ≡ 0 ∷ flat_map bytes_of (take i x) → take (1 + 4 * (i + 1)) o ≡ 0 ∷ flat_map bytes_of (take (i + 1) x)
+-- a leaf's message: 0, and the entry's words as bytes behind it
+pub message_words : (m x : List ℕ) {o : List ℕ} → take 1 m ≡ 0 ∷ [] → o ≡ overwrite m 1 (flat_map bytes_of x) → take (1 + 4 * length x) o ≡ 0 ∷ flat_map bytes_of x
+message_words m x {o} t e =
+    let q = flat_map bytes_of x in
+    let b : 1 ≤ length m = omega (arith, ap length t, length-take 1 m) in
+    let n : 1 + 4 * length x ≡ 1 + length q = omega (arith, bytes_length x) in
+    ap (λ (k : ℕ). take k o) n ∙ ap (take (1 + length q)) e ∙ overwrite_front m 1 q b ∙ ap (λ (y : List ℕ). y ++ q) t
+
+-- a part of a list written over
+pub part_written : (a k : ℕ) (l q : List ℕ) → length q ≡ k → put_mid a k l q ≡ overwrite l a q
 unfolding overwrite
-message_next m x i {v} n l h e eo s =
-    let at = 1 + 4 * i in
-    let q : length (bytes_of v) ≡ 4 = bytes_four v in
-    let f : length (take at m ++ bytes_of v) ≡ 1 + 4 * (i + 1) = length-append (take at m) (bytes_of v) ∙ omega (arith, q, length-take-le at m (omega arith)) in
-    let t : flat_map bytes_of (take (i + 1) x) ≡ flat_map bytes_of (take i x) ++ bytes_of v =
-    ap (λ (k : ℕ). flat_map bytes_of (take k x)) (add-one i) ∙ ap (flat_map bytes_of) (take-suc x i 0 h) ∙ bytes_join (take i x) (get_or x i 0 ∷ [])
-    ∙ ap (λ (y : List ℕ). flat_map bytes_of (take i x) ++ y) (bytes_one (get_or x i 0) ∙ ap bytes_of (sym e)) in
-    ap (take (1 + 4 * (i + 1))) eo ∙ take_at (take at m ++ bytes_of v) (drop (at + length (bytes_of v)) m) (1 + 4 * (i + 1)) f
-    ∙ ap (λ (y : List ℕ). y ++ bytes_of v) s ∙ ap (λ (y : List ℕ). 0 ∷ y) (sym t)
+part_written a k l q e =
+    sym (append_assoc (take a l) q (drop k (drop a l))) ∙ ap (λ (y : List ℕ). take a l ++ q ++ y) (drop-drop k a l ∙ ap (λ (n : ℕ). drop (a + n) l) (sym e))
 
 pub root_one : (t : List ℕ) (w : ℕ) {h : ℕ} {r : List ℕ} → h ≡ 0 → length t ≡ w * 2 ^ h → r ≡ leaf_of (flat_map bytes_of t) → r ≡ root_of h (leaves_of w h t)
 unfolding root_of leaves_of chunks
@@ -190,3 +194,14 @@ parent_even x j s e = rw (eq-eqb (j % 2) 0 e)
 pub parent_odd : (x : List ℕ) (j : ℕ) (s : List ℕ) → (j % 2 ≡ 0 → ⊥) → node_of s x ≡ parent_of x j s
 unfolding parent_of
 parent_odd x j s e = rw (ne_eqb (j % 2) 0 e)
+
+-- a node's message by its parts, the children written over the places behind the 1
+module _ (m a b : List ℕ) (n : length m ≡ 65) (t : take 1 m ≡ 1 ∷ []) (na : length a ≡ 32) (nb : length b ≡ 32) where
+  pub message_parts : {x y : List ℕ} → x ≡ a → y ≡ b → put_mid 33 32 (put_mid 1 32 m x) y ≡ 1 ∷ (a ++ b)
+  message_parts {x} {y} ex ey =
+      message_put m a b n t na nb
+      (part_written 1 32 m x (ap length ex ∙ na) ∙ ap (overwrite m 1) ex)
+      (part_written 33 32 (put_mid 1 32 m x) y (ap length ey ∙ nb) ∙ ap (overwrite (put_mid 1 32 m x) 33) ey)
+
+  pub parts_length : {x y : List ℕ} → x ≡ a → y ≡ b → 65 ≡ length (put_mid 33 32 (put_mid 1 32 m x) y)
+  parts_length ex ey = omega (arith, ap length (message_parts ex ey), length-append a b)

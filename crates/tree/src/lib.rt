@@ -8,15 +8,13 @@ ghost use Rattle.hashing.specs.Tree.{leaf_of, node_of, root_of, parent_of, climb
 ghost use Rattle.tree.specs.Nodes.{leaves_of, nodes_of};
 ghost use Rattle.list_laws.specs.Overwriting.{overwrite};
 
-// Copies bytes into the places from number `at` on.
-fn put(out: &mut [u8], at: usize, bytes: &[u8])
-    requires { at + length bytes.now ≤ length out.old }
-    ensures { out.new ≡ overwrite out.old at bytes.now }
+// Stores words from byte number `at` on, the least significant byte of each first.
+fn put_words(out: &mut [u8], at: usize, words: &[u32])
+    requires { at + 4 * length words.now ≤ length out.old }
+    ensures { out.new ≡ overwrite out.old at (flat_map bytes_of words.now) }
 {
-    let mut i = 0;
-    while i < bytes.len() {
-        out[at + i] = bytes[i];
-        i += 1;
+    for (i, word) in words.iter().enumerate() {
+        stream::put_word(out, at + 4 * i, *word);
     }
 }
 
@@ -26,8 +24,8 @@ pub fn node(left: &[u8], right: &[u8]) -> [u8; 32]
     ensures { result ≡ node_of left.now right.now }
 {
     let mut m = [1u8; 65];
-    put(&mut m, 1, left);
-    put(&mut m, 33, right);
+    m[1..33].copy_from_slice(left);
+    m[33..].copy_from_slice(right);
     sha::sha256(&m)
 }
 
@@ -37,11 +35,7 @@ pub fn leaf(entry: &[u32]) -> [u8; 32]
     ensures { result ≡ leaf_of (flat_map bytes_of entry.now) }
 {
     let mut m = [0u8; 17];
-    let mut i = 0;
-    while i < entry.len() {
-        stream::put_word(&mut m, 1 + 4 * i, entry[i]);
-        i += 1;
-    }
+    put_words(&mut m, 1, entry);
     sha::sha256(&m[..1 + 4 * entry.len()])
 }
 
@@ -65,17 +59,12 @@ pub fn node_bytes(path: &[u32], at: usize) -> [u8; 32]
     ensures { result ≡ flat_map bytes_of (take 8 (drop at path.now)) }
 {
     let mut out = [0u8; 32];
-    let mut i = 0;
-    while i < 8 {
-        stream::put_word(&mut out, 4 * i, path[at + i]);
-        i += 1;
-    }
+    put_words(&mut out, 0, &path[at..at + 8]);
     out
 }
 
 // A node's parent, from its number among the nodes of its height and its sibling.
-fn parent(x: &[u8], number: usize, sibling: &[u8]) -> [u8; 32]
-    requires { (length x.now ≡ 32) × (length sibling.now ≡ 32) }
+fn parent(x: &[u8; 32], number: usize, sibling: &[u8; 32]) -> [u8; 32]
     ensures { result ≡ parent_of x.now number sibling.now }
 {
     if number % 2 == 0 {
@@ -91,13 +80,10 @@ pub fn root_from(leaf: [u8; 32], number: usize, path: &[u32]) -> [u8; 32]
 {
     let mut x = leaf;
     let mut j = number;
-    let mut h = 0;
-    while h < path.len() / 8 {
+    for h in 0..path.len() / 8 {
         let sibling = node_bytes(path, 8 * h);
-        let up = parent(&x, j, &sibling);
-        x = up;
-        j = j / 2;
-        h += 1;
+        x = parent(&x, j, &sibling);
+        j /= 2;
     }
     x
 }

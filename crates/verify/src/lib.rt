@@ -50,38 +50,12 @@ fn verify_with(e: Edition, file: &[u8], words: &mut [u32]) -> Verdict
     deciding::deciding(e, &words[..127 * (file.len() / 512)])
 }
 
-// The verdict on a file of up to one block. The places of each size have a function of their own, so that the stack holds those that are used alone.
-fn judge_block(e: Edition, file: &[u8]) -> Verdict
-    requires { length file.now ≤ 512 }
+// The verdict by way of N places of its own, which hold the words of the file. Each size is a function by itself, so that the stack holds those that are used alone.
+fn judge<const N: usize>(e: Edition, file: &[u8]) -> Verdict
+    requires { (127 * min (length file.now / 512) 68 ≤ N) × (N ≤ 8636) }
     ensures { verdict_of result ≡ verify_in (edition_of e) file.now }
 {
-    let mut words = [0u32; BLOCK_WORDS];
-    verify_with(e, file, &mut words)
-}
-
-// The same of up to 8 blocks.
-fn judge_small(e: Edition, file: &[u8]) -> Verdict
-    requires { length file.now ≤ 4096 }
-    ensures { verdict_of result ≡ verify_in (edition_of e) file.now }
-{
-    let mut words = [0u32; SMALL_WORDS];
-    verify_with(e, file, &mut words)
-}
-
-// The same of up to 32 blocks.
-fn judge_middle(e: Edition, file: &[u8]) -> Verdict
-    requires { length file.now ≤ 16384 }
-    ensures { verdict_of result ≡ verify_in (edition_of e) file.now }
-{
-    let mut words = [0u32; MIDDLE_WORDS];
-    verify_with(e, file, &mut words)
-}
-
-// The same of any file.
-fn judge_any(e: Edition, file: &[u8]) -> Verdict
-    ensures { verdict_of result ≡ verify_in (edition_of e) file.now }
-{
-    let mut words = [0u32; ANY_WORDS];
+    let mut words = [0u32; N];
     verify_with(e, file, &mut words)
 }
 
@@ -90,15 +64,15 @@ pub fn verify_in(e: Edition, file: &[u8]) -> Verdict
     ensures { verdict_of result ≡ verify_in (edition_of e) file.now }
 {
     if file.len() <= 512 {
-        return judge_block(e, file);
+        return judge::<BLOCK_WORDS>(e, file);
     }
     if file.len() <= 4096 {
-        return judge_small(e, file);
+        return judge::<SMALL_WORDS>(e, file);
     }
     if file.len() <= 16384 {
-        return judge_middle(e, file);
+        return judge::<MIDDLE_WORDS>(e, file);
     }
-    judge_any(e, file)
+    judge::<ANY_WORDS>(e, file)
 }
 
 // The verdict on a file of edition 1.
@@ -108,7 +82,7 @@ pub fn verify(file: &[u8]) -> Verdict
     verify_in(Edition::One, file)
 }
 
-// The same of edition 2.
+// The same of edition 2, under a name of its own, as the C function has one.
 pub fn verify_2(file: &[u8]) -> Verdict
     ensures { verdict_of result ≡ verify_in edition2 file.now }
 {

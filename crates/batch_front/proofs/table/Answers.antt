@@ -30,14 +30,14 @@ slice_bounds-padded-end c =
     let p = c.requires in
     omega (arith, coefficients_inside a.w.now p.in_bounds.1 a.f.now p.f_len.0 p.f_len.1, degree_small a.w.now p.in_bounds.1 p.in_bounds.0)
 
-pub slice_bounds-copy-end : goal.slice_bounds-copy-end
-slice_bounds-copy-end c =
+pub slice_bounds-copy_from_slice-end : goal.slice_bounds-copy_from_slice-end
+slice_bounds-copy_from_slice-end c =
     let a = c.args in
     let p = c.requires in
     sym (length-take-le (length a.f.now) (zeros 2048) (omega (arith, length_zeros 2048, coefficients_inside a.w.now p.in_bounds.1 a.f.now p.f_len.0 p.f_len.1, degree_small a.w.now p.in_bounds.1 p.in_bounds.0)))
 
-pub copy-requires : goal.copy-requires
-copy-requires c =
+pub copy_from_slice-requires : goal.copy_from_slice-requires
+copy_from_slice-requires c =
     let a = c.args in
     let p = c.requires in
     length-take-le (length a.f.now) (zeros 2048) (omega (arith, length_zeros 2048, coefficients_inside a.w.now p.in_bounds.1 a.f.now p.f_len.0 p.f_len.1, degree_small a.w.now p.in_bounds.1 p.in_bounds.0))
@@ -47,38 +47,38 @@ unfolding sheet_of
 slice_bounds-padded-end-2 c =
     let a = c.args in
     let p = c.requires in
-    let y = c.copy in
+    let y = c.copy_from_slice in
     let small = degree_small a.w.now p.in_bounds.1 p.in_bounds.0 in
     let inside : length a.f.now ≤ length (zeros 2048) = omega (arith, length_zeros 2048, coefficients_inside a.w.now p.in_bounds.1 a.f.now p.f_len.0 p.f_len.1, small) in
-    omega (arith, c.words-degree.ensures.0, small, length_zeros 2048, begun_long (zeros 2048) y.new.out (length a.f.now) inside y.auto.out)
+    omega (arith, c.words-degree.ensures.0, small, length_zeros 2048, begun_long (zeros 2048) y.new.self (length a.f.now) inside y.auto.self)
 
 pub slice_bounds-of_polynomial-end : goal.slice_bounds-of_polynomial-end
 unfolding sheet_of
 slice_bounds-of_polynomial-end c =
     let a = c.args in
     let p = c.requires in
-    let y = c.copy in
+    let y = c.copy_from_slice in
     let small = degree_small a.w.now p.in_bounds.1 p.in_bounds.0 in
     let inside : length a.f.now ≤ length (zeros 2048) = omega (arith, length_zeros 2048, coefficients_inside a.w.now p.in_bounds.1 a.f.now p.f_len.0 p.f_len.1, small) in
-    sym (length-take-le c.words-degree.result (y.new.out ++ drop (length a.f.now) (zeros 2048)) (omega (arith, c.words-degree.ensures.0, small, length_zeros 2048, begun_long (zeros 2048) y.new.out (length a.f.now) inside y.auto.out)))
+    sym (length-take-le c.words-degree.result (y.new.self ++ drop (length a.f.now) (zeros 2048)) (omega (arith, c.words-degree.ensures.0, small, length_zeros 2048, begun_long (zeros 2048) y.new.self (length a.f.now) inside y.auto.self)))
 
 pub of_polynomial-requires : goal.of_polynomial-requires
 unfolding sheet_of
 of_polynomial-requires c =
     let a = c.args in
     let p = c.requires in
-    let y = c.copy in
+    let y = c.copy_from_slice in
     let u = c.words-degree in
     let small = degree_small a.w.now p.in_bounds.1 p.in_bounds.0 in
     let inside : length a.f.now ≤ length (zeros 2048) = omega (arith, length_zeros 2048, coefficients_inside a.w.now p.in_bounds.1 a.f.now p.f_len.0 p.f_len.1, small) in
-    let fits : u.result ≤ length (y.new.out ++ drop (length a.f.now) (zeros 2048)) = omega (arith, u.ensures.0, small, length_zeros 2048, begun_long (zeros 2048) y.new.out (length a.f.now) inside y.auto.out) in record { in_bounds = p.in_bounds; f_len = length-take-le u.result (y.new.out ++ drop (length a.f.now) (zeros 2048)) fits ∙ u.ensures.0; out_len = p.out_len }
+    let fits : u.result ≤ length (y.new.self ++ drop (length a.f.now) (zeros 2048)) = omega (arith, u.ensures.0, small, length_zeros 2048, begun_long (zeros 2048) y.new.self (length a.f.now) inside y.auto.self) in record { in_bounds = p.in_bounds; f_len = length-take-le u.result (y.new.self ++ drop (length a.f.now) (zeros 2048)) fits ∙ u.ensures.0; out_len = p.out_len }
 
 pub returns : goal.returns
 unfolding sheet_of
 returns c =
     let a = c.args in
     let p = c.requires in
-    let y = c.copy in
+    let y = c.copy_from_slice in
     let u = c.words-degree in
-    c.of_polynomial.ensures ∙ ap (λ (v : List ℕ). table_words (sheet_of edition1 a.w.now) (take u.result (v ++ drop (length a.f.now) (zeros 2048)))) y.ensures
+    c.of_polynomial.ensures ∙ ap (λ (v : List ℕ). table_words (sheet_of edition1 a.w.now) (take u.result (v ++ drop (length a.f.now) (zeros 2048)))) y.ensures.after
     ∙ padded_table a.w.now p.in_bounds.1 a.f.now p.f_len.0 p.f_len.1 u.ensures.0

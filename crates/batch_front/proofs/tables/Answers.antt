@@ -29,12 +29,6 @@ loop-m-init c =
 pub bounds-w-0-in-loop-m : goal.bounds-w-0-in-loop-m
 bounds-w-0-in-loop-m c = omega (arith, c.requires.ordered.long)
 
-pub overflow_cast-bounds : goal.overflow_cast-bounds
-overflow_cast-bounds c = omega (arith, c.shared_slice_known-in-loop-m-2-1.given c.loop-m.m)
-
-pub words-count-requires : goal.words-count-requires
-words-count-requires c = omega (arith, c.shared_slice_known-in-loop-m-2-1.given c.loop-m.m)
-
 pub overflow_mul-from : goal.overflow_mul-from
 unfolding sheet_of
 overflow_mul-from c =

@@ -48,9 +48,9 @@ tables-requires c =
     let a = c.args in
     let e = ap (λ (n : ℕ). n * length a.bounds.now) c.words.ensures.0 in record { ordered = c.requires.ordered.0; out_len = length-take-le (c.words.result * length a.bounds.now) a.out.now (omega (arith, c.requires.out_len, e)) ∙ e }
 
-pub slice_bounds-copy-end : goal.slice_bounds-copy-end
+pub slice_bounds-copy_from_slice-end-2 : goal.slice_bounds-copy_from_slice-end-2
 unfolding sheet_of
-slice_bounds-copy-end c =
+slice_bounds-copy_from_slice-end-2 c =
     let a = c.args in
     sym (length-take-le c.words-width.result a.coins.now (omega (arith, c.requires.ordered.1, c.words-width.ensures.0)))
 
@@ -60,25 +60,25 @@ offset_bounds-out-n c =
     let a = c.args in
     omega (arith, tables_small a.w.now a.bounds.now a.f.now c.requires.ordered.0 c.words.ensures.0)
 
-pub slice_bounds-copy-count : goal.slice_bounds-copy-count
+pub slice_bounds-copy_from_slice-count : goal.slice_bounds-copy_from_slice-count
 unfolding sheet_of
-slice_bounds-copy-count c =
+slice_bounds-copy_from_slice-count c =
     let a = c.args in
     let y = c.tables in
     let l : c.words.result * length a.bounds.now ≤ length a.out.now = omega (arith, c.requires.out_len, ap (λ (n : ℕ). n * length a.bounds.now) c.words.ensures.0) in
     omega (arith, begun_long a.out.now y.new.out (c.words.result * length a.bounds.now) l y.auto.out, l)
 
-pub slice_bounds-copy-start : goal.slice_bounds-copy-start
+pub slice_bounds-copy_from_slice-start : goal.slice_bounds-copy_from_slice-start
 unfolding sheet_of
-slice_bounds-copy-start c =
+slice_bounds-copy_from_slice-start c =
     let a = c.args in
     let y = c.tables in
     let l : c.words.result * length a.bounds.now ≤ length a.out.now = omega (arith, c.requires.out_len, ap (λ (n : ℕ). n * length a.bounds.now) c.words.ensures.0) in
     omega (arith, begun_long a.out.now y.new.out (c.words.result * length a.bounds.now) l y.auto.out, l)
 
-pub copy-requires : goal.copy-requires
+pub copy_from_slice-requires : goal.copy_from_slice-requires
 unfolding sheet_of
-copy-requires c =
+copy_from_slice-requires c =
     let a = c.args in
     let y = c.tables in
     let e = ap (λ (n : ℕ). n * length a.bounds.now) c.words.ensures.0 in
@@ -91,6 +91,6 @@ unfolding sheet_of
 returns c =
     let a = c.args in
     let y = c.tables in
-    let v = c.copy in
+    let v = c.copy_from_slice in
     let l : c.words.result * length a.bounds.now ≤ length a.out.now = omega (arith, c.requires.out_len, ap (λ (n : ℕ). n * length a.bounds.now) c.words.ensures.0) in
-    joined a.out.now y.new.out (c.words.result * length a.bounds.now) l y.auto.out v.new.out y.ensures (v.ensures ∙ ap (λ (n : ℕ). take n a.coins.now) c.words-width.ensures.0)
+    joined a.out.now y.new.out (c.words.result * length a.bounds.now) l y.auto.out v.new.self y.ensures (v.ensures.after ∙ ap (λ (n : ℕ). take n a.coins.now) c.words-width.ensures.0)

@@ -44,13 +44,13 @@ pub input_out_of_range-range-requires : goal.input_out_of_range-range-requires
 unfolding edition_of sheet_of
 input_out_of_range-range-requires c = record { edition1_in_bounds = (c.requires.edition1_in_bounds.0, (c.requires.edition1_in_bounds.1, omega (arith, c.if-f-coefficients_due.false, c.coefficients_due.ensures.1))); coins_len = c.if-coins-coins_due.false ∙ (λ i. c.coins_due.ensures i + c.words.ensures.0 i) }
 
-pub returns-in-At : goal.returns-in-At
+pub returns-in-Some : goal.returns-in-Some
 unfolding outcome_of edition_of sheet_of
-returns-in-At c =
+returns-in-Some c =
     λ output l.
     let a = c.args in
     let i = c.input_out_of_range-range in
-    out_of_range_lem a.w.now a.bounds.now a.f.now a.coins.now output c.requires.bounds_value (c.if-f-coefficients_due.false ∙ c.coefficients_due.ensures.0) (c.if-coins-coins_due.false ∙ (λ j. c.coins_due.ensures j + c.words.ensures.0 j)) i.result i.ensures c.in-At.is
+    out_of_range_lem a.w.now a.bounds.now a.f.now a.coins.now output c.requires.bounds_value (c.if-f-coefficients_due.false ∙ c.coefficients_due.ensures.0) (c.if-coins-coins_due.false ∙ (λ j. c.coins_due.ensures j + c.words.ensures.0 j)) i.result i.ensures c.in-Some.is
 
 pub out_tests-outs-requires : goal.out_tests-outs-requires
 unfolding edition_of sheet_of

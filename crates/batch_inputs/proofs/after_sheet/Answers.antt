@@ -11,12 +11,12 @@ use Rattle.batch_inputs.proofs.after_sheet.Goals as goal
 pub broken-broken-requires : goal.broken-broken-requires
 broken-broken-requires c = (c.requires.0, omega arith)
 
-pub returns-in-At : goal.returns-in-At
+pub returns-in-Some : goal.returns-in-Some
 unfolding outcome_of
-returns-in-At c =
+returns-in-Some c =
     λ output l.
     let a = c.args in
-    rule_broken a.w.now a.bounds.now a.f.now a.coins.now output c.broken-broken.ensures c.in-At.is
+    rule_broken a.w.now a.bounds.now a.f.now a.coins.now output c.broken-broken.ensures c.in-Some.is
 
 pub after_rules-requires : goal.after_rules-requires
 after_rules-requires c =

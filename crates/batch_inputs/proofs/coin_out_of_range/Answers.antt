@@ -32,12 +32,12 @@ slice_bounds-coefficient_out_of_range-end c =
 pub coefficient_out_of_range-combination-requires : goal.coefficient_out_of_range-combination-requires
 coefficient_out_of_range-combination-requires c = tt
 
-pub returns-in-At : goal.returns-in-At
+pub returns-in-Some : goal.returns-in-Some
 unfolding place_of sheet_of
-returns-in-At c =
+returns-in-Some c =
     λ count.
     let a = c.args in
-    in_combination a.w.now a.coins.now c.requires.coins_len c.words-width.ensures.0 count _ (at_place c.coefficient_out_of_range-combination.ensures c.in-At.is)
+    in_combination a.w.now a.coins.now c.requires.coins_len c.words-width.ensures.0 count _ (at_place c.coefficient_out_of_range-combination.ensures c.in-Some.is)
 
 pub slice_bounds-coin_out_of_range-count : goal.slice_bounds-coin_out_of_range-count
 unfolding sheet_of
@@ -63,18 +63,18 @@ overflow_add-result c =
     let a = c.args in
     let u = c.words-width in
     let h = sheet_of edition1 a.w.now in
-    let e = at_place c.coin_out_of_range-coin.ensures c.in-At-coin.is ∙ ap (λ (l : List ℕ). first_true 0 (zip_with (out_of_range h) (coin_kinds (layout h)) l)) (rest_all u.result a.coins.now) in
+    let e = at_place c.coin_out_of_range-coin.ensures c.in-Some-coin.is ∙ ap (λ (l : List ℕ). first_true 0 (zip_with (out_of_range h) (coin_kinds (layout h)) l)) (rest_all u.result a.coins.now) in
     omega (arith, u.ensures.1, other_place a.w.now a.coins.now c.requires.coins_len c.requires.edition1_in_bounds.0 c.requires.edition1_in_bounds.1 u.result e)
 
-pub returns-in-At-coin : goal.returns-in-At-coin
+pub returns-in-Some-coin : goal.returns-in-Some-coin
 unfolding place_of edition_of sheet_of
-returns-in-At-coin c =
+returns-in-Some-coin c =
     λ count.
     let a = c.args in
     let u = c.words-width in
     let h = sheet_of edition1 a.w.now in
-    let e = at_place c.coin_out_of_range-coin.ensures c.in-At-coin.is ∙ ap (λ (l : List ℕ). first_true 0 (zip_with (out_of_range h) (coin_kinds (layout h)) l)) (rest_all u.result a.coins.now) in
-    in_coins a.w.now a.coins.now c.requires.coins_len u.ensures.0 count c.in-At-coin.place (nowhere c.coefficient_out_of_range-combination.ensures c.in_default.is) e
+    let e = at_place c.coin_out_of_range-coin.ensures c.in-Some-coin.is ∙ ap (λ (l : List ℕ). first_true 0 (zip_with (out_of_range h) (coin_kinds (layout h)) l)) (rest_all u.result a.coins.now) in
+    in_coins a.w.now a.coins.now c.requires.coins_len u.ensures.0 count c.in-Some-coin.place (nowhere c.coefficient_out_of_range-combination.ensures c.in_default.is) e
 
 pub returns : goal.returns
 unfolding place_of edition_of sheet_of

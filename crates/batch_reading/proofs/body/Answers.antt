@@ -37,10 +37,10 @@ element_out_of_range-tables-requires c =
     let k = at_number w (c.requires) c.shift-shift.ensures.0 c.words.ensures.0 in
     (omega (arith, sheet_there w (c.requires)), (omega (arith, k, tables_begin w (c.requires)), omega (arith, k, fold_there w (c.requires))))
 
-pub returns-in-At : goal.returns-in-At
-returns-in-At c =
+pub returns-in-Some : goal.returns-in-Some
+returns-in-Some c =
     let w = c.args.w.now in
-    body_refused w (c.requires) refl (at_number w (c.requires) c.shift-shift.ensures.0 c.words.ensures.0) c.element_out_of_range-tables.ensures c.in-At.is
+    body_refused w (c.requires) refl (at_number w (c.requires) c.shift-shift.ensures.0 c.words.ensures.0) c.element_out_of_range-tables.ensures c.in-Some.is
 
 pub to_plain-requires : goal.to_plain-requires
 to_plain-requires c = record { ruled = c.requires; shift_value = (c.shift-shift.ensures.0, at_number c.args.w.now (c.requires) c.shift-shift.ensures.0 c.words.ensures.0) }

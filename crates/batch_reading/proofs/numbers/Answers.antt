@@ -6,13 +6,13 @@ use Rattle.outcome.specs.Meaning.{outcome_of}
 use Rattle.batch_reading.proofs.NumberLaws.{all_bounds, numbers_pass, other_blocks, rule_broken, sheet_broken, sheet_passes, shift_asks}
 use Rattle.batch_reading.proofs.numbers.Goals as goal
 
-pub returns-in-At : goal.returns-in-At
+pub returns-in-Some : goal.returns-in-Some
 unfolding outcome_of edition_of
-returns-in-At c = sheet_broken c.args.w.now c.args.blocks c.in-At.place (at_place c.broken-broken.ensures c.in-At.is)
+returns-in-Some c = sheet_broken c.args.w.now c.args.blocks c.in-Some.place (at_place c.broken-broken.ensures c.in-Some.is)
 
-pub returns-in-At-ruled : goal.returns-in-At-ruled
+pub returns-in-Some-ruled : goal.returns-in-Some-ruled
 unfolding outcome_of edition_of
-returns-in-At-ruled c = rule_broken c.args.w.now c.args.blocks (nowhere c.broken-broken.ensures c.in_default.is) refl c.in-At-ruled.place (at_place c.broken-ruled.ensures c.in-At-ruled.is ∙ all_bounds c.args.w.now)
+returns-in-Some-ruled c = rule_broken c.args.w.now c.args.blocks (nowhere c.broken-broken.ensures c.in_default.is) refl c.in-Some-ruled.place (at_place c.broken-ruled.ensures c.in-Some-ruled.is ∙ all_bounds c.args.w.now)
 
 pub words_due-requires : goal.words_due-requires
 unfolding edition_of

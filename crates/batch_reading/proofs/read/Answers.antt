@@ -13,9 +13,9 @@ pub returns-then-file-ne0 : goal.returns-then-file-ne0
 unfolding batch_reading
 returns-then-file-ne0 c = read_refused c.args.file.now _ (no_blocks c.args.file.now _ c.if-file-eq0.false c.if-file-ne0.true)
 
-pub returns-in-At : goal.returns-in-At
+pub returns-in-Some : goal.returns-in-Some
 unfolding batch_reading
-returns-in-At c = read_refused c.args.file.now _ (wrong_check c.args.file.now _ c.if-file-eq0.false c.if-file-ne0.false c.in-At.place (at_place c.load-check.ensures.checked c.in-At.is))
+returns-in-Some c = read_refused c.args.file.now _ (wrong_check c.args.file.now _ c.if-file-eq0.false c.if-file-ne0.false c.in-Some.place (at_place c.load-check.ensures.checked c.in-Some.is))
 
 pub returns : goal.returns
 unfolding batch_reading

@@ -29,13 +29,13 @@ loop-m-init c =
     let h = sheet_of edition1 a.w.now in
     let e = c.number_rule.ensures in
     let right = (ap not c.if-not-number_rule.false) in
-    (omega arith, (enough h a.count a.bounds.now e right c.requires.1, number_kept h a.count a.bounds.now e right))
+    (enough h a.count a.bounds.now e right c.requires.1, number_kept h a.count a.bounds.now e right)
 
 pub offset_bounds-bounds-m : goal.offset_bounds-bounds-m
-offset_bounds-bounds-m c = omega (arith, c.loop-m.invariant.1.0)
+offset_bounds-bounds-m c = omega (arith, c.loop-m.invariant.0)
 
 pub bounds-bounds-m : goal.bounds-bounds-m
-bounds-bounds-m c = omega (arith, c.loop-m.invariant.1.0)
+bounds-bounds-m c = omega (arith, c.loop-m.invariant.0)
 
 pub overflow_cast-bounds : goal.overflow_cast-bounds
 overflow_cast-bounds c = omega (arith, c.shared_slice_known-in-loop-m-1.given c.loop-m.m)
@@ -48,18 +48,18 @@ unfolding place_of
 returns-then-not-from_one c =
     let v = c.loop-m.invariant in
     let a = c.args in
-    sym (bound_broken _ a.count a.bounds.now v.1.0 _ c.loop-m-test.true c.from_one.ensures (ap not c.if-not-from_one.true)) ∙ v.1.1
+    sym (bound_broken _ a.count a.bounds.now v.0 _ c.loop-m-test.true c.from_one.ensures (ap not c.if-not-from_one.true)) ∙ v.1
 
 pub loop-m-preserved : goal.loop-m-preserved
 loop-m-preserved c =
     let v = c.loop-m.invariant in
     let a = c.args in
-    let kept = bound_kept _ a.count a.bounds.now v.1.0 _ c.loop-m-test.true c.from_one.ensures (ap not c.if-not-from_one.false) in
-    (omega arith, (v.1.0, sym kept ∙ v.1.1))
+    let kept = bound_kept _ a.count a.bounds.now v.0 _ c.loop-m-test.true c.from_one.ensures (ap not c.if-not-from_one.false) in
+    (v.0, sym kept ∙ v.1)
 
 pub returns : goal.returns
 unfolding place_of
 returns c =
     let v = c.loop-m.invariant in
     let a = c.args in
-    sym (all_kept _ a.count a.bounds.now v.1.0 _ c.loop-m-test.false) ∙ v.1.1
+    sym (all_kept _ a.count a.bounds.now v.0 _ c.loop-m-test.false) ∙ v.1

@@ -10,7 +10,4 @@ use Rattle.batch_sheet.proofs.RuleLaws.{broken_from}
 use Rattle.batch_sheet.proofs.broken.Given as goal
 
 abbrev pub invariant-loop-m : goal.invariant-loop-m
-invariant-loop-m l = (l.m ≤ l.count) × ((l.count ≤ length l.bounds) × (broken_from l.most l.count l.bounds l.m ≡ first_true 0 (map not (batch_rules (sheet_of edition1 l.w) l.count l.bounds))))
-
-abbrev pub decreases-loop-m : goal.decreases-loop-m
-decreases-loop-m l = l.count - l.m
+invariant-loop-m l = (l.count ≤ length l.bounds) × (broken_from l.most l.count l.bounds l.m ≡ first_true 0 (map not (batch_rules (sheet_of edition1 l.w) l.count l.bounds)))

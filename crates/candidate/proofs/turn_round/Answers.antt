@@ -1,28 +1,24 @@
-use Prim.Native.Nat.{◌-◌}
 use native.Mathlib.Omega.{arith}
-use lib.ListN.{length, length-set}
+use mathlib.Core.Path.{◌∙◌}
+use lib.ListN.{length}
+use Rattle.list_laws.specs.Filled.{filled_first, filled_next}
+use Rattle.list_laws.specs.Lists.{by_number}
 use Rattle.candidate.specs.Tables.{backwards}
-use Rattle.candidate.proofs.Backwards.{write_start, write_turn, write_end}
 use Rattle.candidate.proofs.turn_round.Goals as goal
 
 pub loop-i-init : goal.loop-i-init
 loop-i-init c =
     let a = c.args in
-    (omega arith, (c.requires.1, write_start (backwards a.field a.pw.now a.values.now) a.out.now (length a.pw.now) c.requires.1))
+    filled_first (backwards a.field a.pw.now a.values.now) a.out.now
 
 pub loop-i-preserved : goal.loop-i-preserved
 loop-i-preserved c =
     let l = c.loop-i in
-    let a = c.args in (
-      omega arith,
-      (
-        simp length-set l.invariant.1.0,
-        write_turn (backwards a.field a.pw.now a.values.now) l.out (length a.pw.now) l.i (omega arith) l.invariant.0 l.invariant.1.0 c.mul.ensures l.invariant.1.1,
-      ),
-    )
+    let a = c.args in
+    filled_next (backwards a.field a.pw.now a.values.now) a.out.now l.out l.i l.invariant (omega arith) c.mul.ensures
 
 pub returns : goal.returns
 returns c =
     let l = c.loop-i in
     let a = c.args in
-    write_end (backwards a.field a.pw.now a.values.now) l.out (length a.pw.now) l.i (omega arith) l.invariant.1.1
+    by_number 0 l.out (backwards a.field a.pw.now a.values.now) (length a.pw.now) (l.invariant.same ∙ c.requires.1) (λ j u. l.invariant.passed j (omega arith))

@@ -1,4 +1,4 @@
-use Prim.Native.Nat.{◌+◌, ◌-◌, ◌≤◌}
+use Prim.Native.Nat.{◌+◌, ◌≤◌}
 use mathlib.Core.Path.{◌≡◌}
 use lib.ListN.{length}
 use Rattle.spelling.specs.ByField.{elements_at, field_at}
@@ -6,7 +6,4 @@ use Rattle.closest.proofs.Counting.{further}
 use Rattle.closest.proofs.differ.Given as goal
 
 abbrev pub invariant-loop-i : goal.invariant-loop-i
-invariant-loop-i l = (l.i ≤ length (elements_at l.field l.xs)) × ((l.count + l.i ≤ length (elements_at l.field l.xs)) × (l.count ≡ further (field_at l.field) (elements_at l.field l.xs) (elements_at l.field l.ys) l.i))
-
-abbrev pub decreases-loop-i : goal.decreases-loop-i
-decreases-loop-i l = l.i
+invariant-loop-i l = (l.count + l.i ≤ length (elements_at l.field l.xs)) × (l.count ≡ further (field_at l.field) (elements_at l.field l.xs) (elements_at l.field l.ys) l.i)

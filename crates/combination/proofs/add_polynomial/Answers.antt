@@ -1,4 +1,4 @@
-use Prim.Native.Nat.{◌-◌, ◌<◌}
+use Prim.Native.Nat.{◌<◌}
 use native.Mathlib.Omega.{arith}
 use mathlib.Core.Path.{◌≡◌, refl, ◌∙◌, subst}
 use lib.ListN.{length}
@@ -12,19 +12,16 @@ use Rattle.combination.proofs.add_polynomial.Goals as goal
 pub loop-j-init : goal.loop-j-init
 loop-j-init c =
     let a = c.args in
-    (omega arith, (c.count-n.ensures, (refl, filled_first (coefficient a.field a.s a.f.now a.out.now) (elements_at a.field a.out.now))))
+    (refl, filled_first (coefficient a.field a.s a.f.now a.out.now) (elements_at a.field a.out.now))
 
 pub get-requires : goal.get-requires
-get-requires c = omega (arith, c.loop-j-test.true, c.loop-j.invariant.1.0, c.loop-j.invariant.1.1.1.same)
+get-requires c = omega (arith, c.loop-j-test.true, c.count-n.ensures, c.loop-j.invariant.1.same)
 
 pub get-requires-in-loop-j : goal.get-requires-in-loop-j
-get-requires-in-loop-j c = omega (arith, c.loop-j-test.true, c.loop-j.invariant.1.0, c.requires)
+get-requires-in-loop-j c = omega (arith, c.loop-j-test.true, c.count-n.ensures, c.requires)
 
 pub put-requires : goal.put-requires
-put-requires c = omega (arith, c.loop-j-test.true, c.loop-j.invariant.1.0, c.loop-j.invariant.1.1.1.same)
-
-pub overflow_add-j : goal.overflow_add-j
-overflow_add-j c = omega (arith, c.loop-j-test.true, c.count-n.type_inv)
+put-requires c = omega (arith, c.loop-j-test.true, c.count-n.ensures, c.loop-j.invariant.1.same)
 
 pub loop-j-preserved : goal.loop-j-preserved
 loop-j-preserved c =
@@ -32,22 +29,16 @@ loop-j-preserved c =
     let a = c.args in
     let F = field_at a.field in
     let n = l.invariant in
-    let inside : l.j < length (elements_at a.field a.out.now) = omega (arith, c.loop-j-test.true, n.1.0) in (
-      omega arith,
-      (
-        n.1.0,
-        (
-          c.put.auto.w ∙ n.1.1.0,
-          next_entry (coefficient a.field a.s a.f.now a.out.now) (elements_at a.field a.out.now) (elements_at a.field l.out) (elements_at a.field c.put.new.w) l.j n.1.1.1 inside
-              (λ same. c.add.ensures ∙ (λ i. F.◌⊕◌ (c.get-in-loop-j.ensures i) ((c.mul-before.ensures ∙ (λ k. F.◌⊗◌ (value_at a.field a.s) ((c.get.ensures ∙ same) k))) i)))
-              c.put.ensures,
-        ),
-      ),
+    let inside : l.j < length (elements_at a.field a.out.now) = omega (arith, c.loop-j-test.true, c.count-n.ensures) in (
+      c.put.auto.w ∙ n.0,
+      next_entry (coefficient a.field a.s a.f.now a.out.now) (elements_at a.field a.out.now) (elements_at a.field l.out) (elements_at a.field c.put.new.w) l.j n.1 inside
+          (λ same. c.add.ensures ∙ (λ i. F.◌⊕◌ (c.get-in-loop-j.ensures i) ((c.mul-before.ensures ∙ (λ k. F.◌⊗◌ (value_at a.field a.s) ((c.get.ensures ∙ same) k))) i)))
+          c.put.ensures,
     )
 
 pub returns : goal.returns
 returns c =
     let l = c.loop-j in
     let a = c.args in
-    let end : l.j ≡ length (elements_at a.field a.out.now) = omega (arith, l.invariant.0, l.invariant.1.0, c.loop-j-test.false) in
-    subst (FilledOver (field_at a.field).𝟘 (coefficient a.field a.s a.f.now a.out.now) (elements_at a.field a.out.now) (elements_at a.field l.out)) end l.invariant.1.1.1
+    let end : l.j ≡ length (elements_at a.field a.out.now) = omega (arith, c.count-n.ensures, c.loop-j-test.false) in
+    subst (FilledOver (field_at a.field).𝟘 (coefficient a.field a.s a.f.now a.out.now) (elements_at a.field a.out.now) (elements_at a.field l.out)) end l.invariant.1

@@ -1,4 +1,4 @@
-use Prim.Native.Nat.{ℕ, ◌-◌, ◌≤◌}
+use Prim.Native.Nat.{ℕ}
 use mathlib.Core.Path.{◌≡◌}
 use mathlib.Core.List.{List}
 use lib.ListN.{length}
@@ -16,8 +16,4 @@ coefficient field s f old j =
     (field_at field).◌⊕◌ (entry_at field f j) ((field_at field).◌⊗◌ (value_at field s) (entry_at field old j))
 
 abbrev pub invariant-loop-j : goal.invariant-loop-j
-invariant-loop-j l =
-    (l.j ≤ l.n) × ((l.n ≡ length (elements_at l.field l.initial.out)) × ((length l.out ≡ length l.initial.out) × FilledOver (field_at l.field).𝟘 (coefficient l.field l.s l.f l.initial.out) (elements_at l.field l.initial.out) (elements_at l.field l.out) l.j))
-
-abbrev pub decreases-loop-j : goal.decreases-loop-j
-decreases-loop-j l = l.n - l.j
+invariant-loop-j l = (length l.out ≡ length l.initial.out) × FilledOver (field_at l.field).𝟘 (coefficient l.field l.s l.f l.initial.out) (elements_at l.field l.initial.out) (elements_at l.field l.out) l.j

@@ -1,4 +1,4 @@
-use Prim.Native.Nat.{◌+◌, ◌-◌, ◌≤◌}
+use Prim.Native.Nat.{◌+◌}
 use mathlib.Core.Path.{◌≡◌}
 use lib.ListN.{length, drop}
 use Rattle.batch_definition.specs.Batch.{sum_of}
@@ -8,9 +8,9 @@ use Rattle.combination.proofs.Parts.{from_part}
 use Rattle.combination.proofs.polynomial.Given as goal
 
 abbrev pub invariant-loop-m : goal.invariant-loop-m
-invariant-loop-m l =
-    (l.m ≤ length l.bounds)
-    × ((l.at + sum_of (drop l.m l.bounds) ≡ length (elements_at l.field l.f)) × ((length l.scratch ≡ length l.initial.scratch) × ((length l.out ≡ length l.initial.out) × (elements_at l.field l.out ≡ from_part l.field l.d (value_at l.field l.r) l.bounds l.f l.at l.m))))
-
-abbrev pub decreases-loop-m : goal.decreases-loop-m
-decreases-loop-m l = l.m
+invariant-loop-m l = record {
+  place : l.at + sum_of (drop l.m l.bounds) ≡ length (elements_at l.field l.f);
+  scratch_same : length l.scratch ≡ length l.initial.scratch;
+  out_same : length l.out ≡ length l.initial.out;
+  combined : elements_at l.field l.out ≡ from_part l.field l.d (value_at l.field l.r) l.bounds l.f l.at l.m;
+}

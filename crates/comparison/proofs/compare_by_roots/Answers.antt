@@ -1,4 +1,4 @@
-use Prim.Native.Nat.{◌-◌, ◌≤◌}
+use Prim.Native.Nat.{◌≤◌}
 use mathlib.Core.Path.{◌∙◌, refl, sym, ap}
 use mathlib.Core.Bool.{not}
 use native.Mathlib.Omega.{arith}
@@ -16,7 +16,7 @@ use Rattle.comparison.proofs.compare_by_roots.Invariants.{differs_at}
 use Rattle.comparison.proofs.compare_by_roots.Goals as goal
 
 pub loop-i-init : goal.loop-i-init
-loop-i-init c = (omega arith, (refl, refl))
+loop-i-init c = refl
 
 pub fold_at-y-requires : goal.fold_at-y-requires
 fold_at-y-requires c =
@@ -24,7 +24,7 @@ fold_at-y-requires c =
     let p = c.requires in
     let a = c.args in
     let below = c.loop-i-test.true in
-    let size = elements_many (spelling_of a.field) a.k l.values (l.invariant.1.0 ∙ p.below.1) in record { values_in_bounds = places_for l.i (length a.finals.now) a.k _ below size p.k_in_bounds; fits = fits_as size p.fits; j_lt_step = below_at a.finals.now p.below.0 l.i below c.wide-j.ensures }
+    let size = elements_many (spelling_of a.field) a.k l.values (l.auto.values ∙ p.below.1) in record { values_in_bounds = places_for l.i (length a.finals.now) a.k _ below size p.k_in_bounds; fits = fits_as size p.fits; j_lt_step = below_at a.finals.now p.below.0 l.i below c.wide-j.ensures }
 
 pub final_value-value-requires : goal.final_value-value-requires
 final_value-value-requires c =
@@ -33,42 +33,28 @@ final_value-value-requires c =
     let p = c.requires in
     let fits = p.fits in record { j_in_bounds = (first_point fits (below_at a.finals.now p.below.0 l.i c.loop-i-test.true c.wide-j.ensures), (fits.small, (omega (arith, folded fits), fits.few))); power_table = p.power_table }
 
-pub shape_of-values-then-not-same : goal.shape_of-values-then-not-same
-shape_of-values-then-not-same c = c.fold_at-y.auto.values ∙ c.loop-i.invariant.1.0
-
 pub returns-then-not-same : goal.returns-then-not-same
 unfolding place_of
 returns-then-not-same c =
     let a = c.args in
     let l = c.loop-i in
-    let n = l.invariant.1 in
     let y = c.fold_at-y in
     let E = elements_at a.field in
     let h = c.loop-i-test.true in
-    let size = elements_many (spelling_of a.field) a.k l.values (n.0 ∙ c.requires.below.1) in
+    let size = elements_many (spelling_of a.field) a.k l.values (l.auto.values ∙ c.requires.below.1) in
     let d = sym (tested (field_at a.field) (points_at a.field a.pw.now) (E a.roots.now) a.oracle a.k (value_at a.field a.r) l.i (E a.coefficients.now) c.final_value-value.ensures y.ensures refl size c.wide-j.ensures) ∙ ap not (sym c.same.ensures) ∙ (ap not c.if-not-same.true) in
-    first_here (differs_at a.field a.pw.now a.roots.now a.oracle a.k a.r a.coefficients.now) a.finals.now l.i h d ∙ n.1
-
-pub overflow_add-i : goal.overflow_add-i
-overflow_add-i c = omega (arith, c.loop-i-test.true)
-
-pub loop-i-smaller : goal.loop-i-smaller
-loop-i-smaller c = omega (arith, c.loop-i-test.true)
+    first_here (differs_at a.field a.pw.now a.roots.now a.oracle a.k a.r a.coefficients.now) a.finals.now l.i h d ∙ l.invariant
 
 pub loop-i-preserved : goal.loop-i-preserved
 loop-i-preserved c =
     let a = c.args in
     let l = c.loop-i in
-    let n = l.invariant.1 in
     let y = c.fold_at-y in
     let E = elements_at a.field in
     let h = c.loop-i-test.true in
-    let size = elements_many (spelling_of a.field) a.k l.values (n.0 ∙ c.requires.below.1) in
+    let size = elements_many (spelling_of a.field) a.k l.values (l.auto.values ∙ c.requires.below.1) in
     let d = sym (tested (field_at a.field) (points_at a.field a.pw.now) (E a.roots.now) a.oracle a.k (value_at a.field a.r) l.i (E a.coefficients.now) c.final_value-value.ensures y.ensures refl size c.wide-j.ensures) ∙ ap not (sym c.same.ensures) ∙ (ap not c.if-not-same.false) in
-    (omega (arith, h), (y.auto.values ∙ n.0, first_later (differs_at a.field a.pw.now a.roots.now a.oracle a.k a.r a.coefficients.now) a.finals.now l.i h d ∙ n.1))
-
-pub shape_of-values : goal.shape_of-values
-shape_of-values c = c.loop-i.invariant.1.0
+    first_later (differs_at a.field a.pw.now a.roots.now a.oracle a.k a.r a.coefficients.now) a.finals.now l.i h d ∙ l.invariant
 
 pub returns : goal.returns
 unfolding place_of
@@ -76,4 +62,4 @@ returns c =
     let l = c.loop-i in
     let a = c.args in
     let h : length a.finals.now ≤ l.i = omega (arith, c.loop-i-test.false) in
-    first_nowhere (differs_at a.field a.pw.now a.roots.now a.oracle a.k a.r a.coefficients.now) a.finals.now l.i h ∙ l.invariant.1.1
+    first_nowhere (differs_at a.field a.pw.now a.roots.now a.oracle a.k a.r a.coefficients.now) a.finals.now l.i h ∙ l.invariant

@@ -1,8 +1,8 @@
-use Prim.Native.Nat.{ℕ, ◌-◌, ◌≤◌}
+use Prim.Native.Nat.{ℕ}
 use mathlib.Core.Path.{◌≡◌}
 use mathlib.Core.Bool.{Bool}
 use mathlib.Core.List.{List}
-use lib.ListN.{length, drop}
+use lib.ListN.{drop}
 use Rattle.definition.specs.Lists.{first_true}
 use Rattle.spelling.specs.ByField.{elements_at, field_at, points_at}
 use Rattle.quartic.specs.declared.Four.{Four}
@@ -20,9 +20,4 @@ differs_at field pw roots oracle k r coefficients i j =
 
 abbrev pub invariant-loop-i : goal.invariant-loop-i
 invariant-loop-i l =
-    (l.i ≤ length l.finals)
-    × ((length l.values ≡ length l.initial.values)
-    × (first_true l.i (numbered (differs_at l.field l.pw l.roots l.oracle l.k l.r l.coefficients) l.i (drop l.i l.finals)) ≡ first_true 0 (numbered (differs_at l.field l.pw l.roots l.oracle l.k l.r l.coefficients) 0 l.finals)))
-
-abbrev pub decreases-loop-i : goal.decreases-loop-i
-decreases-loop-i l = length l.finals - l.i
+    first_true l.i (numbered (differs_at l.field l.pw l.roots l.oracle l.k l.r l.coefficients) l.i (drop l.i l.finals)) ≡ first_true 0 (numbered (differs_at l.field l.pw l.roots l.oracle l.k l.r l.coefficients) 0 l.finals)

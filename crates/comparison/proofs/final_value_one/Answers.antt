@@ -49,4 +49,4 @@ returns-then-n-lt66 c =
 pub returns : goal.returns
 returns c =
     let a = c.args in
-    c.value_at.ensures ∙ ap (evaluate (field_of a.field) a.coefficients.now) c.shift_point-x.ensures.value
+    c.value_at_number.ensures ∙ ap (evaluate (field_of a.field) a.coefficients.now) c.shift_point-x.ensures.value

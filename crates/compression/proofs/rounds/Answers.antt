@@ -1,32 +1,25 @@
 use mathlib.Core.Path.{◌≡◌, refl, ◌∙◌}
-use Rattle.hash_laws.specs.Ring.{Turned, early_next, going_begins, going_ends}
+use Rattle.hash_laws.specs.Ring.{early_next, Turned, going_begins, going_at, going_ends}
 use Rattle.compression.specs.Meaning.{state_of}
 use native.Mathlib.Omega.{arith}
 use Rattle.compression.proofs.rounds.Goals as goal
 
--- src/lib.rt:164:5
 pub loop-t-init : goal.loop-t-init
-loop-t-init c = (omega arith, refl)
+loop-t-init c = refl
 
--- src/lib.rt:164:5
 pub loop-t-preserved : goal.loop-t-preserved
-loop-t-preserved c = let l = c.loop-t in
-    (omega arith, early_next c.args.k.now c.args.w.now (state_of l.v) l.t c.requires.0 c.requires.1 (omega arith) c.turn-v.ensures l.invariant.1)
-
--- src/lib.rt:168:5
-pub loop-t-2-init : goal.loop-t-2-init
-loop-t-2-init c =
+loop-t-preserved c =
     let l = c.loop-t in
-    let e : l.t ≡ 16 = omega arith in
-    (going_begins c.args.k.now c.args.w.now (state_of l.v) c.requires.1 e, (omega arith, (omega arith, omega arith)))
+    early_next c.args.k.now c.args.w.now (state_of l.v) l.t c.requires.0 c.requires.1 (omega arith) c.turn-v.ensures l.invariant
 
--- src/lib.rt:168:5
-pub loop-t-2-preserved : goal.loop-t-2-preserved
+pub loop-q-init : goal.loop-q-init
+loop-q-init c = going_begins c.args.k.now c.args.w.now (state_of c.loop-t.v) c.requires.1 refl
+
+pub loop-q-preserved : goal.loop-q-preserved
 unfolding Turned
-loop-t-2-preserved c = let l = c.loop-t-2 in
-    (c.four-v.ensures c.args.w.now _ c.requires.1 l.invariant.0, (omega arith, (omega arith, omega arith)))
+loop-q-preserved c = going_at (omega arith) (c.four-v.ensures c.args.w.now _ c.requires.1 c.loop-q.invariant)
 
--- src/lib.rt:158:1
 pub returns : goal.returns
-returns c = let l = c.loop-t-2 in
-    going_ends c.requires.0 (omega arith) l.invariant.0 ∙ c.loop-t.invariant.1
+returns c =
+    let e : c.loop-t.t ≡ 16 = omega arith in
+    going_ends c.requires.0 (omega arith) c.loop-q.invariant ∙ (rw e at c.loop-t.invariant)

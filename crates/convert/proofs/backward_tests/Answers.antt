@@ -25,13 +25,13 @@ other_fold-other-requires c =
     let h = head_passes edition2 c.args.file.now c.read-read.new.words p (c.read-read.ensures.stream p) in
     (h.0, rounds_most edition2 _ h.1)
 
-pub returns-in-At : goal.returns-in-At
+pub returns-in-Some : goal.returns-in-Some
 unfolding edition_of
-returns-in-At c =
+returns-in-Some c =
     let f = c.args.file.now in
     let p = accepted_is c.read-read.ensures.outcome c.in_default.is in
     let h = c.other_fold-other.ensures ∙ ap folds_test (head_is edition2 f c.read-read.new.words p (c.read-read.ensures.stream p)) in
-    tests_refuse (first_refuses _ (found_refuses h c.in-At.is ∙ sym (next_is _ p)))
+    tests_refuse (first_refuses _ (found_refuses h c.in-Some.is ∙ sym (next_is _ p)))
 
 pub words_due-requires : goal.words_due-requires
 unfolding edition_of

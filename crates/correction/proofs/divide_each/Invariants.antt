@@ -1,12 +1,11 @@
-use Prim.Native.Nat.{◌+◌, ◌-◌, ◌≤◌}
+use Prim.Native.Nat.{◌-◌}
 use mathlib.Core.Path.{◌≡◌}
-use lib.ListN.{length, take, drop}
-use Rattle.definition.specs.Field.{field_of}
+use lib.ListN.{take, drop}
 use Rattle.definition.specs.Polynomial.{quotient}
 use Rattle.correction.proofs.divide_each.Given as goal
 
 abbrev pub invariant-loop-i : goal.invariant-loop-i
-invariant-loop-i l = ((l.i ≤ length l.xs) × ((l.from ≤ l.i) × (l.left + l.i ≡ l.count + l.from))) × ((length l.f ≡ length l.initial.f) × (quotient (field_of l.field) (take l.left l.f) (drop l.i l.xs) ≡ quotient (field_of l.field) (take l.count l.initial.f) (drop l.from l.xs)))
-
-abbrev pub decreases-loop-i : goal.decreases-loop-i
-decreases-loop-i l = length l.xs - l.i
+invariant-loop-i g l =
+    let A = g.A.Arithmetic in
+    let xs = A.elements l.xs in
+    quotient (A.over l.a) (take (l.count - (l.i - l.from)) (A.elements l.f)) (drop l.i xs) ≡ quotient (A.over l.a) (take l.count (A.elements l.initial.f)) (drop l.from xs)

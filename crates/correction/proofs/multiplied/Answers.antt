@@ -3,25 +3,24 @@ use Rattle.correction.proofs.Cases.{product_asked_three, product_asked_one, prod
 use Rattle.correction.proofs.multiplied.Goals as goal
 
 -- `correction::multiplied` meets its contract. Assumes nothing.
-pub correct_four-requires : goal.correct_four-requires
-correct_four-requires c =
-    let a = c.args in
-    product_asked_three a.field a.e a.q.now a.out.now (omega arith) c.requires
-
 pub correct-requires : goal.correct-requires
 correct-requires c =
     let a = c.args in
-    let r = product_asked_one a.field a.e a.q.now a.out.now (omega arith) c.requires in
-    (r.0, r.1.0)
+    product_asked_three a.field a.e a.q.now a.out.now (omega arith) c.requires
+
+pub correct-requires-else-field-eq3 : goal.correct-requires-else-field-eq3
+correct-requires-else-field-eq3 c =
+    let a = c.args in
+    product_asked_one a.field a.e a.q.now a.out.now (omega arith) c.requires
 
 pub returns-then-field-eq3 : goal.returns-then-field-eq3
 returns-then-field-eq3 c =
     let a = c.args in
-    let t = c.correct_four in
+    let t = c.correct in
     product_three a.field a.e a.q.now a.out.now a.c t.new.out (omega arith) t.ensures
 
 pub returns-else-field-eq3 : goal.returns-else-field-eq3
 returns-else-field-eq3 c =
     let a = c.args in
-    let t = c.correct in
+    let t = c.correct-else-field-eq3 in
     product_one a.field a.e a.q.now a.out.now a.c t.new.out (omega arith) t.ensures

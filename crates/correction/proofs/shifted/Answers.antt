@@ -6,16 +6,21 @@ use Rattle.correction.proofs.shifted.Goals as goal
 
 -- `correction::shifted` meets its contract.
 pub returns-then-i-n : goal.returns-then-i-n
-returns-then-i-n c =
+returns-then-i-n g c =
+    let A = g.A.Arithmetic in
     let a = c.args in
-    sym (among_zeros 0 a.q.now a.n a.i (omega arith))
+    c.zero.ensures ∙ sym (among_zeros (A.over a.a).𝟘 (A.elements a.q.now) a.n a.i (omega arith))
 
-pub returns-then-q-j : goal.returns-then-q-j
-returns-then-q-j c =
+pub returns-then-count-j : goal.returns-then-count-j
+returns-then-count-j g c =
+    let A = g.A.Arithmetic in
     let a = c.args in
-    sym (behind_zeros 0 a.q.now a.n a.i (omega arith) ∙ get_or-eq_default a.q.now 0 (omega arith))
+    let z = (A.over a.a).𝟘 in
+    let q = A.elements a.q.now in
+    c.zero-then-count-j.ensures ∙ sym (behind_zeros z q a.n a.i (omega arith) ∙ get_or-eq_default q z (omega (arith, c.count.ensures)))
 
 pub returns : goal.returns
-returns c =
+returns g c =
+    let A = g.A.Arithmetic in
     let a = c.args in
-    sym (behind_zeros 0 a.q.now a.n a.i (omega arith))
+    c.get.ensures ∙ sym (behind_zeros (A.over a.a).𝟘 (A.elements a.q.now) a.n a.i (omega arith))

@@ -97,10 +97,10 @@ correction-words-requires t c =
     let ly = q.auto.py ∙ c.requires.reads_bound.1.1 in
     let n = c.next_state-next in record {
       round_inside = inside;
-      from_bound = (room_in q.result c.in-From.j c.in-From.is q.ensures.room, (lx, ly));
+      from_bound = (room_in q.result c.in-Some.j c.in-Some.is q.ensures.room, (lx, ly));
       ac_len = (c.requires.invariant.inside.in_answers, c.requires.invariant.inside.in_factors);
       apart = apart_ready (edition_of a.e) a.w.now a.pw.now a.ac.now a.vg.now a.state a.reads (value_in S.spelling a.r) a.oracle c.requires.invariant more n.result n.ensures q.result
-          q.new.px q.new.py lx ly c.in-From.j c.in-From.is q.ensures.next_samples c.requires.represented;
+          q.new.px q.new.py lx ly c.in-Some.j c.in-Some.is q.ensures.next_samples c.requires.represented;
     }
 
 pub bounds-w-0 : goal.bounds-w-0
@@ -141,7 +141,7 @@ decide_rest-requires t c =
     let lv = k.auto.vg ∙ c.requires.invariant.inside.in_factors in
     let way = c.next_oracle in
     let ready = next_ready (edition_of a.e) a.w.now a.pw.now a.ac.now a.vg.now a.state a.reads (value_in S.spelling a.r) a.oracle c.requires.invariant more n.result n.ensures q.result
-    q.new.px q.new.py lx ly c.in-From.j c.in-From.is q.ensures.next_samples c.requires.represented
+    q.new.px q.new.py lx ly c.in-Some.j c.in-Some.is q.ensures.next_samples c.requires.represented
     k.result way.result way.ensures k.new.ac k.new.vg la lv k.ensures.columned k.ensures.next_correcting in
     let most = most_next (edition_of a.e) a.w.now a.pw.now a.ac.now a.vg.now a.state a.reads (value_in S.spelling a.r) a.oracle c.requires.invariant more n.result n.ensures q.result p.result p.ensures c.requires.reads_bound.0 in
     (omega (arith, c.decreases, level_next S a.state n.result n.ensures, more, c.requires.invariant.place.sheet.rounds), (c.requires.written, (ready.0, (ready.1, (most, (lx, ly))))))
@@ -174,6 +174,6 @@ returns t c =
     let way = c.next_oracle in
     let v = c.at in
     next_decided (edition_of a.e) a.w.now a.pw.now a.ac.now a.vg.now a.state a.reads (value_in S.spelling a.r) a.oracle c.requires.invariant more n.result n.ensures q.result
-    q.new.px q.new.py lx ly c.in-From.j c.in-From.is q.ensures.next_samples c.requires.represented
+    q.new.px q.new.py lx ly c.in-Some.j c.in-Some.is q.ensures.next_samples c.requires.represented
     k.result way.result way.ensures k.new.ac k.new.vg la lv k.ensures.columned k.ensures.next_correcting
     p.ensures (coin_at (edition_of a.e) a.w.now v.result c.next_coin.ensures.0 v.ensures) c.decide_rest.ensures

@@ -16,7 +16,7 @@ overflow_add-i c =
     let h = sheet_of (edition_of a.e) a.w.now in
     let q = c.final_difference-f in
     let i = c.requires.level_value in
-    let few = place_ready h a.w.now a.pw.now a.ac.now a.vg.now a.state a.reads (value_in h.spelling a.r) a.oracle c.requires.invariant i.0 q.result q.ensures c.in-At.is c.requires.represented in
+    let few = place_ready h a.w.now a.pw.now a.ac.now a.vg.now a.state a.reads (value_in h.spelling a.r) a.oracle c.requires.invariant i.0 q.result q.ensures c.in-Some.is c.requires.represented in
     omega (arith, few, i.1.numbers.few)
 
 pub reads_after_finals-requires : goal.reads_after_finals-requires
@@ -25,16 +25,16 @@ reads_after_finals-requires c =
     let h = sheet_of (edition_of a.e) a.w.now in
     let q = c.final_difference-f in
     let i = c.requires.level_value in
-    let few = place_ready h a.w.now a.pw.now a.ac.now a.vg.now a.state a.reads (value_in h.spelling a.r) a.oracle c.requires.invariant i.0 q.result q.ensures c.in-At.is c.requires.represented in record { final_inside = (i.1, omega (arith, c.requires.reads_bound, i.1.numbers.level)); count_bound = omega (arith, few) }
+    let few = place_ready h a.w.now a.pw.now a.ac.now a.vg.now a.state a.reads (value_in h.spelling a.r) a.oracle c.requires.invariant i.0 q.result q.ensures c.in-Some.is c.requires.represented in record { final_inside = (i.1, omega (arith, c.requires.reads_bound, i.1.numbers.level)); count_bound = omega (arith, few) }
 
-pub returns-in-At : goal.returns-in-At
+pub returns-in-Some : goal.returns-in-Some
 unfolding verdict_of outcome_of
-returns-in-At c =
+returns-in-Some c =
     let a = c.args in
     let h = sheet_of (edition_of a.e) a.w.now in
     let q = c.final_difference-f in
     differ_ready h a.w.now a.pw.now a.ac.now a.vg.now a.state a.reads (value_in h.spelling a.r) a.oracle c.requires.invariant c.requires.level_value.0 q.result q.ensures
-    c.in-At.is c.reads_after_finals.ensures
+    c.in-Some.is c.reads_after_finals.ensures
 
 pub reads_after_finals-requires-2 : goal.reads_after_finals-requires-2
 reads_after_finals-requires-2 c =

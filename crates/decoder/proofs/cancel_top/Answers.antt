@@ -2,7 +2,6 @@ use Prim.Native.Nat.{◌+◌, ◌-◌}
 use lib.ListN.{take, get_or}
 use Rattle.definition.specs.Field.{field_of}
 use Rattle.decoder.proofs.Turns.{with_factor}
-use borrow.Author.Rules.{rules}
 use Rattle.decoder.proofs.cancel_top.Goals as goal
 
 pub returns : goal.returns

@@ -1,11 +1,10 @@
-use Prim.Native.Nat.{◌+◌, ◌-◌, ◌≤◌, ◌<◌}
 use native.Mathlib.Omega.{arith}
-use mathlib.Core.Path.{◌≡◌, refl, sym, ◌∙◌}
-use lib.ListN.{length}
-use borrow.Author.Rules.{rules}
-use Rattle.definition.specs.Field.{Field, field_of, prime_field}
-use Rattle.decoder.specs.Steps.{Reducible, Reduced, Ends}
+use mathlib.Core.Path.{◌≡◌}
+use lib.ListN.{length, take}
+use lib.Seq.{length-take-le}
+use Rattle.definition.specs.Field.{field_of, prime_field}
 use Rattle.decoder.proofs.Rounds.{reduce_start, cancel_turn, reduce_end, top_found, top_inverts}
+use Rattle.decoder.proofs.Turns.{topped_front}
 use Rattle.decoder.proofs.reduce.Goals as goal
 
 pub returns-in_default : goal.returns-in_default
@@ -30,14 +29,16 @@ loop-a-preserved c =
     let a = c.args in
     let p = c.cancel_top in
     cancel_turn a.field a.n a.least a.s.now a.w.now a.from a.t.now a.v.now a.b c.requires l.s l.w l.a l.invariant c.loop-a-test.true
-    (top_found a.field a.n a.least a.s.now a.w.now a.from a.t.now a.v.now a.b c.requires c.inv-inversion.ensures c.in-Found.is) p.ensures.s_after p.ensures.w_after p.auto.s p.auto.w
+    (top_found a.field a.n a.least a.s.now a.w.now a.from a.t.now a.v.now a.b c.requires c.inv-inversion.ensures c.in-Some.is) p.ensures.s_after p.ensures.w_after p.auto.s p.auto.w
 
 pub top_of-requires : goal.top_of-requires
 top_of-requires c =
     let l = c.loop-a in
-    (l.invariant.1.1.from, omega (arith, l.invariant.0, l.invariant.1.1.most, c.requires.room_s))
+    let long : length (take l.a l.s) ≡ l.a = length-take-le l.a l.s (omega (arith, l.invariant.0, l.invariant.1.1.most, c.requires.room_s)) in
+    omega (arith, l.invariant.1.1.from)
 
 pub returns : goal.returns
 returns c =
     let l = c.loop-a in
-    let a = c.args in let both = reduce_end a.field a.n a.least a.s.now a.w.now a.from a.t.now a.v.now a.b c.requires l.s l.w l.a l.invariant (omega (arith, c.loop-a-test.false)) c.top_of.ensures in record { reduced = both.0; ends = both.1 }
+    let a = c.args in let both = reduce_end a.field a.n a.least a.s.now a.w.now a.from a.t.now a.v.now a.b c.requires l.s l.w l.a l.invariant (omega (arith, c.loop-a-test.false))
+    (topped_front l.s a.least l.a (omega (arith, l.invariant.0, l.invariant.1.1.most, c.requires.room_s)) c.top_of.ensures) in record { reduced = both.0; ends = both.1 }

@@ -1,11 +1,6 @@
-use Prim.Native.Nat.{◌+◌, ◌-◌, ◌≤◌, ◌<◌}
-use native.Mathlib.Omega.{arith}
-use mathlib.Core.Path.{◌≡◌, refl, sym, ◌∙◌}
+use mathlib.Core.Path.{◌≡◌}
 use lib.ListN.{length}
-use borrow.Author.Rules.{rules}
-use Rattle.definition.specs.Field.{Field, field_of, prime_field}
-use Rattle.decoder.specs.Steps.{Reducible, Reduced, Ends}
-use Rattle.decoder.proofs.Rounds.{reduce_start, cancel_turn, reduce_end, top_found, top_inverts}
+use Rattle.decoder.specs.Steps.{Reduced}
 use Rattle.decoder.proofs.reduce.Given as goal
 
 abbrev pub invariant-loop-a : goal.invariant-loop-a

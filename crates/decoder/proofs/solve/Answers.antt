@@ -1,12 +1,15 @@
-use Prim.Native.Nat.{ℕ, ◌+◌, ◌-◌, ◌≤◌, ◌<◌}
+use Prim.Native.Nat.{ℕ, ◌+◌}
 use native.Mathlib.Omega.{arith}
 use mathlib.Core.Path.{◌≡◌, refl, sym, ◌∙◌, subst}
-use lib.ListN.{length, take, drop, get_or}
-use Rattle.definition.specs.Field.{Field, field_of, prime_field}
+use lib.ListN.{length, take}
+use lib.Seq.{length-take-le}
+use Rattle.list_laws.specs.All.{all_take}
+use Rattle.list_laws.specs.LentParts.{begun_long}
+use Rattle.definition.specs.Field.{field_of, prime_field}
 use Rattle.algebra.specs.PrimeField.{laws}
 use Rattle.decoding.specs.Reduction.{turned}
-use Rattle.decoder.specs.Steps.{Reducible, Reduced, Ends, Divided}
-use Rattle.decoder.proofs.Rounds.{Loop, loop_start, before_loop, first_ready, second_ready, loop_next, falls, ended_at}
+use Rattle.decoder.specs.Steps.{Divided}
+use Rattle.decoder.proofs.Rounds.{loop_start, before_loop, first_ready, second_ready, loop_next, falls, ended_at}
 use Rattle.decoder.proofs.solve.Goals as goal
 
 pub overflow_add-a : goal.overflow_add-a
@@ -33,16 +36,15 @@ reduce-a-requires c =
 pub finish-requires : goal.finish-requires
 finish-requires c =
     let l = c.loop-b in
-    let r = c.reduce-a in record {
-      count_in_bounds = (
-        omega (arith, r.auto.s, l.invariant.1.long_s, c.requires.s_len.1.1),
-        (omega (arith, r.auto.w, l.invariant.1.width_w, c.requires.s_len.1.1), omega (arith, l.invariant.0, r.auto.w, l.invariant.1.width_w, c.requires.s_len.1.1, c.requires.out_nonzero.1)),
-      );
-      elements = r.ensures.reduced.stage.elements_s;
+    let r = c.reduce-a in
+    let long : length (take c.args.least r.new.s) ≡ c.args.least = length-take-le c.args.least r.new.s (omega (arith, r.auto.s, l.invariant.1.long_s, c.requires.s_len.1.1)) in record {
+      width = (omega (arith, r.auto.w, l.invariant.1.width_w, c.requires.s_len.1.1), omega (arith, long, l.invariant.0, r.auto.w, l.invariant.1.width_w, c.requires.s_len.1.1, c.requires.out_nonzero.1));
+      elements = all_take (λ x. (laws c.args.field).reduce x ≡ x) c.args.least r.new.s r.ensures.reduced.stage.elements_s;
     }
 
 pub shape_of-s-then-a-least : goal.shape_of-s-then-a-least
-shape_of-s-then-a-least c = c.finish.auto.s ∙ c.reduce-a.auto.s ∙ c.loop-b.invariant.1.long_s ∙ sym c.requires.s_len.0
+shape_of-s-then-a-least c =
+    begun_long c.reduce-a.new.s c.finish.new.s c.args.least (omega (arith, c.reduce-a.auto.s, c.loop-b.invariant.1.long_s, c.requires.s_len.1.1)) c.finish.auto.s ∙ c.reduce-a.auto.s ∙ c.loop-b.invariant.1.long_s ∙ sym c.requires.s_len.0
 
 pub shape_of-w-then-a-least : goal.shape_of-w-then-a-least
 shape_of-w-then-a-least c = c.reduce-a.auto.w ∙ c.loop-b.invariant.1.width_w ∙ sym c.requires.reducible.width_v
@@ -106,12 +108,10 @@ loop-b-preserved c =
 
 pub finish-requires-2 : goal.finish-requires-2
 finish-requires-2 c =
-    let l = c.loop-b in record {
-      count_in_bounds = (
-        omega (arith, l.invariant.1.long_t, c.requires.s_len.1.1),
-        (omega (arith, l.invariant.1.width_v, c.requires.s_len.1.1), omega (arith, l.invariant.0, l.invariant.1.width_v, c.requires.s_len.1.1, c.requires.out_nonzero.1)),
-      );
-      elements = l.invariant.1.stage.elements_t;
+    let l = c.loop-b in
+    let long : length (take c.args.least l.t) ≡ c.args.least = length-take-le c.args.least l.t (omega (arith, l.invariant.1.long_t, c.requires.s_len.1.1)) in record {
+      width = (omega (arith, l.invariant.1.width_v, c.requires.s_len.1.1), omega (arith, long, l.invariant.0, l.invariant.1.width_v, c.requires.s_len.1.1, c.requires.out_nonzero.1));
+      elements = all_take (λ x. (laws c.args.field).reduce x ≡ x) c.args.least l.t l.invariant.1.stage.elements_t;
     }
 
 pub shape_of-s : goal.shape_of-s
@@ -121,7 +121,8 @@ pub shape_of-w : goal.shape_of-w
 shape_of-w c = c.loop-b.invariant.1.width_w ∙ sym c.requires.reducible.width_v
 
 pub shape_of-t : goal.shape_of-t
-shape_of-t c = c.finish-2.auto.s ∙ c.loop-b.invariant.1.long_t ∙ sym c.requires.s_len.1.0
+shape_of-t c =
+    begun_long c.loop-b.t c.finish-2.new.s c.args.least (omega (arith, c.loop-b.invariant.1.long_t, c.requires.s_len.1.1)) c.finish-2.auto.s ∙ c.loop-b.invariant.1.long_t ∙ sym c.requires.s_len.1.0
 
 pub shape_of-v : goal.shape_of-v
 shape_of-v c = c.loop-b.invariant.1.width_v ∙ sym c.requires.reducible.width_w

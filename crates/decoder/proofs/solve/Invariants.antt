@@ -1,12 +1,6 @@
-use Prim.Native.Nat.{ℕ, ◌+◌, ◌-◌, ◌≤◌, ◌<◌}
-use native.Mathlib.Omega.{arith}
-use mathlib.Core.Path.{◌≡◌, refl, sym, ◌∙◌, subst}
-use lib.ListN.{length, take, drop, get_or}
-use Rattle.definition.specs.Field.{Field, field_of, prime_field}
-use Rattle.algebra.specs.PrimeField.{laws}
-use Rattle.decoding.specs.Reduction.{turned}
-use Rattle.decoder.specs.Steps.{Reducible, Reduced, Ends, Divided}
-use Rattle.decoder.proofs.Rounds.{Loop, loop_start, before_loop, first_ready, second_ready, loop_next, falls, ended_at}
+use mathlib.Core.Path.{◌≡◌}
+use lib.ListN.{length}
+use Rattle.decoder.proofs.Rounds.{Loop}
 use Rattle.decoder.proofs.solve.Given as goal
 
 abbrev pub invariant-loop-b : goal.invariant-loop-b

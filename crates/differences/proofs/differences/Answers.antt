@@ -1,28 +1,34 @@
-use native.Mathlib.Omega.{arith}
-use Rattle.definition.specs.Field.{prime_field, field_of}
-use Rattle.differences.proofs.Differing.{differed_first, differed_next, differed_small}
+use Rattle.std.proofs.Common.{ℕ, arith, refl, sym, subst, ◌∙◌, length}
+use Rattle.list_laws.specs.Filled.{FilledOver}
+use Rattle.differences.proofs.Differing.{Differed, differed_first, differed_next, differed_reduced}
 use Rattle.differences.proofs.differences.Goals as goal
 
 pub loop-j-init : goal.loop-j-init
-unfolding field_of prime_field
-loop-j-init c =
-    (omega arith, differed_first (field_of c.args.field) c.args.xs.now c.args.out.now c.fill.new.out c.requires c.fill.ensures)
+loop-j-init g c =
+    let A = g.A.Arithmetic in
+    let F = A.over c.args.a in
+    let xs = A.elements c.args.xs.now in
+    let f = c.fill_elements in
+    let ones = subst (λ v. FilledOver F.𝟘 (λ _. v) (A.elements c.args.out.now) (A.elements f.new.out) (length (A.elements c.args.out.now))) c.one.ensures f.ensures in
+    (refl, subst (λ (m : ℕ). Differed F xs (A.elements f.new.out) m) (sym c.count-j.ensures) (differed_first F xs (A.elements c.args.out.now) (A.elements f.new.out) c.requires ones))
 
 pub times_difference-requires : goal.times_difference-requires
-times_difference-requires c =
+times_difference-requires g c =
+    let A = g.A.Arithmetic in
     let l = c.loop-j in
-    let a = c.args in record { j_in_bounds = (omega arith, l.invariant.1.same); by_index = λ i u. differed_small a.field a.xs.now l.out l.j i l.invariant.1 (omega arith) }
+    record {
+      j_in_bounds = (omega (arith, c.count-j.ensures), l.invariant.1.same);
+      by_index = λ i u. differed_reduced (A.over c.args.a) (A.laws c.args.a) (A.elements c.args.xs.now) (A.elements l.out) l.j i l.invariant.1 (omega arith);
+    }
 
 pub loop-j-preserved : goal.loop-j-preserved
-unfolding field_of prime_field
-loop-j-preserved c =
+loop-j-preserved g c =
+    let A = g.A.Arithmetic in
     let l = c.loop-j in
-    let a = c.args in
-    (omega arith, differed_next (field_of a.field) a.xs.now l.out c.times_difference.new.out l.j (omega arith) (omega arith) l.invariant.1 c.times_difference.ensures)
-
-pub shape_of-out : goal.shape_of-out
-shape_of-out c = omega (arith, c.loop-j.invariant.1.same, c.requires)
+    let t = c.times_difference in (
+      t.auto.out ∙ l.invariant.0,
+      differed_next (A.over c.args.a) (A.elements c.args.xs.now) (A.elements l.out) (A.elements t.new.out) l.j (omega arith) (omega (arith, c.count-j.ensures)) l.invariant.1 t.ensures,
+    )
 
 pub returns : goal.returns
-unfolding field_of prime_field
-returns c = λ i u. c.loop-j.invariant.1.done i (omega arith) u
+returns g c = λ i u. c.loop-j.invariant.1.done i (omega arith) u

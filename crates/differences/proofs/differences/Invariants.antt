@@ -1,11 +1,8 @@
-use Prim.Native.Nat.{◌≤◌}
-use lib.ListN.{length}
-use Rattle.definition.specs.Field.{field_of}
+use Rattle.std.proofs.Common.{◌≡◌, length}
 use Rattle.differences.proofs.Differing.{Differed}
 use Rattle.differences.proofs.differences.Given as goal
 
 abbrev pub invariant-loop-j : goal.invariant-loop-j
-invariant-loop-j l = (l.j ≤ length l.xs) × Differed (field_of l.field) l.xs l.out l.j
-
-abbrev pub decreases-loop-j : goal.decreases-loop-j
-decreases-loop-j l = l.j
+invariant-loop-j g l =
+    let A = g.A.Arithmetic in
+    (length l.out ≡ length l.initial.out) × Differed (A.over l.a) (A.elements l.xs) (A.elements l.out) l.j

@@ -1,23 +1,29 @@
-use native.Mathlib.Omega.{arith}
-use mathlib.Core.Path.{subst}
-use Rattle.definition.specs.Field.{prime_field, field_of}
-use Rattle.algebra.specs.PrimeField.{laws}
-use Rattle.inversions.specs.OneInversion.{Inverted}
+use Rattle.std.proofs.Common.{arith, subst}
+use Rattle.arithmetic.specs.Parts.{even}
+use Rattle.inversions.specs.OneInversion.{InvertedOver}
 use Rattle.differences.proofs.Differing.{divisor_nonzero, found_reciprocal}
 use Rattle.differences.proofs.divisors.Goals as goal
 
-pub returns-in_default : goal.returns-in_default
-unfolding field_of prime_field
-returns-in_default c =
-    let a = c.args in
+pub invert-requires : goal.invert-requires
+invert-requires g c =
+    let A = g.A.Arithmetic in
     let d = c.differences in
-    absurd (subst (λ t. Inverted a.field d.new.out t c.invert_one-found.new.values) c.in_default.is c.invert_one-found.ensures
-    (λ m u. divisor_nonzero (field_of a.field) (laws a.field) a.xs.now m c.requires.apart (omega (arith, u, d.auto.out)) (d.ensures m (omega (arith, u, d.auto.out)))))
+    omega (arith, even A.width A.elements g.met.A.Arithmetic.counted d.new.out c.args.out.now d.auto.out, c.requires.out_len)
+
+pub returns-in_default : goal.returns-in_default
+returns-in_default g c =
+    let A = g.A.Arithmetic in
+    let F = A.over c.args.a in
+    let L = A.laws c.args.a in
+    let xs = A.elements c.args.xs.now in
+    let d = c.differences in
+    let same = even A.width A.elements g.met.A.Arithmetic.counted d.new.out c.args.out.now d.auto.out in
+    absurd (subst (λ t. InvertedOver F L (A.elements d.new.out) t (A.elements c.invert.new.values)) c.in_default.is c.invert.ensures
+    (λ m u. divisor_nonzero F L xs m c.requires.apart (omega (arith, u, same, c.requires.out_len)) (d.ensures m (omega (arith, u, same, c.requires.out_len)))))
 
 pub returns : goal.returns
-unfolding field_of prime_field
-returns c =
-    let a = c.args in
+returns g c =
+    let A = g.A.Arithmetic in
     let d = c.differences in
-    let each = subst (λ t. Inverted a.field d.new.out t c.invert_one-found.new.values) c.in-Found.is c.invert_one-found.ensures in
-    λ i u. found_reciprocal (field_of a.field) (d.ensures i u) (each i (omega (arith, u, d.auto.out)))
+    let same = even A.width A.elements g.met.A.Arithmetic.counted d.new.out c.args.out.now d.auto.out in
+    λ i u. found_reciprocal (A.over c.args.a) (d.ensures i u) (c.in-Some.ensures i (omega (arith, u, same, c.requires.out_len)))

@@ -8,11 +8,6 @@ use Rattle.distinct.proofs.keep_all.Given as goal
 
 abbrev pub invariant-loop-i : goal.invariant-loop-i
 invariant-loop-i l =
-    (l.i ≤ length (elements_at l.field l.points))
-    × ((l.at ≤ l.from)
+    (l.at ≤ l.from)
     × ((l.from ≤ l.at + (length (elements_at l.field l.points) - l.i))
-    × ((length l.xs ≡ length l.initial.xs)
-    × (drop l.at (elements_at l.field l.xs) ≡ keep_points (field_at l.field).equal (map (λ x. x) (drop l.i (elements_at l.field l.points))) (drop l.from (elements_at l.field l.initial.xs))))))
-
-abbrev pub decreases-loop-i : goal.decreases-loop-i
-decreases-loop-i l = l.i
+    × (drop l.at (elements_at l.field l.xs) ≡ keep_points (field_at l.field).equal (map (λ x. x) (drop l.i (elements_at l.field l.points))) (drop l.from (elements_at l.field l.initial.xs))))

@@ -1,6 +1,6 @@
 use native.Mathlib.Omega.{arith}
 use Prim.Native.Nat.{◌-◌}
-use mathlib.Core.Path.{◌∙◌, refl, ap}
+use mathlib.Core.Path.{◌∙◌, ap}
 use mathlib.Core.List.{[]}
 use lib.ListN.{drop_of_length-le}
 use Rattle.definition.specs.Field.{spelling_of, number_in}
@@ -11,18 +11,12 @@ use Rattle.distinct.specs.Points.{shift_at}
 use Rattle.distinct.proofs.Turns.{keep_start, keep_turn, keep_end, shift_inside}
 use Rattle.distinct.proofs.keep_shifts.Goals as goal
 
-pub count-at-requires : goal.count-at-requires
-count-at-requires c = tt
-
 pub loop-i-init : goal.loop-i-init
 loop-i-init c =
     let a = c.args in
     let n = c.count-at.ensures in
     let S = shift_at a.field a.pw.now a.scale a.k in
-    (omega arith, (omega (arith, n), (omega (arith, n), (refl, keep_start (field_at a.field).equal 0 S a.shifts.now [] (drop_of_length-le (elements_at a.field a.xs.now) {i = c.count-at.result} (omega (arith, n)))))))
-
-pub wide-requires : goal.wide-requires
-wide-requires c = tt
+    (omega (arith, n), (omega (arith, n), keep_start (field_at a.field).equal 0 S a.shifts.now [] (drop_of_length-le (elements_at a.field a.xs.now) {i = c.count-at.result} (omega (arith, n)))))
 
 pub shift_point-x-requires : goal.shift_point-x-requires
 shift_point-x-requires c =
@@ -30,14 +24,11 @@ shift_point-x-requires c =
     let a = c.args in
     (shift_inside a.scale a.shifts.now c.requires.in_table.0 (l.i - 1) (omega arith) c.wide.ensures, (c.requires.k_nonzero.1.1, (c.requires.k_nonzero.0, c.requires.k_nonzero.1.0)))
 
-pub number-requires : goal.number-requires
-number-requires c = tt
-
 pub keep-at-requires : goal.keep-at-requires
 keep-at-requires c =
     let l = c.loop-i in
     let a = c.args in
-    (omega (arith, l.invariant.0, l.invariant.1, c.requires.in_table.1), omega (arith, elements_even (spelling_of a.field) l.xs a.xs.now l.invariant.1.1.1.0, l.invariant.1.0))
+    (omega (arith, l.invariant, c.requires.in_table.1), omega (arith, elements_even (spelling_of a.field) l.xs a.xs.now l.auto.xs, l.invariant.0))
 
 pub loop-i-preserved : goal.loop-i-preserved
 loop-i-preserved c =
@@ -45,25 +36,15 @@ loop-i-preserved c =
     let a = c.args in
     let k = c.keep-at in
     let S = shift_at a.field a.pw.now a.scale a.k in
-    let n = l.invariant.1.1.1 in
     let x = c.number.ensures.by_index a.field ∙ ap (number_in (spelling_of a.field)) (c.shift_point-x.ensures.value ∙ ap (shift_in 0 a.pw.now a.scale a.k) c.wide.ensures) in (
-      omega arith,
+      omega (arith, k.ensures.upper_bound, l.invariant),
       (
-        omega (arith, k.ensures.upper_bound, l.invariant.1),
-        (
-          omega (arith, k.ensures.upper_bound, l.invariant.0, l.invariant.1),
-          (
-            k.auto.xs ∙ n.0,
-            keep_turn (field_at a.field).equal 0 S a.shifts.now [] l.i (omega arith) l.invariant.0 n.1 x k.ensures.xs_after,
-          ),
-        ),
+        omega (arith, k.ensures.upper_bound, l.invariant),
+        keep_turn (field_at a.field).equal 0 S a.shifts.now [] l.i (omega arith) (omega arith) l.invariant.1.1 x k.ensures.xs_after,
       ),
     )
-
-pub shape_of-xs : goal.shape_of-xs
-shape_of-xs c = c.loop-i.invariant.1.1.1.0
 
 pub returns : goal.returns
 returns c =
     let l = c.loop-i in
-    let a = c.args in record { xs_after = keep_end (field_at a.field).equal 0 (shift_at a.field a.pw.now a.scale a.k) a.shifts.now [] l.i (omega arith) l.invariant.1.1.1.1; upper_bound = (l.invariant.1.0, omega (arith, l.invariant.1.1.0)) }
+    let a = c.args in record { xs_after = keep_end (field_at a.field).equal 0 (shift_at a.field a.pw.now a.scale a.k) a.shifts.now [] l.i (omega arith) l.invariant.1.1; upper_bound = (l.invariant.0, omega (arith, l.invariant.1.0)) }

@@ -8,11 +8,6 @@ use Rattle.distinct.proofs.keep_shifts.Given as goal
 
 abbrev pub invariant-loop-i : goal.invariant-loop-i
 invariant-loop-i l =
-    (l.i ≤ length l.shifts)
-    × ((l.at ≤ length (elements_at l.field l.initial.xs))
+    (l.at ≤ length (elements_at l.field l.initial.xs))
     × ((length (elements_at l.field l.initial.xs) ≤ l.at + (length l.shifts - l.i))
-    × ((length l.xs ≡ length l.initial.xs)
-    × (drop l.at (elements_at l.field l.xs) ≡ keep_points (field_at l.field).equal (map (shift_at l.field l.pw l.scale l.k) (drop l.i l.shifts)) []))))
-
-abbrev pub decreases-loop-i : goal.decreases-loop-i
-decreases-loop-i l = l.i
+    × (drop l.at (elements_at l.field l.xs) ≡ keep_points (field_at l.field).equal (map (shift_at l.field l.pw l.scale l.k) (drop l.i l.shifts)) []))

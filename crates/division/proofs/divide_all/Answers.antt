@@ -1,26 +1,30 @@
-use Prim.Native.Nat.{◌-◌}
+use Prim.Native.Nat.{ℕ, ◌+◌, ◌-◌, ◌<◌}
 use native.Mathlib.Omega.{arith}
-use lib.ListN.{length, drop}
-use lib.ListN.{length-drop}
-use Rattle.list_laws.specs.Zeros.{length_zeros}
+use mathlib.Core.Path.{◌≡◌, ap, ◌∙◌, subst}
+use mathlib.Core.List.{List}
+use lib.ListN.{length, take, drop, length-drop}
+use lib.Seq.{length-take-le, take_all}
 use Rattle.definition.specs.Field.{field_of}
 use Rattle.algebra.specs.PrimeField.{laws}
-use Rattle.division.proofs.Dividing.{divided, divides_is, part_short}
+use Rattle.list_laws.specs.Zeros.{length_zeros}
+use Rattle.division.specs.LongDivision.{Dividing}
+use Rattle.division.proofs.Dividing.{divided, divides_is}
 use Rattle.division.proofs.divide_all.Goals as goal
-
-pub by_sums-requires : goal.by_sums-requires
-by_sums-requires c =
-    let few = part_short (length c.args.xs.now - c.args.from) (drop 1 c.factors.new.w) c.part.ensures in
-    (omega (arith, few, c.requires.from_in_bounds.1.0), (c.requires.from_in_bounds.1.1, omega (arith, few, c.requires.from_nonzero.1)))
 
 pub returns : goal.returns
 returns c =
     let a = c.args in
     let m = c.move_down in
     let b = c.by_sums in
-    let p = c.part in
     let f = c.factors in
+    let e = length a.xs.now - a.from in
     let size = length-drop a.from a.xs.now in
-    let v = divides_is (field_of a.field) (laws a.field) (drop a.from a.xs.now) f.new.w _ (length a.xs.now - a.from) (omega (arith, size, c.requires.from_nonzero.0)) size
-    (omega (arith, f.auto.w, length_zeros 66, c.requires.from_nonzero.1)) p.ensures f.ensures in
-    divided (field_of a.field) (laws a.field) a.xs.now a.f.now b.new.f m.new.f _ a.from a.count v b.ensures m.ensures
+    let same : e + 1 - 1 ≡ e = omega arith in
+    let room : e < length f.new.w = omega (arith, f.auto.w, length_zeros 66) in
+    let points : take e (drop a.from a.xs.now) ≡ drop a.from a.xs.now = take_all e (drop a.from a.xs.now) (omega (arith, size)) in
+    let v = take (e + 1 - 1) (drop 1 f.new.w) in
+    let long : length v ≡ e = ap (λ (n : ℕ). length (take n (drop 1 f.new.w))) same ∙ length-take-le e (drop 1 f.new.w) (omega (arith, length-drop 1 f.new.w)) in
+    let divides = divides_is (field_of a.field) (laws a.field) (drop a.from a.xs.now) f.new.w v e (omega (arith, size)) size room
+    (ap (λ (n : ℕ). take n (drop 1 f.new.w)) same) (subst (λ (xs : List ℕ). Dividing (field_of a.field) (laws a.field) xs f.new.w) points f.ensures) in
+    divided (field_of a.field) (laws a.field) (drop a.from a.xs.now) a.f.now b.new.f m.new.f v _ a.count e divides long
+    (b.auto.f ∙ length-take-le a.count a.f.now c.requires.from_in_bounds.1.1) b.ensures m.auto.f m.ensures

@@ -1,5 +1,5 @@
 use mathlib.Core.List.{List}
-use Prim.Native.Nat.{ℕ, ◌+◌, ◌-◌, ◌*◌, ◌%◌}
+use Prim.Native.Nat.{ℕ, ◌+◌, ◌*◌, ◌%◌}
 use lib.ListN.{length, get_or}
 use Rattle.list_laws.specs.Filled.{Filled}
 use Rattle.domain.proofs.from_stored.Given as goal
@@ -11,6 +11,3 @@ at table step n k = get_or table (step * ((1 + k) % n)) 0
 
 abbrev pub invariant-loop-e : goal.invariant-loop-e
 invariant-loop-e l = Filled (at l.table l.step (length l.initial.out)) l.initial.out l.out l.e
-
-abbrev pub decreases-loop-e : goal.decreases-loop-e
-decreases-loop-e l = length l.initial.out - l.e

@@ -7,6 +7,6 @@ use Rattle.domains2.proofs.run.Goals as goal
 
 pub returns : goal.returns
 returns g c = λ ok.
-    told 16384 (listing edition2) _ _ _ c.in-Bytes.n _ _ c.in-Bytes.ensures.buffer_len_unchanged c.in-Bytes.ensures.front
+    told 16384 (listing edition2) _ _ _ c.in-Ok.n _ _ c.in-Ok.ensures.buffer_len_unchanged c.in-Ok.ensures.front
     (c.output_2-length.ensures.out_after ∙ ap (listing edition2) c.front.ensures)
     (on_ok _ (sym c.is_ok.ensures.value ∙ ok) c.send.ensures)

@@ -6,10 +6,10 @@ use Rattle.files.proofs.prove_batch.Goals as goal
 
 pub returns-clause-output : goal.returns-clause-output
 returns-clause-output g c = λ ok.
-    told 32768 (λ bytes. (batch_written bytes).output) _ _ _ c.in-Bytes.n _ _ c.in-Bytes.ensures.buffer_len_unchanged c.in-Bytes.ensures.front
-    (c.prove_batch-written.ensures.output_after ∙ ap (λ bytes. (batch_written bytes).output) c.front.ensures) (c.deliver_batch.ensures.output ok)
+    told 32768 (λ bytes. (batch_written bytes).output) _ _ _ c.in-Ok.n _ _ c.in-Ok.ensures.buffer_len_unchanged c.in-Ok.ensures.front
+    (c.prove_batch-written.ensures.output_after ∙ ap (λ bytes. (batch_written bytes).output) c.front.ensures) (c.deliver.ensures.output ok)
 
 pub returns-clause-error : goal.returns-clause-error
 returns-clause-error g c = λ ok.
-    told 32768 (λ bytes. (batch_written bytes).error) _ _ _ c.in-Bytes.n _ _ c.in-Bytes.ensures.buffer_len_unchanged c.in-Bytes.ensures.front
-    (c.prove_batch-written.ensures.error_value ∙ ap (λ bytes. (batch_written bytes).error) c.front.ensures) (c.deliver_batch.ensures.error ok)
+    told 32768 (λ bytes. (batch_written bytes).error) _ _ _ c.in-Ok.n _ _ c.in-Ok.ensures.buffer_len_unchanged c.in-Ok.ensures.front
+    (c.prove_batch-written.ensures.error_value ∙ ap (λ bytes. (batch_written bytes).error) c.front.ensures) (c.deliver.ensures.error ok)

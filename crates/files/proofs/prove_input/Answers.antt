@@ -7,10 +7,10 @@ use Rattle.files.proofs.prove_input.Goals as goal
 
 pub returns-clause-output : goal.returns-clause-output
 returns-clause-output g c = λ ok.
-    told 16384 (λ bytes. (prove_written (edition_of c.args.e) bytes).output) _ _ _ c.in-Bytes.n _ _ c.in-Bytes.ensures.buffer_len_unchanged c.in-Bytes.ensures.front
+    told 16384 (λ bytes. (prove_written (edition_of c.args.e) bytes).output) _ _ _ c.in-Ok.n _ _ c.in-Ok.ensures.buffer_len_unchanged c.in-Ok.ensures.front
     (c.prove-written.ensures.output_after ∙ ap (λ bytes. (prove_written (edition_of c.args.e) bytes).output) c.front.ensures) (c.deliver.ensures.output ok)
 
 pub returns-clause-error : goal.returns-clause-error
 returns-clause-error g c = λ ok.
-    told 16384 (λ bytes. (prove_written (edition_of c.args.e) bytes).error) _ _ _ c.in-Bytes.n _ _ c.in-Bytes.ensures.buffer_len_unchanged c.in-Bytes.ensures.front
+    told 16384 (λ bytes. (prove_written (edition_of c.args.e) bytes).error) _ _ _ c.in-Ok.n _ _ c.in-Ok.ensures.buffer_len_unchanged c.in-Ok.ensures.front
     (c.prove-written.ensures.error_value ∙ ap (λ bytes. (prove_written (edition_of c.args.e) bytes).error) c.front.ensures) (c.deliver.ensures.error ok)

@@ -1,21 +1,23 @@
-use Prim.Native.Nat.{◌*◌, ◌≤◌, ◌<◌}
-use mathlib.Core.Path.{◌≡◌}
-use lib.ListN.{length, get_or}
-use Rattle.definition.specs.Field.{field_of}
+use Rattle.std.proofs.Common.{◌≡◌, ◌*◌, ◌≤◌, ◌<◌, length, get_or}
 use Rattle.folds.specs.Halving.{halving, exponent_of}
-use Rattle.folds.specs.PointsIn.{inverse_power_in}
-use Rattle.folds.specs.OneHalf.{half_of}
+use Rattle.folds.specs.PointsIn.{inverse_as}
 use Rattle.folds.proofs.Turns.{Left}
 use Rattle.folds.proofs.fold_values.Given as goal
 
 abbrev pub invariant-loop-count : goal.invariant-loop-count
-invariant-loop-count l =
+invariant-loop-count g l =
+    let A = g.A.Arithmetic in
+    let F = A.over l.a in
+    let half = A.numbered l.half in
+    let inverses = inverse_as A.numbered l.pw in
+    let old = A.elements l.initial.values in
     (0 < l.count)
-    × ((l.count ≤ length l.initial.values)
+    × ((l.count ≤ length old)
     × ((length l.values ≡ length l.initial.values)
+    × ((length (A.elements l.values) ≡ length old)
     × ((l.first * l.count ≤ 65536)
     × ((l.step * l.count ≤ 65536)
-    × Left (field_of l.field) (half_of (field_of l.field)) (inverse_power_in 0 l.pw) (halving (field_of l.field) (half_of (field_of l.field)) (inverse_power_in 0 l.pw) (exponent_of (length l.initial.values)) l.e l.d l.r (λ m. get_or l.initial.values m 0)) l.count l.first l.step l.coin l.values))))
+    × Left F half inverses (halving F half inverses (exponent_of (length old)) l.e l.d (A.value l.initial.coin) (λ m. get_or old m F.𝟘)) l.count l.first l.step (A.value l.coin) (A.elements l.values))))))
 
 abbrev pub decreases-loop-count : goal.decreases-loop-count
-decreases-loop-count l = l.count
+decreases-loop-count g l = l.count

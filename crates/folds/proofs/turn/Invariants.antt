@@ -1,12 +1,13 @@
-use Prim.Native.Nat.{◌+◌, ◌-◌, ◌*◌, ◌≤◌}
-use Rattle.definition.specs.Field.{field_of}
-use Rattle.folds.specs.PointsIn.{inverse_power_in}
-use Rattle.list_laws.specs.Filled.{Filled}
+use Rattle.std.proofs.Common.{◌≡◌, ◌+◌, ◌*◌, length}
+use Rattle.list_laws.specs.Filled.{FilledOver}
+use Rattle.folds.specs.PointsIn.{inverse_as}
 use Rattle.folds.proofs.Turns.{pairs}
 use Rattle.folds.proofs.turn.Given as goal
 
 abbrev pub invariant-loop-m : goal.invariant-loop-m
-invariant-loop-m l = (l.m ≤ l.h) × Filled (pairs (field_of l.field) l.half l.r (λ i. inverse_power_in 0 l.pw (l.e + i * l.d)) l.h l.initial.values) l.initial.values l.values l.m
-
-abbrev pub decreases-loop-m : goal.decreases-loop-m
-decreases-loop-m l = l.h - l.m
+invariant-loop-m g l =
+    let A = g.A.Arithmetic in
+    let F = A.over l.a in
+    let old = A.elements l.initial.values in
+    (length l.values ≡ length l.initial.values)
+    × FilledOver F.𝟘 (pairs F (A.numbered l.half) (A.value l.r) (λ i. inverse_as A.numbered l.pw (l.e + i * l.d)) l.h old) old (A.elements l.values) l.m

@@ -1,4 +1,4 @@
-use Prim.Native.Nat.{◌-◌, ◌/◌}
+use Prim.Native.Nat.{◌/◌}
 use native.Mathlib.Omega.{arith}
 use mathlib.Core.Path.{sym, ap, ◌∙◌}
 use lib.ListN.{length}
@@ -13,18 +13,6 @@ use Rattle.fractions.specs.Values.{first_point, fits_for, folded, spacing, table
 use Rattle.fractions.proofs.RootValues.{count_few, count_some, fractions_at, front_whole, rooted_part}
 use Rattle.fractions.proofs.fractions.Goals as goal
 
-pub gather-requires : goal.gather-requires
-gather-requires c = let p = c.requires in table_place p.fits p.j_lt_step.0
-
-pub nonzero_div-count : goal.nonzero_div-count
-nonzero_div-count c = omega (arith, folded (fits_for c.count-k.ensures c.requires.fits))
-
-pub slice_bounds-powers-end : goal.slice_bounds-powers-end
-slice_bounds-powers-end c = omega (arith, length_zeros 33, count_few (fits_for c.count-k.ensures c.requires.fits))
-
-pub slice_bounds-shift_powers-end : goal.slice_bounds-shift_powers-end
-slice_bounds-shift_powers-end c = sym (length-take-le (c.args.oracle.words / c.count-k.result) (zeros 33) (omega (arith, length_zeros 33, count_few (fits_for c.count-k.ensures c.requires.fits))))
-
 pub shift_powers-requires : goal.shift_powers-requires
 shift_powers-requires c =
     let p = c.requires in
@@ -33,27 +21,8 @@ shift_powers-requires c =
     let size = length-take-le (c.args.oracle.words / n.result) (zeros 33) (omega (arith, length_zeros 33, count_few fits)) in
     (first_point fits p.j_lt_step.0, (fits.small, (fits.few, omega (arith, size, count_some fits p.j_lt_step.1.0))))
 
-pub overflow_mul-oracle : goal.overflow_mul-oracle
-overflow_mul-oracle c = let p = c.requires in omega (arith, first_point p.fits p.j_lt_step.0, p.fits.small)
-
-pub overflow_mul-oracle-2 : goal.overflow_mul-oracle-2
-overflow_mul-oracle-2 c = let p = c.requires in omega (arith, spacing p.fits, p.fits.small)
-
-pub slice_bounds-powers-end-2 : goal.slice_bounds-powers-end-2
-slice_bounds-powers-end-2 c =
-    let n = c.count-k in
-    let q = c.shift_powers in
-    omega (arith, length_front (zeros 33) q.new.powers (c.args.oracle.words / n.result) q.auto.powers, length_zeros 33, count_few (fits_for n.ensures c.requires.fits))
-
-pub slice_bounds-quotients-end : goal.slice_bounds-quotients-end
-slice_bounds-quotients-end c =
-    let n = c.count-k in
-    let q = c.shift_powers in
-    let w = front_whole (c.args.oracle.words / n.result) (zeros 33) q.new.powers (omega (arith, length_zeros 33, count_few (fits_for n.ensures c.requires.fits))) q.auto.powers in
-    sym (ap length w.0 ∙ w.1)
-
-pub quotients-requires : goal.quotients-requires
-quotients-requires c =
+pub quotients-requires-clause-rooted : goal.quotients-requires-clause-rooted
+quotients-requires-clause-rooted c =
     let a = c.args in
     let p = c.requires in
     let n = c.count-k in
@@ -62,7 +31,7 @@ quotients-requires c =
     let q = c.shift_powers in
     let g = c.gather in
     let same = elements_even (spelling_of a.field) g.new.values a.tops.now g.auto.values in
-    let r = rooted_part (field_of a.field) (laws a.field) a.pw.now (length (elements_at a.field a.table.now)) a.oracle n.result _ fits table a.j (zeros 33) q.new.powers p.j_lt_step.0 p.j_lt_step.1.0 (length_zeros 33) q.auto.powers (q.ensures a.field _ table) (same ∙ sym n.ensures) in record { ac_len = (p.ac_len.0, (p.ac_len.1.0, p.j_lt_step.1.1 ∙ sym same)); rooted = r.0; powers_len_bound = omega (arith, r.1, fits.used) }
+    let r = rooted_part (field_of a.field) (laws a.field) a.pw.now (length (elements_at a.field a.table.now)) a.oracle n.result _ fits table a.j (zeros 33) q.new.powers p.j_lt_step.0 p.j_lt_step.1.0 (length_zeros 33) q.auto.powers (q.ensures a.field _ table) (same ∙ sym n.ensures) in r.0
 
 pub returns : goal.returns
 returns c =

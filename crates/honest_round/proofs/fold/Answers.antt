@@ -8,9 +8,6 @@ use Rattle.honest_words.specs.Sizes.{numbers}
 use Rattle.honest_round.proofs.Rounds.{folded_is}
 use Rattle.honest_round.proofs.fold.Goals as goal
 
-pub bounds-w-0 : goal.bounds-w-0
-bounds-w-0 c = omega (arith, (numbers c.requires.0).twelve)
-
 pub fold-requires : goal.fold-requires
 fold-requires c =
     let a = c.args in

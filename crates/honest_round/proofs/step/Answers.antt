@@ -8,9 +8,6 @@ use Rattle.honest_round.proofs.Rounds.{next_words, part_fits, part_long, part_si
 use Rattle.honest_round.proofs.step.Goals as goal
 
 -- `honest_round::step` meets its contract. The places are enough. Assumes nothing.
-pub bounds-w-0 : goal.bounds-w-0
-bounds-w-0 c = omega (arith, early {P = Unit {0}} (c.requires.invariant, tt))
-
 pub overflow_mul-n : goal.overflow_mul-n
 overflow_mul-n c =
     let a = c.args in

@@ -11,12 +11,6 @@ use Rattle.honest_words.proofs.Words.{coined, early, later_long, later_words_lem
 use Rattle.honest_words.proofs.round.Goals as goal
 
 -- `honest_words::round` meets its contract. The table, and the words after it. Assumes nothing.
-pub bounds-w-5 : goal.bounds-w-5
-bounds-w-5 c = omega (arith, early {P = Unit {0}} (c.requires.invariant, tt))
-
-pub overflow_cast-s : goal.overflow_cast-s
-overflow_cast-s c = omega (arith, early {P = Unit {0}} (c.requires.invariant, tt))
-
 pub overflow_add-t : goal.overflow_add-t
 overflow_add-t c = omega (arith, early {P = Unit {0}} (c.requires.invariant, tt))
 
@@ -25,13 +19,6 @@ offset_bounds-w-level c = omega (arith, early {P = Unit {0}} (c.requires.invaria
 
 pub bounds-w-level : goal.bounds-w-level
 bounds-w-level c = omega (arith, early {P = Unit {0}} (c.requires.invariant, tt))
-
-pub overflow_cast-t : goal.overflow_cast-t
-overflow_cast-t c = omega (arith, early {P = Unit {0}} (c.requires.invariant, tt))
-
-pub bounds-w-0 : goal.bounds-w-0
-bounds-w-0 c =
-    omega (arith, early {P = Unit {0}} (c.requires.invariant, tt))
 
 pub overflow_mul-n : goal.overflow_mul-n
 overflow_mul-n c =
@@ -52,10 +39,6 @@ overflow_mul-a c =
     let a = c.args in
     let d = c.width-width in
     omega (arith, (coined d.result a.out.now (c.requires.invariant, (c.requires.g_len, c.requires.round_coins_fit)) d.ensures).few)
-
-pub overflow_add-b : goal.overflow_add-b
-overflow_add-b c =
-    omega (arith, early {P = Unit {0}} (c.requires.invariant, tt))
 
 pub overflow_mul-b : goal.overflow_mul-b
 overflow_mul-b c =
@@ -91,10 +74,6 @@ pub table-requires : goal.table-requires
 table-requires c =
     let a = c.args in
     let d = c.width-width in record { on_level = next_on_level c.requires.invariant.0 c.requires.invariant.1 _ _ c.requires.g_len (table_size d.result a.out.now (c.requires.invariant, (c.requires.g_len, c.requires.round_coins_fit)) d.ensures); out_len = table_whole d.result a.out.now (c.requires.invariant, (c.requires.g_len, c.requires.round_coins_fit)) d.ensures }
-
-pub bounds-w-0-2 : goal.bounds-w-0-2
-bounds-w-0-2 c =
-    omega (arith, early {P = Unit {0}} (c.requires.invariant, tt))
 
 pub slice_bounds-after_table-end : goal.slice_bounds-after_table-end
 slice_bounds-after_table-end c =

@@ -1,14 +1,9 @@
 use native.Mathlib.Omega.{arith}
 use mathlib.Core.Path.{◌∙◌}
-use Rattle.honest_words.specs.Sizes.{numbers}
 use Rattle.honest_words.specs.Tables.{level_asks, level_table, level_words}
 use Rattle.honest_words.proofs.table.Goals as goal
 
 -- `honest_words::table` meets its contract. Assumes nothing.
-pub bounds-w-0 : goal.bounds-w-0
-bounds-w-0 c =
-    omega (arith, (numbers c.requires.on_level.invariant.place).twelve)
-
 pub domain_table-requires : goal.domain_table-requires
 domain_table-requires c =
     let q = level_asks c.requires.on_level in record { halves = q.0; scale_nonzero = q.1; out_len = (c.requires.out_len, omega (arith, c.requires.out_len, level_words c.requires.on_level)) }

@@ -17,5 +17,5 @@ pub loop-n-preserved : goal.loop-n-preserved
 loop-n-preserved g c =
     let from = c.loop-n.n in
     let within = c.loop-n.invariant.1 in
-    let joined = take-put_mid_past from (length c.loop-n.buffer - from) c.in-Ok.more c.loop-n.buffer c.read.new.buf within c.in-Ok.ensures.bound.0 in
-    (search rules, search rules, subst (Consumes _ _) joined (Consumes-trans _ _ _ _ _ c.loop-n.invariant.2 c.in-Ok.ensures.bytes.0))
+    let joined = take-put_mid_past from (length c.loop-n.buffer - from) c.in_ok-more.more c.loop-n.buffer c.read.new.buf within c.in_ok-more.ensures.bound.0 in
+    (search rules, search rules, subst (Consumes _ _) joined (Consumes-trans _ _ _ _ _ c.loop-n.invariant.2 c.in_ok-more.ensures.bytes.0))

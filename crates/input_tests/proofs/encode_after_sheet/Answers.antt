@@ -16,12 +16,12 @@ pub returns-then-f-words : goal.returns-then-f-words
 unfolding outcome_of
 returns-then-f-words c = λ output l. let a = c.args in other_count edition1 a.w.now a.f.now output c.words.ensures.0 c.if-f-words.true
 
-pub returns-in-At : goal.returns-in-At
+pub returns-in-Some : goal.returns-in-Some
 unfolding outcome_of
-returns-in-At c = λ output l.
+returns-in-Some c = λ output l.
     let a = c.args in
     let right = c.if-f-words.false ∙ c.words.ensures.0 in
-    no_element edition1 a.w.now a.f.now output right (coefficients_test edition1 a.w.now a.f.now right c.coefficient_out_of_range-range.ensures) c.in-At.is
+    no_element edition1 a.w.now a.f.now output right (coefficients_test edition1 a.w.now a.f.now right c.coefficient_out_of_range-range.ensures) c.in-Some.is
 
 pub overflow_cast-w-2 : goal.overflow_cast-w-2
 overflow_cast-w-2 c = omega (arith, c.shared_slice_known-5-1.given 1)

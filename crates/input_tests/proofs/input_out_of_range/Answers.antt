@@ -12,29 +12,29 @@ use Rattle.input_tests.proofs.input_out_of_range.Goals as goal
 pub bounds-w-0 : goal.bounds-w-0
 bounds-w-0 c = omega (arith, long_enough (edition_of c.args.e) c.args.w.now c.requires.e_in_bounds.0)
 
-pub returns-in-At : goal.returns-in-At
+pub returns-in-Some : goal.returns-in-Some
 unfolding place_of
-returns-in-At c =
+returns-in-Some c =
     let a = c.args in
     in_coefficients (edition_of a.e) a.w.now a.f.now c.requires.f_len (coin_kinds (layout (sheet_of (edition_of a.e) a.w.now))) a.coins.now _
-    (at_place c.coefficient_out_of_range-coefficient.ensures c.in-At.is)
+    (at_place c.coefficient_out_of_range-coefficient.ensures c.in-Some.is)
 
 pub overflow_add-result : goal.overflow_add-result
 overflow_add-result c =
     let a = c.args in
     omega (
       arith,
-      place_small (edition_of a.e) a.w.now a.f.now c.requires.f_len a.coins.now c.in-At-coin.place c.requires.e_in_bounds.0 c.requires.e_in_bounds.1 c.requires.coins_len
-          (at_place c.coin_out_of_range-coin.ensures c.in-At-coin.is),
+      place_small (edition_of a.e) a.w.now a.f.now c.requires.f_len a.coins.now c.in-Some-coin.place c.requires.e_in_bounds.0 c.requires.e_in_bounds.1 c.requires.coins_len
+          (at_place c.coin_out_of_range-coin.ensures c.in-Some-coin.is),
     )
 
-pub returns-in-At-coin : goal.returns-in-At-coin
+pub returns-in-Some-coin : goal.returns-in-Some-coin
 unfolding place_of
-returns-in-At-coin c =
+returns-in-Some-coin c =
     let a = c.args in
-    in_coins (edition_of a.e) a.w.now a.f.now c.requires.f_len (coin_kinds (layout (sheet_of (edition_of a.e) a.w.now))) a.coins.now c.in-At-coin.place
+    in_coins (edition_of a.e) a.w.now a.f.now c.requires.f_len (coin_kinds (layout (sheet_of (edition_of a.e) a.w.now))) a.coins.now c.in-Some-coin.place
     (nowhere c.coefficient_out_of_range-coefficient.ensures c.in_default.is)
-    (at_place c.coin_out_of_range-coin.ensures c.in-At-coin.is)
+    (at_place c.coin_out_of_range-coin.ensures c.in-Some-coin.is)
 
 pub returns : goal.returns
 unfolding place_of

@@ -31,12 +31,12 @@ returns-then-coins-coins_due c = λ output l.
     let a = c.args in
     other_coins (edition_of a.e) a.w.now a.f.now a.coins.now output (c.if-f-words.false ∙ c.words.ensures.0) c.coins_due.ensures c.if-coins-coins_due.true
 
-pub returns-in-At : goal.returns-in-At
+pub returns-in-Some : goal.returns-in-Some
 unfolding outcome_of
-returns-in-At c = λ output l.
+returns-in-Some c = λ output l.
     let a = c.args in
     out_of_range_lem (edition_of a.e) a.w.now a.f.now a.coins.now output (c.if-f-words.false ∙ c.words.ensures.0) (c.if-coins-coins_due.false ∙ c.coins_due.ensures)
-    c.input_out_of_range-range.ensures c.in-At.is
+    c.input_out_of_range-range.ensures c.in-Some.is
 
 pub returns-in-Refused : goal.returns-in-Refused
 unfolding outcome_of

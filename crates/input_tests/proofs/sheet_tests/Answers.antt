@@ -12,13 +12,13 @@ pub returns-then-w-sheet_words : goal.returns-then-w-sheet_words
 unfolding outcome_of
 returns-then-w-sheet_words c = other_length_lem (edition_of c.args.e) c.args.w.now c.sheet_words.ensures c.if-w-sheet_words.true
 
-pub returns-in-At : goal.returns-in-At
+pub returns-in-Some : goal.returns-in-Some
 unfolding outcome_of refuse_at
-returns-in-At c =
+returns-in-Some c =
     let ed = edition_of c.args.e in
     let w = c.args.w.now in
     all_words ed w c.sheet_words.ensures c.if-w-sheet_words.false
-    (refusal_of ed w (some c.in-At.place) (at_place c.broken-broken.ensures c.in-At.is))
+    (refusal_of ed w (some c.in-Some.place) (at_place c.broken-broken.ensures c.in-Some.is))
 
 pub returns : goal.returns
 unfolding outcome_of

@@ -1,13 +1,12 @@
-use Prim.Native.Nat.{◌-◌, ◌≤◌}
-use mathlib.Core.Path.{◌≡◌}
-use lib.ListN.{length, drop}
-use Rattle.definition.specs.Field.{field_of}
+use Rattle.std.proofs.Common.{◌≡◌, ◌≤◌, length, drop}
 use Rattle.inversions.specs.OneInversion.{product}
 use Rattle.inversions.proofs.Inverting.{Behind}
 use Rattle.inversions.proofs.products_behind.Given as goal
 
 abbrev pub invariant-loop-i : goal.invariant-loop-i
-invariant-loop-i l = (l.i ≤ length l.values) × ((length l.behind ≡ length l.initial.behind) × ((l.p ≡ product (field_of l.field) (drop l.i l.values)) × Behind (field_of l.field) l.values l.behind l.i))
-
-abbrev pub decreases-loop-i : goal.decreases-loop-i
-decreases-loop-i l = l.i
+invariant-loop-i g l =
+    let A = g.A.Arithmetic in
+    let F = A.over l.a in
+    let v = A.elements l.values in
+    (length l.behind ≡ length l.initial.behind)
+    × ((length v ≤ length (A.elements l.behind)) × ((A.value l.p ≡ product F (drop l.i v)) × Behind F v (A.elements l.behind) l.i))

@@ -10,12 +10,12 @@ use Rattle.tables.specs.Halving.{Halves}
 use Rattle.nearest.proofs.Candidates.{concluded, nothing}
 use Rattle.nearest.proofs.search.Goals as goal
 
-pub returns-in_default : goal.returns-in_default
+pub returns-then-not-found : goal.returns-then-not-found
 unfolding answer_of
-returns-in_default c =
+returns-then-not-found c =
     let a = c.args in
     let t = c.candidate-found in
-    nothing a.field a.pw.now a.table.now a.d t.result t.new.out t.ensures a.output.now c.in_default.is
+    nothing a.field a.pw.now a.table.now a.d t.result t.new.out t.ensures a.output.now c.if-not-found.true
 
 pub conclude-requires : goal.conclude-requires
 conclude-requires c =
@@ -31,5 +31,5 @@ returns c =
     let a = c.args in
     let t = c.candidate-found in
     let f = t.new.out in
-    concluded a.field a.pw.now a.table.now a.d t.result f t.ensures c.in-Found.is
+    concluded a.field a.pw.now a.table.now a.d t.result f t.ensures c.if-not-found.false
     (elements_many (spelling_of a.field) a.d f (t.auto.out ∙ c.requires.table_len.1.1.0)) a.output.now c.conclude.ensures

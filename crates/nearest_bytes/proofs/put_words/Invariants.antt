@@ -1,4 +1,3 @@
-use Prim.Native.Nat.{◌-◌, ◌≤◌}
 use mathlib.Core.List.{flat_map}
 use mathlib.Core.Path.{◌≡◌}
 use lib.ListN.{length, take}
@@ -7,7 +6,4 @@ use Rattle.list_laws.specs.Overwriting.{overwrite}
 use Rattle.nearest_bytes.proofs.put_words.Given as goal
 
 abbrev pub invariant-loop-i : goal.invariant-loop-i
-invariant-loop-i l = (l.count ≡ length l.words) × ((l.i ≤ length l.words) × ((length l.output ≡ length l.initial.output) × (l.output ≡ overwrite l.initial.output 0 (flat_map bytes_of (take l.i l.words)))))
-
-abbrev pub decreases-loop-i : goal.decreases-loop-i
-decreases-loop-i l = length l.words - l.i
+invariant-loop-i l = (length l.output ≡ length l.initial.output) × (l.output ≡ overwrite l.initial.output 0 (flat_map bytes_of (take l.i l.words)))

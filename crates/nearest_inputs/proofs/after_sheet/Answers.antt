@@ -16,13 +16,13 @@ pub returns-then-table-words : goal.returns-then-table-words
 unfolding outcome_of
 returns-then-table-words c = λ output l. let a = c.args in other_count a.w.now a.table.now output c.words.ensures.0 c.if-table-words.true
 
-pub returns-in-At : goal.returns-in-At
+pub returns-in-Some : goal.returns-in-Some
 unfolding outcome_of
-returns-in-At c =
+returns-in-Some c =
     λ output l.
     let a = c.args in
     let right = c.if-table-words.false ∙ c.words.ensures.0 in
-    no_entry a.w.now a.table.now output right _ c.coefficient_out_of_range-range.ensures c.in-At.is
+    no_entry a.w.now a.table.now output right _ c.coefficient_out_of_range-range.ensures c.in-Some.is
 
 pub overflow_cast-d : goal.overflow_cast-d
 overflow_cast-d c = omega (arith, c.shared_slice_known-5-1.given 2)

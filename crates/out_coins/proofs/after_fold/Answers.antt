@@ -4,7 +4,7 @@ use Rattle.layouts.specs.SheetRules.{long_enough}
 use Rattle.edition.specs.Meaning.{edition_of}
 use Rattle.outcome.specs.Answers.{at_place, nowhere}
 use Rattle.outcome.specs.Meaning.{outcome_of, place_of}
-use Rattle.out_coins.proofs.Rounds.{asked, begin, ended, ended_at, ended_nowhere, few_messages, few_rounds, found, in_words, outs_first, round_there, small_scale, some_scale, turned, twelve}
+use Rattle.out_coins.proofs.Rounds.{asked, begin, ended, ended_at, ended_nowhere, few_messages, few_rounds, found, found_first, in_words, outs_first, round_there, small_scale, some_scale, turned, twelve}
 use Rattle.out_coins.proofs.after_fold.Goals as goal
 
 pub bounds-w-0 : goal.bounds-w-0
@@ -56,13 +56,13 @@ first_inside-inside-requires c =
     let r = c.loop-i.invariant _ A in
     (some_scale A r c.loop-i-test.true, omega (arith, round_there A r c.loop-i-test.true c.requires.powers.1, in_words _ c.words.ensures.0 c.messages.ensures, outs_first c.args.alone c.args.w.now c.loop-i.i))
 
-pub returns-in-At : goal.returns-in-At
+pub returns-in-Some : goal.returns-in-Some
 unfolding outcome_of place_of
-returns-in-At c =
+returns-in-Some c =
     let A = asked c.requires.e_in_bounds c.requires.w_in_bounds in
     let r = c.loop-i.invariant _ A in
     found A r c.loop-i-test.true c.requires.powers.1 c.args.pw.now refl (edition_of c.args.e) c.requires.powers.0 (in_words _ c.words.ensures.0 c.messages.ensures) c.first_inside-inside.ensures
-    (at_place refl c.in-At.is)
+    (at_place refl c.in-Some.is)
 
 pub second_equal-requires : goal.second_equal-requires
 second_equal-requires c =
@@ -75,27 +75,18 @@ after_round-at-requires c =
     let A = asked c.requires.e_in_bounds c.requires.w_in_bounds in
     let r = c.loop-i.invariant _ A in record { in_bounds = (twelve A, omega (arith, few_rounds A, c.loop-i-test.true)); i_bound = omega (arith, round_there A r c.loop-i-test.true c.requires.powers.1, in_words _ c.words.ensures.0 c.messages.ensures) }
 
-pub overflow_add-i : goal.overflow_add-i
-overflow_add-i c =
-    let A = asked c.requires.e_in_bounds c.requires.w_in_bounds in
-    let r = c.loop-i.invariant _ A in
-    omega (arith, few_rounds A, c.loop-i-test.true)
-
-pub loop-i-smaller : goal.loop-i-smaller
-loop-i-smaller c = omega (arith, c.loop-i-test.true)
-
 pub loop-i-preserved : goal.loop-i-preserved
 unfolding place_of
 loop-i-preserved c =
     λ ed A.
     turned A (c.loop-i.invariant ed A) c.loop-i-test.true c.requires.powers.1 c.args.pw.now refl (edition_of c.args.e) c.requires.powers.0 (in_words _ c.words.ensures.0 c.messages.ensures)
-    c.first_inside-inside.ensures (nowhere refl c.in_default.is) c.first_of-equal.ensures c.second_equal.ensures c.after_round-at.ensures
+    c.first_inside-inside.ensures (nowhere refl c.in_default.is) (found_first _ _ c.or-equal.ensures) c.second_equal.ensures c.after_round-at.ensures
 
-pub returns-in-At-equal : goal.returns-in-At-equal
+pub returns-in-Some-equal : goal.returns-in-Some-equal
 unfolding outcome_of
-returns-in-At-equal c =
+returns-in-Some-equal c =
     let A = asked c.requires.e_in_bounds c.requires.w_in_bounds in
-    ended_at c.in-At-equal.is (ended A (c.loop-i.invariant _ A) c.loop-i-test.false)
+    ended_at c.in-Some-equal.is (ended A (c.loop-i.invariant _ A) c.loop-i-test.false)
 
 pub returns : goal.returns
 unfolding outcome_of

@@ -5,6 +5,3 @@ use Rattle.out_coins.proofs.after_fold.Given as goal
 
 abbrev pub invariant-loop-i : goal.invariant-loop-i
 invariant-loop-i l = InEach l.w l.alone l.words l.start (place_of l.equal) l.at l.scale l.i
-
-abbrev pub decreases-loop-i : goal.decreases-loop-i
-decreases-loop-i l = l.rounds - l.i

@@ -1,51 +1,26 @@
-use Prim.Native.Nat.{ℕ}
-use native.Mathlib.Omega.{arith}
-use mathlib.Core.Path.{sym, ap, ◌∙◌}
-use lib.ListN.{length, length-replicate}
-use Rattle.places.specs.Marks.{count_start, count_done, index_below, mark_new, mark_old, marked_start, marked_turn}
+use native.Mathlib.Numerals.{unary_clauses}
+use mathlib.Core.Path.{ap}
+use Rattle.std.proofs.lemmas.List.{length_push}
+use Rattle.std.proofs.lemmas.Iterator.Adapters.{YieldsList-from_rev_slice}
+use Rattle.std.proofs.lemmas.Iterator.Consumers.{YieldsList-turn}
+use Rattle.places.specs.Marks.{count_start, marked_start}
+use Rattle.places.proofs.Turn.{next_marks, next_new, next_old}
 use Rattle.std.specs.Prelude.{not}
 use Rattle.places.proofs.count_by.Goals as goal
 
-pub loop-i-init : goal.loop-i-init
-loop-i-init c = (count_start c.args.js.now, marked_start c.args.js.now c.args.marks.now c.requires.marks_value)
+pub loop-j-init : goal.loop-j-init
+loop-j-init c = simp unary_clauses (count_start c.args.js.now, marked_start c.args.js.now c.args.marks.now c.requires.marks_value)
 
-pub offset_bounds-js-i : goal.offset_bounds-js-i
-offset_bounds-js-i c = omega (arith, c.loop-i.invariant.0.within)
+pub loop-j-preserved-then-not-mark : goal.loop-j-preserved-then-not-mark
+loop-j-preserved-then-not-mark c =
+    let l = c.loop-j in
+    let s = length_push l.yielded c.in-Some.j in
+    let t = YieldsList-turn (YieldsList-from_rev_slice c.args.js.now cc) l.yielded _ l.yielded_by _ _ c.in-Some.j c.in-Some.is c.next.ensures.steps in
+    (next_new _ l.marks _ _ _ _ c.requires.all t s l.invariant c.mark.ensures.value (ap not c.if-not-mark.true), next_marks _ l.marks l.count _ _ _ c.requires.all t s l.invariant c.mark.ensures.marks_after)
 
-pub bounds-js-i : goal.bounds-js-i
-bounds-js-i c = omega (arith, c.loop-i.invariant.0.within)
-
-pub overflow_cast-js : goal.overflow_cast-js
-overflow_cast-js c =
-    let l = c.loop-i in
-    omega (arith, index_below c.args.js.now l.marks l.count l.i c.requires.all (omega arith) l.invariant.0 l.invariant.1)
-
-pub mark-requires : goal.mark-requires
-mark-requires c =
-    let l = c.loop-i in
-    omega (arith, l.invariant.1.long, index_below c.args.js.now l.marks l.count l.i c.requires.all (omega arith) l.invariant.0 l.invariant.1)
-
-pub overflow_add-count : goal.overflow_add-count
-overflow_add-count c = omega (arith, c.loop-i.invariant.0.few)
-
-pub loop-i-preserved-then-not-mark : goal.loop-i-preserved-then-not-mark
-loop-i-preserved-then-not-mark c =
-    let l = c.loop-i in
-    let m = c.mark in (
-      mark_new c.args.js.now l.marks l.count l.i c.requires.all (omega arith) l.invariant.0 l.invariant.1 m.ensures.value (ap not c.if-not-mark.true),
-      rw m.ensures.marks_after (marked_turn c.args.js.now l.marks l.count l.i c.requires.all (omega arith) l.invariant.0 l.invariant.1),
-    )
-
-pub loop-i-preserved : goal.loop-i-preserved
-loop-i-preserved c =
-    let l = c.loop-i in
-    let m = c.mark in (
-      mark_old c.args.js.now l.marks l.count l.i c.requires.all (omega arith) l.invariant.0 l.invariant.1 m.ensures.value (ap not c.if-not-mark.false),
-      rw m.ensures.marks_after (marked_turn c.args.js.now l.marks l.count l.i c.requires.all (omega arith) l.invariant.0 l.invariant.1),
-    )
-
-pub shape_of-marks : goal.shape_of-marks
-shape_of-marks c = c.loop-i.invariant.1.long ∙ sym (ap length c.requires.marks_value ∙ length-replicate {A = ℕ} 2048 0)
-
-pub returns : goal.returns
-returns c = count_done _ _ _ (omega arith) c.loop-i.invariant.0
+pub loop-j-preserved : goal.loop-j-preserved
+loop-j-preserved c =
+    let l = c.loop-j in
+    let s = length_push l.yielded c.in-Some.j in
+    let t = YieldsList-turn (YieldsList-from_rev_slice c.args.js.now cc) l.yielded _ l.yielded_by _ _ c.in-Some.j c.in-Some.is c.next.ensures.steps in
+    (next_old _ l.marks _ _ _ _ c.requires.all t s l.invariant c.mark.ensures.value (ap not c.if-not-mark.false), next_marks _ l.marks l.count _ _ _ c.requires.all t s l.invariant c.mark.ensures.marks_after)

@@ -1,9 +1,7 @@
-use lib.ListN.{drop}
+use Prim.Native.Nat.{◌-◌}
+use lib.ListN.{length, drop}
 use Rattle.places.specs.Marks.{Counted, Marked}
 use Rattle.places.proofs.count_by.Given as goal
 
-abbrev pub invariant-loop-i : goal.invariant-loop-i
-invariant-loop-i l = Counted l.js l.count l.i × Marked 2048 (drop l.i l.js) l.marks
-
-abbrev pub decreases-loop-i : goal.decreases-loop-i
-decreases-loop-i l = l.i
+abbrev pub invariant-loop-j : goal.invariant-loop-j
+invariant-loop-j l = let i = length l.js - length l.yielded in Counted l.js l.count i × Marked 2048 (drop i l.js) l.marks

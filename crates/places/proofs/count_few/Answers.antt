@@ -7,26 +7,11 @@ use Rattle.places.proofs.count_few.Goals as goal
 pub loop-i-init : goal.loop-i-init
 loop-i-init c = count_start _
 
-pub overflow_add-i : goal.overflow_add-i
-overflow_add-i c = omega (arith, c.loop-i.invariant.within)
-
-pub offset_bounds-js-i : goal.offset_bounds-js-i
-offset_bounds-js-i c = omega (arith, c.loop-i.invariant.within)
-
-pub bounds-js-i : goal.bounds-js-i
-bounds-js-i c = omega (arith, c.loop-i.invariant.within)
-
-pub found-requires : goal.found-requires
-found-requires c = omega (arith, c.loop-i.invariant.within)
-
-pub overflow_add-count : goal.overflow_add-count
-overflow_add-count c = omega (arith, c.loop-i.invariant.few)
+pub returns : goal.returns
+returns c = count_done _ _ _ (omega arith) c.loop-i.invariant
 
 pub loop-i-preserved-then-not-found : goal.loop-i-preserved-then-not-found
 loop-i-preserved-then-not-found c = let l = c.loop-i in few_new _ _ _ (omega arith) l.invariant c.found.ensures (ap not c.if-not-found.true)
 
 pub loop-i-preserved : goal.loop-i-preserved
 loop-i-preserved c = let l = c.loop-i in few_old _ _ _ (omega arith) l.invariant c.found.ensures (ap not c.if-not-found.false)
-
-pub returns : goal.returns
-returns c = count_done _ _ _ (omega arith) c.loop-i.invariant

@@ -1,25 +1,12 @@
+use mathlib.Core.Path.{◌∙◌, ap}
+use lib.ListN.{drop, length-drop}
+use lib.Seq.{take_all}
 use native.Mathlib.Omega.{arith}
-use mathlib.Core.Path.{◌∙◌, refl}
-use Rattle.places.proofs.Search.{here, next, nowhere}
+use lib.Dec.{eqb}
+use Rattle.definition.specs.Lists.{member}
+use Rattle.places.proofs.Search.{any_member}
 use Rattle.places.proofs.found.Goals as goal
 
-pub loop-i-init : goal.loop-i-init
-loop-i-init c = (omega arith, refl)
-
-pub returns-then-x-xs : goal.returns-then-x-xs
-returns-then-x-xs c =
-    let a = c.args in
-    let l = c.loop-i in
-    here a.xs.now l.i a.x (omega arith) c.if-x-xs.true ∙ l.invariant.1
-
-pub loop-i-preserved : goal.loop-i-preserved
-loop-i-preserved c =
-    let a = c.args in
-    let l = c.loop-i in
-    (omega arith, next a.xs.now l.i a.x (omega arith) c.if-x-xs.false ∙ l.invariant.1)
-
 pub returns : goal.returns
-returns c =
-    let a = c.args in
-    let l = c.loop-i in
-    nowhere a.xs.now l.i a.x (omega arith) ∙ l.invariant.1
+returns c = let a = c.args in
+    c.contains.ensures.value ∙ any_member a.x _ ∙ ap (member eqb a.x) (take_all _ (drop a.from a.xs.now) (omega (arith, length-drop a.from a.xs.now)))

@@ -12,7 +12,7 @@ pub modulus-p-requires : goal.modulus-p-requires
 modulus-p-requires c = tt
 
 pub loop-i-init : goal.loop-i-init
-loop-i-init c = (c.modulus-p.ensures, (omega arith, refl))
+loop-i-init c = refl
 
 pub returns-then-p-f : goal.returns-then-p-f
 unfolding place_of
@@ -20,19 +20,18 @@ returns-then-p-f c =
     let a = c.args in
     let l = c.loop-i in
     let p = prime_of a.field in
-    true_here (leb p) a.f.now l.i (omega arith) (le-leb p (get_or a.f.now l.i 0) (omega (arith, c.if-p-f.true, l.invariant.0))) ∙ l.invariant.1.1
+    true_here (leb p) a.f.now l.i (omega arith) (le-leb p (get_or a.f.now l.i 0) (omega (arith, c.if-p-f.true, c.modulus-p.ensures))) ∙ l.invariant
 
 pub loop-i-preserved : goal.loop-i-preserved
 loop-i-preserved c =
     let a = c.args in
     let l = c.loop-i in
     let p = prime_of a.field in
-    let e = l.invariant.0 in
-    (e, (omega arith, false_here (leb p) a.f.now l.i (omega arith) (lt-leb p (get_or a.f.now l.i 0) (omega (arith, c.if-p-f.false, e))) ∙ l.invariant.1.1))
+    false_here (leb p) a.f.now l.i (omega arith) (lt-leb p (get_or a.f.now l.i 0) (omega (arith, c.if-p-f.false, c.modulus-p.ensures))) ∙ l.invariant
 
 pub returns : goal.returns
 unfolding place_of
 returns c =
     let a = c.args in
     let l = c.loop-i in
-    none_left (leb (prime_of a.field)) a.f.now l.i (omega arith) ∙ l.invariant.1.1
+    none_left (leb (prime_of a.field)) a.f.now l.i (omega arith) ∙ l.invariant

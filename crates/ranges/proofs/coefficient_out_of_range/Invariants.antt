@@ -7,7 +7,4 @@ use Rattle.ranges.proofs.FirstFrom.{first_from}
 use Rattle.ranges.proofs.coefficient_out_of_range.Given as goal
 
 abbrev pub invariant-loop-i : goal.invariant-loop-i
-invariant-loop-i l = (l.p ≡ prime_of l.field) × ((l.i ≤ length l.f) × (first_from (leb (prime_of l.field)) l.f l.i ≡ first_from (leb (prime_of l.field)) l.f 0))
-
-abbrev pub decreases-loop-i : goal.decreases-loop-i
-decreases-loop-i l = length l.f - l.i
+invariant-loop-i l = first_from (leb (prime_of l.field)) l.f l.i ≡ first_from (leb (prime_of l.field)) l.f 0

@@ -4,7 +4,4 @@ use Rattle.ranges.specs.Rounds.{divided}
 use Rattle.ranges.proofs.divide.Given as goal
 
 abbrev pub invariant-loop-i : goal.invariant-loop-i
-invariant-loop-i l = (l.i ≤ l.times) × (l.q ≡ divided l.x l.b l.i)
-
-abbrev pub decreases-loop-i : goal.decreases-loop-i
-decreases-loop-i l = l.times - l.i
+invariant-loop-i l = l.q ≡ divided l.x l.b l.i

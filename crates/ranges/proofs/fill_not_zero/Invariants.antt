@@ -6,12 +6,9 @@ use lib.ListN.{length}
 use Rattle.ranges.proofs.FirstFrom.{first_from}
 use Rattle.ranges.proofs.fill_not_zero.Given as goal
 
--- `ranges::fill_not_zero`: the first word that is not zero from `at` on is the first of all. The measure is the number of words left.
+-- `ranges::fill_not_zero`: the first word that is not zero from `at` on is the first of all.
 abbrev pub filled : ℕ → Bool
 filled x = not (eqb x 0)
 
 abbrev pub invariant-loop-at : goal.invariant-loop-at
-invariant-loop-at l = (l.at ≤ length l.w) × (first_from filled l.w l.at ≡ first_from filled l.w l.due)
-
-abbrev pub decreases-loop-at : goal.decreases-loop-at
-decreases-loop-at l = length l.w - l.at
+invariant-loop-at l = first_from filled l.w l.at ≡ first_from filled l.w l.due

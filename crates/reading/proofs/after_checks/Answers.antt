@@ -20,12 +20,12 @@ broken-broken-requires c =
     let ed = edition_of c.args.e in
     front_long ed c.args.words.now c.sheet_words-first.ensures (omega (arith, c.requires, c.sheet_words-first.ensures, short_sheet ed))
 
-pub returns-in-At : goal.returns-in-At
+pub returns-in-Some : goal.returns-in-Some
 unfolding outcome_of
-returns-in-At c = λ w l.
+returns-in-Some c = λ w l.
     let ed = edition_of c.args.e in
-    sheet_broken ed c.requires.1 l c.in-At.place
-    (front_broken ed c.args.words.now c.sheet_words-first.ensures (at_place c.broken-broken.ensures c.in-At.is))
+    sheet_broken ed c.requires.1 l c.in-Some.place
+    (front_broken ed c.args.words.now c.sheet_words-first.ensures (at_place c.broken-broken.ensures c.in-Some.is))
 
 pub words_due-due-requires : goal.words_due-due-requires
 words_due-due-requires c =

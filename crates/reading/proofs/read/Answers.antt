@@ -23,13 +23,13 @@ returns-then-file-ne0 c =
     read_refused ed f _ (no_blocks f _ c.if-file-eq0.false c.if-file-ne0.true)
 
 -- src/lib.rt:63:9
-pub returns-in-At : goal.returns-in-At
+pub returns-in-Some : goal.returns-in-Some
 unfolding reading
-returns-in-At c =
+returns-in-Some c =
     let a = c.args in
     let f = a.file.now in
     let ed = edition_of a.e in
-    read_refused ed f _ (wrong_check f _ c.if-file-eq0.false c.if-file-ne0.false c.in-At.place (at_place c.load-check.ensures.checked c.in-At.is))
+    read_refused ed f _ (wrong_check f _ c.if-file-eq0.false c.if-file-ne0.false c.in-Some.place (at_place c.load-check.ensures.checked c.in-Some.is))
 
 -- src/lib.rt:51:1
 pub returns : goal.returns

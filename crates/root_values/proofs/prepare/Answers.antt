@@ -1,5 +1,4 @@
 use Prim.Native.Nat.{◌*◌, ◌≤◌, ◌<◌}
-use native.Mathlib.Nat.{mul-le-mul}
 use native.Mathlib.Omega.{arith}
 use mathlib.Core.Path.{sym}
 use lib.ListN.{length}
@@ -7,30 +6,17 @@ use lib.Seq.{length-take-le}
 use Rattle.definition.specs.Field.{spelling_of}
 use Rattle.spelling.specs.ByField.{elements_at, field_at, points_at}
 use Rattle.spelling.specs.Words.{elements_even}
-use Rattle.fractions.specs.Values.{folded, root_in, table_place}
+use Rattle.fractions.specs.Values.{folded, root_in}
 use Rattle.root_values.proofs.Ready.{divisible_words, front_fits, front_size, ready_first_words, ready_words}
 use Rattle.root_values.proofs.prepare.Goals as goal
 
 -- `root_values::prepare` meets its contract. Assumes nothing.
-pub all_tables-requires : goal.all_tables-requires
-all_tables-requires c =
-    let p = c.requires in record { by_index = λ i m l u. table_place p.fits (p.below i l) m u; k_in_bounds = (p.k_in_bounds.0, p.fits.few) }
 
 pub returns-then-oracle-eq0 : goal.returns-then-oracle-eq0
 returns-then-oracle-eq0 c =
     let a = c.args in
     let t = c.all_tables in
     ready_first_words a.field a.pw.now a.table.now a.ac.now a.vg.now a.oracle a.k c.requires.fits a.js.now t.new.out c.if-oracle-eq0.true t.ensures
-
-pub all_fractions-requires : goal.all_fractions-requires
-all_fractions-requires c =
-    let p = c.requires in record { ac_len = p.ac_len; fits = p.fits; below = (p.below, (omega (arith, c.if-oracle-eq0.false), (p.k_in_bounds.0, p.k_in_bounds.1.0))) }
-
-pub overflow_mul-js : goal.overflow_mul-js
-overflow_mul-js c = let p = c.requires in omega (arith, mul-le-mul p.k_in_bounds.1.1 p.fits.few)
-
-pub words-n-requires : goal.words-n-requires
-words-n-requires c = let p = c.requires in omega (arith, mul-le-mul p.k_in_bounds.1.1 p.fits.few)
 
 pub slice_bounds-divide-end : goal.slice_bounds-divide-end
 slice_bounds-divide-end c =

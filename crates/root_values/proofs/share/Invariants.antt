@@ -1,12 +1,5 @@
-use Prim.Native.Nat.{◌-◌, ◌≤◌}
-use lib.ListN.{length}
-use Rattle.definition.specs.Field.{field_of}
-use Rattle.algebra.specs.PrimeField.{laws}
 use Rattle.root_values.proofs.Dividing.{Sharing}
 use Rattle.root_values.proofs.share.Given as goal
 
 abbrev pub invariant-loop-m : goal.invariant-loop-m
-invariant-loop-m l = (l.m ≤ length l.initial.tops) × Sharing (field_of l.field) (laws l.field) l.bottoms l.initial.tops l.tops l.m l.left
-
-abbrev pub decreases-loop-m : goal.decreases-loop-m
-decreases-loop-m l = l.m
+invariant-loop-m g l = let A = g.A.Arithmetic in Sharing (A.over l.a) (A.laws l.a) (A.elements l.bottoms) (A.elements l.initial.tops) (A.elements l.tops) l.m (A.value l.left)

@@ -6,7 +6,7 @@ use Rattle.definition.specs.Field.{spelling_of}
 use Rattle.definition.specs.Polynomial.{pair}
 use Rattle.spelling.specs.ByField.{elements_at, field_at, laws_at}
 use Rattle.spelling.specs.Words.{elements_even}
-use Rattle.samples.specs.Answers.{kept_from, kept_clash, kept_none, room}
+use Rattle.samples.specs.Answers.{kept_from, kept_clash, kept_none}
 use Rattle.rounds.specs.SamplesIn.{numbered}
 use Rattle.rounds.proofs.Shifts.{shifts_end, shifts_turn, shifts_clash, shifts_all, room_add}
 use Rattle.rounds.proofs.gather_by_roots.Invariants.{sample_at}
@@ -23,8 +23,8 @@ sample_at-s-requires c =
     let p = c.requires in
     let n = c.loop-i.invariant in record { i_in_bounds = omega (arith, n.0, c.loop-i-test.true); k_in_bounds = p.k_in_bounds; fits = p.fits; below = (p.below.0, n.1.1.1.1.1.1 ∙ p.below.1) }
 
-pub push-f-requires : goal.push-f-requires
-push-f-requires c =
+pub push-requires : goal.push-requires
+push-requires c =
     let a = c.args in
     let l = c.loop-i in
     let n = l.invariant in
@@ -35,32 +35,29 @@ push-f-requires c =
     let same = elements_even σ a.py.now a.px.now m.0 in
     (omega (arith, c.loop-i-test.true, n.0, n.1.1.0, m.1.1), (omega (arith, n.1.0, same-x), same-y ∙ same ∙ sym same-x))
 
-pub shape_of-values-in_default : goal.shape_of-values-in_default
-shape_of-values-in_default c = c.sample_at-s.auto.values ∙ c.loop-i.invariant.1.1.1.1.1.1
+pub shape_of-values-in_err-from : goal.shape_of-values-in_err-from
+shape_of-values-in_err-from c = c.sample_at-s.auto.values ∙ c.loop-i.invariant.1.1.1.1.1.1
 
-pub shape_of-px-in_default : goal.shape_of-px-in_default
-shape_of-px-in_default c = c.push-f.auto.xs ∙ c.loop-i.invariant.1.1.1.0
+pub shape_of-px-in_err-from : goal.shape_of-px-in_err-from
+shape_of-px-in_err-from c = c.push.auto.xs ∙ c.loop-i.invariant.1.1.1.0
 
-pub shape_of-py-in_default : goal.shape_of-py-in_default
-shape_of-py-in_default c = c.push-f.auto.ys ∙ c.loop-i.invariant.1.1.1.1.0
+pub shape_of-py-in_err-from : goal.shape_of-py-in_err-from
+shape_of-py-in_err-from c = c.push.auto.ys ∙ c.loop-i.invariant.1.1.1.1.0
 
-pub returns-in_default : goal.returns-in_default
-returns-in_default c =
+pub returns-in_err-from : goal.returns-in_err-from
+returns-in_err-from c =
     let a = c.args in
     let l = c.loop-i in
-    let t = shifts_turn (field_at a.field) (sample_at a.field a.pw.now a.roots.now a.oracle a.k a.r) a.shifts.now (laws_at a.field) l.i c.loop-i-test.true l.invariant.0 l.invariant.1.1.1.1.1.0 c.sample_at-s.ensures c.push-f.ensures.ys_after in record { py_after = kept_none _ _ (shifts_clash (field_at a.field) (sample_at a.field a.pw.now a.roots.now a.oracle a.k a.r) a.shifts.now (pair (elements_at a.field a.outs.now) (elements_at a.field a.replies.now)) (l.i - 1) (kept_clash _ _ c.in_default.is t)); room = tt }
-
-pub loop-i-smaller : goal.loop-i-smaller
-loop-i-smaller c = omega (arith, c.loop-i-test.true)
+    let t = shifts_turn (field_at a.field) (sample_at a.field a.pw.now a.roots.now a.oracle a.k a.r) a.shifts.now (laws_at a.field) l.i c.loop-i-test.true l.invariant.0 l.invariant.1.1.1.1.1.0 c.sample_at-s.ensures c.in_err-from.ensures.ys_after in rw c.from_residual.ensures (record { py_after = kept_none _ _ (shifts_clash (field_at a.field) (sample_at a.field a.pw.now a.roots.now a.oracle a.k a.r) a.shifts.now (pair (elements_at a.field a.outs.now) (elements_at a.field a.replies.now)) (l.i - 1) (kept_clash (elements_at a.field c.push.new.xs) (elements_at a.field c.push.new.ys) refl t)); room = tt })
 
 pub loop-i-preserved : goal.loop-i-preserved
 loop-i-preserved c =
     let a = c.args in
     let l = c.loop-i in
     let n = l.invariant.1.1.1 in
-    let u = c.push-f in
+    let u = c.push in
     let h = c.loop-i-test.true in
-    let w = room l.from 1 c.in-From.is u.ensures.room in (
+    let w = c.in_ok-from.ensures.room in (
       omega (arith, l.invariant.0, h),
       (
         omega (arith, w.1, l.invariant.1.0),
@@ -71,7 +68,7 @@ loop-i-preserved c =
             (
               u.auto.ys ∙ n.1.0,
               (
-                kept_from (elements_at a.field u.new.xs) (elements_at a.field u.new.ys) c.in-From.is (shifts_turn (field_at a.field) (sample_at a.field a.pw.now a.roots.now a.oracle a.k a.r) a.shifts.now (laws_at a.field) l.i h l.invariant.0 n.1.1.0 c.sample_at-s.ensures u.ensures.ys_after),
+                kept_from (elements_at a.field u.new.xs) (elements_at a.field u.new.ys) refl (shifts_turn (field_at a.field) (sample_at a.field a.pw.now a.roots.now a.oracle a.k a.r) a.shifts.now (laws_at a.field) l.i h l.invariant.0 n.1.1.0 c.sample_at-s.ensures c.in_ok-from.ensures.ys_after),
                 c.sample_at-s.auto.values ∙ n.1.1.1,
               ),
             ),

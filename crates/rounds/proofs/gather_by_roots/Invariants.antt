@@ -26,6 +26,3 @@ invariant-loop-i l =
     × ((length l.py ≡ length l.initial.py)
     × ((some (pair (drop l.from (elements_at l.field l.px)) (drop l.from (elements_at l.field l.py))) ≡ distinct_or_clash (field_at l.field) (numbered (sample_at l.field l.pw l.roots l.oracle l.k l.r) l.i (drop l.i l.shifts)))
     × (length l.values ≡ length l.initial.values))))))
-
-abbrev pub decreases-loop-i : goal.decreases-loop-i
-decreases-loop-i l = l.i

@@ -1,31 +1,30 @@
-use mathlib.Core.Path.{◌∙◌, refl}
-use Prim.Native.Nat.{◌-◌}
-use native.Mathlib.Omega.{arith}
-use lib.Dec.{eqb}
-use borrow.Author.Tests.{eq-eqb, ne_eqb}
-use Rattle.samples.specs.Samples.{found_of}
+use Rattle.std.proofs.Common.{arith, refl, ap, sym, ◌∙◌}
+use Rattle.std.proofs.Math.Option.{some}
 use Rattle.samples.proofs.Steps.{here, next, end}
 use Rattle.samples.proofs.find.Goals as goal
 
 pub loop-i-init : goal.loop-i-init
-loop-i-init c = (omega arith, refl)
+loop-i-init g c = refl
 
-pub returns-then-x-xs : goal.returns-then-x-xs
-unfolding found_of
-returns-then-x-xs c =
-    let a = c.args in
+pub returns-then-same : goal.returns-then-same
+returns-then-same g c =
+    let A = g.A.Arithmetic in
+    let F = A.over c.args.a in
     let l = c.loop-i in
-    here eqb 0 a.xs.now a.ys.now l.i a.x (omega arith) (omega arith) (eq-eqb _ _ c.if-x-xs.true) ∙ l.invariant.1
+    let e = ap (F.equal (A.value c.args.x)) (sym c.get.ensures) ∙ sym c.same.ensures ∙ c.if-same.true in
+    ap some c.get-then-same.ensures ∙ here F.equal F.𝟘 (A.elements c.args.xs.now) (A.elements c.args.ys.now) l.i (A.value c.args.x) (omega (arith, c.count-i-end.ensures)) c.requires.1 e ∙ l.invariant
 
 pub loop-i-preserved : goal.loop-i-preserved
-loop-i-preserved c =
-    let a = c.args in
+loop-i-preserved g c =
+    let A = g.A.Arithmetic in
+    let F = A.over c.args.a in
     let l = c.loop-i in
-    (omega arith, next eqb 0 a.xs.now a.ys.now l.i a.x (omega arith) (omega arith) (ne_eqb _ _ c.if-x-xs.false) ∙ l.invariant.1)
+    let e = ap (F.equal (A.value c.args.x)) (sym c.get.ensures) ∙ sym c.same.ensures ∙ c.if-same.false in
+    next F.equal F.𝟘 (A.elements c.args.xs.now) (A.elements c.args.ys.now) l.i (A.value c.args.x) (omega (arith, c.count-i-end.ensures)) c.requires.1 e ∙ l.invariant
 
 pub returns : goal.returns
-unfolding found_of
-returns c =
-    let a = c.args in
+returns g c =
+    let A = g.A.Arithmetic in
+    let F = A.over c.args.a in
     let l = c.loop-i in
-    end eqb 0 a.xs.now a.ys.now l.i a.x (omega arith) ∙ l.invariant.1
+    end F.equal F.𝟘 (A.elements c.args.xs.now) (A.elements c.args.ys.now) l.i (A.value c.args.x) (omega (arith, c.count-i-end.ensures)) ∙ l.invariant

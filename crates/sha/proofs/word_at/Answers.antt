@@ -12,7 +12,7 @@ pub returns-then-at-n : goal.returns-then-at-n
 returns-then-at-n c =
     let a = c.args in
     word_of a.m.now a.at c.requires.1 (sym (padded_in a.m.now a.at (omega arith))) (sym (padded_in a.m.now (a.at + 1) (omega arith)))
-    (sym (padded_in a.m.now (a.at + 2) (omega arith))) (sym (padded_in a.m.now (a.at + 3) (omega arith))) c.combine.ensures
+    (sym (padded_in a.m.now (a.at + 2) (omega arith))) (sym (padded_in a.m.now (a.at + 3) (omega arith))) (omega (arith, c.from_be_bytes.ensures))
 
 -- src/lib.rt:48:13
 pub returns-then-at-end : goal.returns-then-at-end
@@ -38,7 +38,7 @@ pub returns : goal.returns
 returns c =
     let a = c.args in
     word_of a.m.now a.at c.requires.1 c.byte_at-a.ensures c.byte_at-b.ensures
-    c.byte_at-c.ensures c.byte_at-d.ensures c.combine-2.ensures
+    c.byte_at-c.ensures c.byte_at-d.ensures (omega (arith, c.from_be_bytes-2.ensures))
 
 pub overflow_add-at : goal.overflow_add-at
 unfolding block_count

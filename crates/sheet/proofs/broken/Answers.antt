@@ -10,18 +10,18 @@ use Rattle.sheet.proofs.broken.Goals as goal
 pub broken_front-front-requires : goal.broken_front-front-requires
 broken_front-front-requires c = long_enough (edition_of c.args.e) c.args.w.now c.requires
 
-pub returns-in-At : goal.returns-in-At
+pub returns-in-Some : goal.returns-in-Some
 unfolding place_of
-returns-in-At c = in_front _ _ (at_place c.broken_front-front.ensures c.in-At.is)
+returns-in-Some c = in_front _ _ (at_place c.broken_front-front.ensures c.in-Some.is)
 
 pub broken_later-later-requires : goal.broken_later-later-requires
 broken_later-later-requires c =
     (c.requires, shape _ _ (nowhere c.broken_front-front.ensures c.in_default.is))
 
-pub returns-in-At-later : goal.returns-in-At-later
+pub returns-in-Some-later : goal.returns-in-Some-later
 unfolding place_of
-returns-in-At-later c =
-    in_later _ _ (nowhere c.broken_front-front.ensures c.in_default.is) (at_place c.broken_later-later.ensures c.in-At-later.is)
+returns-in-Some-later c =
+    in_later _ _ (nowhere c.broken_front-front.ensures c.in_default.is) (at_place c.broken_later-later.ensures c.in-Some-later.is)
 
 pub broken_repetitions-requires : goal.broken_repetitions-requires
 broken_repetitions-requires c =

@@ -3,9 +3,9 @@ use Rattle.outcome.specs.Meaning.{place_of}
 use Rattle.sheet.proofs.FirstBroken.{after_folds, in_folds, other_number, right_number}
 use Rattle.sheet.proofs.broken_past_11.Goals as goal
 
-pub returns-in-At : goal.returns-in-At
+pub returns-in-Some : goal.returns-in-Some
 unfolding place_of
-returns-in-At c = in_folds _ (at_place c.broken_folds-folds.ensures c.in-At.is)
+returns-in-Some c = in_folds _ (at_place c.broken_folds-folds.ensures c.in-Some.is)
 
 pub returns-then-w-ne2 : goal.returns-then-w-ne2
 unfolding place_of

@@ -7,7 +7,4 @@ use Rattle.sheet.proofs.FirstBroken.{broken_from}
 use Rattle.sheet.proofs.broken_repetitions.Given as goal
 
 abbrev pub invariant-loop-i : goal.invariant-loop-i
-invariant-loop-i l = (l.i ≤ 6) × ((DegreeAt (edition_of l.e) l.w l.i l.d) × (broken_from 6 (repetitions_rule (edition_of l.e) l.w) l.i ≡ broken_from 6 (repetitions_rule (edition_of l.e) l.w) 0))
-
-abbrev pub decreases-loop-i : goal.decreases-loop-i
-decreases-loop-i l = 6 - l.i
+invariant-loop-i l = (DegreeAt (edition_of l.e) l.w l.i l.d) × (broken_from 6 (repetitions_rule (edition_of l.e) l.w) l.i ≡ broken_from 6 (repetitions_rule (edition_of l.e) l.w) 0)

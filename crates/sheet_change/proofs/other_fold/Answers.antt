@@ -12,7 +12,7 @@ unfolding edition_of
 fold-first-requires c = (c.requires.0, omega arith)
 
 pub loop-i-init : goal.loop-i-init
-loop-i-init c = (omega arith, refl)
+loop-i-init c = refl
 
 pub fold-requires : goal.fold-requires
 unfolding edition_of
@@ -23,17 +23,17 @@ unfolding place_of edition_of
 returns-then-fold-first c =
     let l = c.loop-i in
     let e = differs_here c.args.w.now c.requires.1 l.i (omega (arith, c.loop-i-test.true)) c.fold.ensures.0 c.fold-first.ensures.0 c.if-fold-first.true in
-    ap (refuse_at 13) (e ∙ l.invariant.1) ∙ from_one c.args.w.now c.requires.1
+    ap (refuse_at 13) (e ∙ l.invariant) ∙ from_one c.args.w.now c.requires.1
 
 pub loop-i-preserved : goal.loop-i-preserved
 unfolding edition_of
 loop-i-preserved c =
     let l = c.loop-i in
     let t = c.loop-i-test.true in
-    (omega (arith, t), equal_here c.args.w.now c.requires.1 l.i (omega (arith, t)) c.fold.ensures.0 c.fold-first.ensures.0 c.if-fold-first.false ∙ l.invariant.1)
+    equal_here c.args.w.now c.requires.1 l.i (omega (arith, t)) c.fold.ensures.0 c.fold-first.ensures.0 c.if-fold-first.false ∙ l.invariant
 
 pub returns : goal.returns
 unfolding place_of
 returns c =
     let l = c.loop-i in
-    ap (refuse_at 13) (none_after c.args.w.now c.requires.1 l.i (omega (arith, c.loop-i-test.false)) ∙ l.invariant.1) ∙ from_one c.args.w.now c.requires.1
+    ap (refuse_at 13) (none_after c.args.w.now c.requires.1 l.i (omega (arith, c.loop-i-test.false)) ∙ l.invariant) ∙ from_one c.args.w.now c.requires.1

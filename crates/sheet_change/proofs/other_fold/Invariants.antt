@@ -4,7 +4,4 @@ use Rattle.sheet_change.proofs.Folds.{folds_from}
 use Rattle.sheet_change.proofs.other_fold.Given as goal
 
 abbrev pub invariant-loop-i : goal.invariant-loop-i
-invariant-loop-i l = (l.i ≤ l.rounds + 1) × (folds_from l.w l.i ≡ folds_from l.w 1)
-
-abbrev pub decreases-loop-i : goal.decreases-loop-i
-decreases-loop-i l = l.rounds + 1 - l.i
+invariant-loop-i l = folds_from l.w l.i ≡ folds_from l.w 1

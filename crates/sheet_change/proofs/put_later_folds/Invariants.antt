@@ -6,7 +6,4 @@ use Rattle.sheet_change.specs.Laid.{later_folds}
 use Rattle.sheet_change.proofs.put_later_folds.Given as goal
 
 abbrev pub invariant-loop-j : goal.invariant-loop-j
-invariant-loop-j l = (l.j ≤ 5) × ((length l.words ≡ length l.initial.words) × (l.words ≡ overwrite l.initial.words 12 (take l.j (later_folds l.rounds l.k))))
-
-abbrev pub decreases-loop-j : goal.decreases-loop-j
-decreases-loop-j l = 5 - l.j
+invariant-loop-j l = l.words ≡ overwrite l.initial.words 12 (take l.j (later_folds l.rounds l.k))

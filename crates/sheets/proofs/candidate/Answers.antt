@@ -5,5 +5,5 @@ use Rattle.sheets.proofs.candidate.Goals as goal
 pub returns-then-i-lt49 : goal.returns-then-i-lt49
 returns-then-i-lt49 c = small_candidate c.args.i c.if-i-lt49.true
 
-pub returns : goal.returns
-returns c = large_candidate c.args.i c.if-i-lt49.false c.requires
+pub returns-else-i-lt49 : goal.returns-else-i-lt49
+returns-else-i-lt49 c = large_candidate c.args.i c.if-i-lt49.false c.requires

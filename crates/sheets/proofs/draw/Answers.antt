@@ -1,4 +1,3 @@
-use Prim.Native.Nat.{◌-◌}
 use native.Mathlib.Omega.{arith}
 use mathlib.Core.Path.{◌∙◌}
 use Rattle.list_laws.specs.Zeros.{length_zeros}
@@ -7,9 +6,6 @@ use Rattle.sheets.proofs.draw.Goals as goal
 
 pub loop-j-init : goal.loop-j-init
 loop-j-init c = (length_zeros 56, none_drawn c.args.generator.v c.args.w.now c.requires)
-
-pub permitted-count-requires : goal.permitted-count-requires
-permitted-count-requires c = record { w_len = (c.loop-j.invariant.1.words, (c.loop-j-test.true, c.loop-j.invariant.1.kept)); values_len = c.loop-j.invariant.0 }
 
 pub returns-then-count-eq0 : goal.returns-then-count-eq0
 returns-then-count-eq0 c =
@@ -28,4 +24,4 @@ loop-j-preserved c =
     )
 
 pub returns : goal.returns
-returns c = all_drawn c.loop-j.invariant.1 c.loop-j-test.false
+returns c = all_drawn c.loop-j.invariant.1 (omega arith)

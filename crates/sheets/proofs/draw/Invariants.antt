@@ -1,4 +1,3 @@
-use Prim.Native.Nat.{◌-◌}
 use mathlib.Core.Path.{◌≡◌}
 use lib.ListN.{length}
 use Rattle.sheets.proofs.DrawLaws.{Drawing}
@@ -6,6 +5,3 @@ use Rattle.sheets.proofs.draw.Given as goal
 
 abbrev pub invariant-loop-j : goal.invariant-loop-j
 invariant-loop-j l = (length l.values ≡ 56) × (Drawing l.initial.generator.v l.w l.j l.generator.v)
-
-abbrev pub decreases-loop-j : goal.decreases-loop-j
-decreases-loop-j l = 12 - l.j

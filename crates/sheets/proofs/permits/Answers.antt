@@ -17,10 +17,10 @@ pub broken-broken-requires : goal.broken-broken-requires
 unfolding edition_of
 broken-broken-requires c = simp length-set (omega arith)
 
-pub returns-in-At : goal.returns-in-At
+pub returns-in-Some : goal.returns-in-Some
 unfolding edition_of
-returns-in-At c =
-    let a = c.args in record { value = permitted_at a.w.now a.j a.x c.requires.0 c.requires.1.0 c.requires.1.1 c.if-j-eq0.false _ (at_place c.broken-broken.ensures c.in-At.is); w_after = refl }
+returns-in-Some c =
+    let a = c.args in record { value = permitted_at a.w.now a.j a.x c.requires.0 c.requires.1.0 c.requires.1.1 c.if-j-eq0.false _ (at_place c.broken-broken.ensures c.in-Some.is); w_after = refl }
 
 pub returns : goal.returns
 unfolding edition_of

@@ -1,9 +1,4 @@
-use Prim.Native.Nat.{ℕ, ◌-◌}
 use native.Mathlib.Omega.{arith}
-use mathlib.Core.List.{List}
-use mathlib.Core.Logic.{⊎_elim}
-use mathlib.Core.Path.{sym, subst}
-use Rattle.layouts.specs.PlainRules.{Kept}
 use Rattle.sheets.proofs.RuleLaws.{all_tried, none_tried, one_left, one_taken}
 use Rattle.sheets.proofs.permitted.Goals as goal
 use Rattle.sheets.proofs.permitted.Goals.{then-permits, else-permits}
@@ -11,11 +6,6 @@ use Rattle.sheets.proofs.permitted.Goals.{then-permits, else-permits}
 pub loop-i-init : goal.loop-i-init
 loop-i-init c =
     none_tried c.args.w.now c.args.values.now c.args.j c.requires.w_len.0 c.requires.values_len
-
-pub permits-requires : goal.permits-requires
-permits-requires c =
-    let t = c.loop-i.invariant in
-    (t.words, (c.requires.w_len.1.0, subst (λ (u : List ℕ). Kept u) (sym t.front) c.requires.w_len.1.1))
 
 pub loop-i-preserved : goal.loop-i-preserved
 loop-i-preserved c =

@@ -4,16 +4,6 @@ use Rattle.edition.specs.Meaning.{edition_of}
 use Rattle.sizes.proofs.DegreeLaws.{degree_moved, degree_past, fold_one_bit, folding, log_small}
 use Rattle.sizes.proofs.next_degree.Goals as goal
 
--- `sizes::next_degree` meets its contract. k_i is a power of two, by which a shift divides; its logarithm is at most 4. Past M nothing is said of the answer. Assumes nothing.
-pub bounds-w-4 : goal.bounds-w-4
-bounds-w-4 c = omega (arith, long_enough (edition_of c.args.e) c.args.w.now c.requires.e_in_bounds.0)
-
-pub overflow_cast-w : goal.overflow_cast-w
-overflow_cast-w c = omega (arith, c.shared_slice_known-2-1.given 4)
-
-pub returns-then-w-i : goal.returns-then-w-i
-returns-then-w-i c = degree_past c.if-w-i.true
-
 pub log2-requires : goal.log2-requires
 log2-requires c = fold_one_bit _ _ (folding c.requires.folds.0 c.if-w-i.false c.fold.ensures.0)
 

@@ -4,9 +4,5 @@ use native.Mathlib.Omega.{arith}
 use Rattle.layouts.specs.SheetRules.{long_enough}
 use Rattle.sizes.proofs.size_log.Goals as goal
 
--- `sizes::size_log` meets its contract. Assumes nothing.
-pub bounds-w-1 : goal.bounds-w-1
-bounds-w-1 c = omega (arith, long_enough (edition_of c.args.e) c.args.w.now c.requires.0)
-
 pub log2-requires : goal.log2-requires
 log2-requires c = size_one_bit (edition_of c.args.e) c.args.w.now c.requires.0 c.requires.1

@@ -9,7 +9,7 @@ use lib.Seq.{take-take}
 use borrow.Author.Tests.{not-true, not-false}
 use native.Mathlib.Nat.{eq-zero-or-pos, le_refl}
 use Rattle.definition.specs.Block.{file_blocks, stream_of}
-use Rattle.outcome.specs.declared.Found.TheVariants.{At, Nothing}
+use Rattle.std.specs.Prelude.{Some, None}
 use Rattle.outcome.specs.Meaning.{place_of}
 use Rattle.list_laws.specs.Overwriting.{overwrite, overwrite_before, overwrite_front}
 use Rattle.layouts.specs.FileWords.{block_words, block_words_length, blocks_count, stream_next}
@@ -24,7 +24,7 @@ hold-none file most words = let z : 127 * min 0 most ≡ 0 = omega arith in rw z
 
 module _ (file : List ℕ) (most b : ℕ) where
   found_here : (words : List ℕ) {r : Bool} → b < length file / 512 → r ≡ right_check b (get_or (file_blocks file) b []) → not r ≡ true → Searching file b
-      → Loaded file most (At b) words
+      → Loaded file most (Some b) words
   unfolding place_of Searching
   found_here words {r} h e t s =
       let n : b < length (file_blocks file) = omega (arith, blocks_count file) in
@@ -60,7 +60,7 @@ module _ (file : List ℕ) (most b : ℕ) where
           rw m (rw (q, e) (overwrite_before l (127 * min b most) (block_words file b) (omega (arith, n)) (127 * min b most) (le_refl _) ∙ w))
 
 -- all blocks read
-all_right : (file : List ℕ) (most b : ℕ) (words : List ℕ) → b ≡ length file / 512 → Searching file b → Holding file most b words → Loaded file most Nothing words
+all_right : (file : List ℕ) (most b : ℕ) (words : List ℕ) → b ≡ length file / 512 → Searching file b → Holding file most b words → Loaded file most None words
 unfolding place_of Searching Holding
 all_right file most b words e s w =
     record {
@@ -73,14 +73,14 @@ all_right file most b words e s w =
 
 pub loop-b-init : goal.loop-b-init
 unfolding Searching
-loop-b-init c = let a = c.args in (omega arith, (refl, (refl, hold-none a.file.now a.most a.words.now)))
+loop-b-init c = let a = c.args in (refl, hold-none a.file.now a.most a.words.now)
 
 pub returns-then-not-take_block : goal.returns-then-not-take_block
 returns-then-not-take_block c =
     let l = c.loop-b in
     let a = c.args in
     let p = c.take_block in
-    found_here a.file.now a.most l.b p.new.words (omega arith) p.ensures.value (ap not c.if-not-take_block.true) l.invariant.1.1.0
+    found_here a.file.now a.most l.b p.new.words (omega arith) p.ensures.value (ap not c.if-not-take_block.true) l.invariant.0
 
 pub loop-b-preserved : goal.loop-b-preserved
 loop-b-preserved c =
@@ -88,18 +88,12 @@ loop-b-preserved c =
     let a = c.args in
     let p = c.take_block in
     let h : l.b < length a.file.now / 512 = omega arith in (
-      omega arith,
-      (
-        p.auto.words ∙ l.invariant.1.0,
-        (
-          search-on a.file.now a.most l.b h p.ensures.value (ap not c.if-not-take_block.false) l.invariant.1.1.0,
-          hold-more a.file.now a.most l.b l.words h (omega (arith, l.invariant.1.0, c.requires)) c.place-at.ensures p.ensures.words_after l.invariant.1.1.1,
-        ),
-      ),
+      search-on a.file.now a.most l.b h p.ensures.value (ap not c.if-not-take_block.false) l.invariant.0,
+      hold-more a.file.now a.most l.b l.words h (omega (arith, l.auto.words, c.requires)) c.place-at.ensures p.ensures.words_after l.invariant.1,
     )
 
 pub returns : goal.returns
 returns c =
     let l = c.loop-b in
     let a = c.args in
-    all_right a.file.now a.most l.b l.words (omega arith) l.invariant.1.1.0 l.invariant.1.1.1
+    all_right a.file.now a.most l.b l.words (omega arith) l.invariant.0 l.invariant.1

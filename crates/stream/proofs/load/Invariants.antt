@@ -16,7 +16,4 @@ unfoldable pub Holding : List ℕ → ℕ → ℕ → List ℕ → Type 0
 Holding file most b words = take (127 * min b most) words ≡ take (127 * min b most) (stream_of file)
 
 abbrev pub invariant-loop-b : goal.invariant-loop-b
-invariant-loop-b l = (l.b ≤ length l.file / 512) × ((length l.words ≡ length l.initial.words) × (Searching l.file l.b × Holding l.file l.most l.b l.words))
-
-abbrev pub decreases-loop-b : goal.decreases-loop-b
-decreases-loop-b l = length l.file / 512 - l.b
+invariant-loop-b l = Searching l.file l.b × Holding l.file l.most l.b l.words

@@ -21,7 +21,7 @@ answer file b h e f = rw (e, f, block_word_lem file b 127 h (lit< tt))
 pub loop-w-init : goal.loop-w-init
 loop-w-init c =
     let a = c.args in
-    (summed_start (block_words a.file.now a.b) a.b, (refl, sym (overwrite_none a.words.now a.at)))
+    (summed_start (block_words a.file.now a.b) a.b, sym (overwrite_none a.words.now a.at))
 
 pub loop-w-preserved : goal.loop-w-preserved
 loop-w-preserved c =
@@ -32,10 +32,7 @@ loop-w-preserved c =
     let n : length x ≡ 127 = block_words_length a.file.now a.b c.requires.0 in
     let e : c.word-x.result ≡ get_or x l.w 0 = c.word-x.ensures ∙ sym (block_words_at a.file.now a.b l.w c.requires.0 t) in (
       summed_next x n t e c.add_weighted-sum.ensures l.invariant.0,
-      (
-        simp length-set l.invariant.1.0,
-        overwrite_next a.words.now a.at x l.w (omega (arith, n, c.requires.1)) (omega (arith, n, t)) e l.invariant.1.1,
-      ),
+      overwrite_next a.words.now a.at x l.w (omega (arith, n, c.requires.1)) (omega (arith, n, t)) e l.invariant.1,
     )
 
 pub returns : goal.returns
@@ -45,4 +42,4 @@ returns c =
     let x = block_words a.file.now a.b in
     let t : 127 ≤ l.w = omega (arith, c.loop-w-test.false) in
     let n : length x ≡ 127 = block_words_length a.file.now a.b c.requires.0 in
-    let whole : take l.w x ≡ x = take_all l.w x (omega (arith, n, t)) in record { value = answer a.file.now a.b c.requires.0 c.word.ensures (summed_end x n t l.invariant.0); words_after = rw whole at l.invariant.1.1 }
+    let whole : take l.w x ≡ x = take_all l.w x (omega (arith, n, t)) in record { value = answer a.file.now a.b c.requires.0 c.word.ensures (summed_end x n t l.invariant.0); words_after = rw whole at l.invariant.1 }

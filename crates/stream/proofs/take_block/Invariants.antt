@@ -7,7 +7,4 @@ use Rattle.stream.specs.Checks.{Summed}
 use Rattle.stream.proofs.take_block.Given as goal
 
 abbrev pub invariant-loop-w : goal.invariant-loop-w
-invariant-loop-w l = Summed (block_words l.file l.b) l.b l.sum l.w × ((length l.words ≡ length l.initial.words) × (l.words ≡ overwrite l.initial.words l.at (take l.w (block_words l.file l.b))))
-
-abbrev pub decreases-loop-w : goal.decreases-loop-w
-decreases-loop-w l = 127 - l.w
+invariant-loop-w l = Summed (block_words l.file l.b) l.b l.sum l.w × (l.words ≡ overwrite l.initial.words l.at (take l.w (block_words l.file l.b)))

@@ -14,7 +14,7 @@ pub loop-i-init : goal.loop-i-init
 unfolding flat_map
 loop-i-init c =
     let a = c.args in
-    (summed_start (block_of (take a.count a.words.now) a.b) a.b, (refl, sym (overwrite_none a.out.now (512 * a.b))))
+    (summed_start (block_of (take a.count a.words.now) a.b) a.b, sym (overwrite_none a.out.now (512 * a.b)))
 
 pub loop-i-preserved : goal.loop-i-preserved
 loop-i-preserved c =
@@ -29,10 +29,7 @@ loop-i-preserved c =
     let t : l.i < 127 = omega (arith, c.loop-i-test.true) in
     let e : c.filled-x.result ≡ get_or x l.i 0 = c.filled-x.ensures ∙ sym (block_of_at w a.b h l.i t) in (
       summed_next x n t e c.add_weighted-total.ensures l.invariant.0,
-      (
-        p.auto.out ∙ l.invariant.1.0,
-        bytes_next a.out.now (512 * a.b) x l.i (omega (arith, c.requires.1.1)) (omega (arith, n, t)) e l.invariant.1.1 p.ensures,
-      ),
+      bytes_next a.out.now (512 * a.b) x l.i (omega (arith, c.requires.1.1)) (omega (arith, n, t)) e l.invariant.1 p.ensures,
     )
 
 pub returns : goal.returns
@@ -46,4 +43,4 @@ returns c =
     let n : length x ≡ 127 = block_of_length w a.b h in
     let t : 127 ≤ l.i = omega (arith, c.loop-i-test.false) in
     let whole : take l.i x ≡ x = take_all l.i x (omega (arith, n, t)) in
-    bytes_last a.out.now (512 * a.b) a.b x (omega (arith, c.requires.1.1)) n (summed_end x n t l.invariant.0) (rw whole at l.invariant.1.1) c.put_word-2.ensures
+    bytes_last a.out.now (512 * a.b) a.b x (omega (arith, c.requires.1.1)) n (summed_end x n t l.invariant.0) (rw whole at l.invariant.1) c.put_word-2.ensures

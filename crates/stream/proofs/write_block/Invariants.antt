@@ -9,7 +9,4 @@ use Rattle.stream.specs.WrittenBlocks.{block_of}
 use Rattle.stream.proofs.write_block.Given as goal
 
 abbrev pub invariant-loop-i : goal.invariant-loop-i
-invariant-loop-i l = Summed (block_of (take l.count l.words) l.b) l.b l.total l.i × ((length l.out ≡ length l.initial.out) × (l.out ≡ overwrite l.initial.out (512 * l.b) (flat_map bytes_of (take l.i (block_of (take l.count l.words) l.b)))))
-
-abbrev pub decreases-loop-i : goal.decreases-loop-i
-decreases-loop-i l = 127 - l.i
+invariant-loop-i l = Summed (block_of (take l.count l.words) l.b) l.b l.total l.i × (l.out ≡ overwrite l.initial.out (512 * l.b) (flat_map bytes_of (take l.i (block_of (take l.count l.words) l.b))))

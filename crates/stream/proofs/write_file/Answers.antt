@@ -11,7 +11,7 @@ use Rattle.stream.proofs.write_file.Goals as goal
 pub loop-k-init : goal.loop-k-init
 loop-k-init c =
     let a = c.args in
-    (omega arith, (refl, rw (front_none (take a.count a.words.now)) (sym (overwrite_none a.out.now 0))))
+    rw (front_none (take a.count a.words.now)) (sym (overwrite_none a.out.now 0))
 
 pub loop-k-preserved : goal.loop-k-preserved
 unfolding block_count
@@ -23,7 +23,7 @@ loop-k-preserved c =
     let t = c.loop-k-test.true in
     let m : length w ≡ a.count = length-take-le a.count a.words.now c.requires.0 in
     let h : l.k < block_count (length w) = rw m (omega (arith, t)) in
-    (omega (arith, t), (p.auto.out ∙ l.invariant.1.0, file_next w a.out.now l.k h l.invariant.1.1 p.ensures))
+    file_next w a.out.now l.k h l.invariant p.ensures
 
 pub returns : goal.returns
 unfolding block_count
@@ -32,14 +32,10 @@ returns c =
     let a = c.args in
     let w = take a.count a.words.now in
     let m : length w ≡ a.count = length-take-le a.count a.words.now c.requires.0 in
-    let e : l.k ≡ block_count (length w) = rw m (omega (arith, l.invariant.0, c.loop-k-test.false)) in
+    let e : l.k ≡ block_count (length w) = rw m (omega (arith, c.loop-k-test.false)) in
     let f : checked_front w l.k ≡ file_of w = rw e (front_all w) in
-    l.invariant.1.1 ∙ rw f (file_whole w a.out.now)
+    l.invariant ∙ rw f (file_whole w a.out.now)
 
 pub write_block-requires : goal.write_block-requires
 unfolding block_count
 write_block-requires c = omega arith
-
-pub loop-k-smaller : goal.loop-k-smaller
-unfolding block_count
-loop-k-smaller c = omega arith

@@ -7,7 +7,4 @@ use Rattle.stream.specs.WrittenBlocks.{checked_front}
 use Rattle.stream.proofs.write_file.Given as goal
 
 abbrev pub invariant-loop-k : goal.invariant-loop-k
-invariant-loop-k l = (l.k ≤ block_count l.count) × ((length l.out ≡ length l.initial.out) × (l.out ≡ overwrite l.initial.out 0 (checked_front (take l.count l.words) l.k)))
-
-abbrev pub decreases-loop-k : goal.decreases-loop-k
-decreases-loop-k l = block_count l.count - l.k
+invariant-loop-k l = l.out ≡ overwrite l.initial.out 0 (checked_front (take l.count l.words) l.k)

@@ -11,24 +11,22 @@ use Rattle.sums.proofs.residues.Goals as goal
 pub loop-m-init : goal.loop-m-init
 loop-m-init c =
     let a = c.args in
-    (omega arith, filled_first (λ i. products (field_of a.field) (every_nth (field_of a.field) a.f.now i (length a.out.now) (length a.powers.now)) a.powers.now) a.out.now)
+    filled_first (λ i. products (field_of a.field) (every_nth (field_of a.field) a.f.now i (length a.out.now) (length a.powers.now)) a.powers.now) a.out.now
 
 pub sum_every-requires : goal.sum_every-requires
 sum_every-requires c =
     let l = c.loop-m in
     let a = c.args in
-    (omega arith, (omega (arith, ap (λ (n : ℕ). n * length a.powers.now) l.invariant.1.same), omega arith))
+    (omega arith, (omega (arith, ap (λ (n : ℕ). n * length a.powers.now) l.invariant.same), omega arith))
 
 pub loop-m-preserved : goal.loop-m-preserved
 loop-m-preserved c =
     let l = c.loop-m in
-    let a = c.args in (
-      omega (arith, l.invariant.1.same),
-      filled_next (λ i. products (field_of a.field) (every_nth (field_of a.field) a.f.now i (length a.out.now) (length a.powers.now)) a.powers.now) a.out.now l.out l.m l.invariant.1 (omega (arith, l.invariant.1.same))
-          (c.sum_every.ensures ∙ ap (λ (n : ℕ). products (field_of a.field) (every_nth (field_of a.field) a.f.now l.m n (length a.powers.now)) a.powers.now) l.invariant.1.same),
-    )
+    let a = c.args in
+    filled_next (λ i. products (field_of a.field) (every_nth (field_of a.field) a.f.now i (length a.out.now) (length a.powers.now)) a.powers.now) a.out.now l.out l.m l.invariant (omega (arith, l.invariant.same))
+    (c.sum_every.ensures ∙ ap (λ (n : ℕ). products (field_of a.field) (every_nth (field_of a.field) a.f.now l.m n (length a.powers.now)) a.powers.now) l.invariant.same)
 
 pub returns : goal.returns
 returns c =
     let l = c.loop-m in
-    λ m u. l.invariant.1.passed m (omega (arith, l.invariant.1.same))
+    λ m u. l.invariant.passed m (omega (arith, l.invariant.same))

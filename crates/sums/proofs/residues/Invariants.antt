@@ -1,4 +1,3 @@
-use Prim.Native.Nat.{◌-◌, ◌≤◌}
 use lib.ListN.{length}
 use Rattle.definition.specs.Field.{field_of}
 use Rattle.list_laws.specs.Filled.{Filled}
@@ -7,7 +6,4 @@ use Rattle.sums.specs.Sums.{products}
 use Rattle.sums.proofs.residues.Given as goal
 
 abbrev pub invariant-loop-m : goal.invariant-loop-m
-invariant-loop-m l = (l.m ≤ length l.initial.out) × Filled (λ i. products (field_of l.field) (every_nth (field_of l.field) l.f i (length l.initial.out) (length l.powers)) l.powers) l.initial.out l.out l.m
-
-abbrev pub decreases-loop-m : goal.decreases-loop-m
-decreases-loop-m l = length l.initial.out - l.m
+invariant-loop-m l = Filled (λ i. products (field_of l.field) (every_nth (field_of l.field) l.f i (length l.initial.out) (length l.powers)) l.powers) l.initial.out l.out l.m

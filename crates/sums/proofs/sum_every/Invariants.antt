@@ -1,4 +1,3 @@
-use Prim.Native.Nat.{◌≤◌}
 use lib.ListN.{length}
 use Rattle.definition.specs.Field.{field_of}
 use Rattle.sums.specs.AtRoots.{every_nth}
@@ -6,7 +5,4 @@ use Rattle.sums.proofs.Halves.{Summed}
 use Rattle.sums.proofs.sum_every.Given as goal
 
 abbrev pub invariant-loop-i : goal.invariant-loop-i
-invariant-loop-i l = (l.i ≤ length l.b) × Summed (every_nth (field_of l.field) l.f l.from l.stride (length l.b)) l.b l.i l.high l.low
-
-abbrev pub decreases-loop-i : goal.decreases-loop-i
-decreases-loop-i l = l.i
+invariant-loop-i l = Summed (every_nth (field_of l.field) l.f l.from l.stride (length l.b)) l.b l.i l.high l.low

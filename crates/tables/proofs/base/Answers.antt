@@ -24,7 +24,7 @@ pub returns-then-count-le1 : goal.returns-then-count-le1
 returns-then-count-le1 c =
     let a = c.args in
     let e = one_of a.count (length a.out.now) c.requires.halves.0 c.if-count-le1.true in
-    rw (c.fill.ensures, e) (constant_table a.field a.src.now a.from a.stride a.pw.now a.at a.step (length a.out.now))
+    rw (c.fill.ensures.after (λ y h. h), c.reduce.ensures, e) (constant_table a.field a.src.now a.from a.stride a.pw.now a.at a.step (length a.out.now))
 
 pub offset_bounds-src-from-2 : goal.offset_bounds-src-from-2
 offset_bounds-src-from-2 c =

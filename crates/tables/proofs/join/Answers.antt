@@ -1,8 +1,6 @@
-use mathlib.Core.Path.{◌≡◌, subst}
-use Prim.Native.Nat.{ℕ, ◌+◌, ◌-◌}
+use Prim.Native.Nat.{◌+◌}
 use native.Mathlib.Omega.{arith}
 use Rattle.definition.specs.Field.{field_of}
-use Rattle.tables.specs.Halving.{Joined}
 use Rattle.tables.proofs.Sizes.{place_inside}
 use Rattle.tables.proofs.Turns.{joined_none, joined_more}
 use Rattle.tables.proofs.join.Goals as goal
@@ -10,7 +8,7 @@ use Rattle.tables.proofs.join.Goals as goal
 pub loop-j-init : goal.loop-j-init
 loop-j-init c =
     let a = c.args in
-    (omega arith, joined_none (field_of a.field) a.pw.now a.at a.step a.h a.out.now)
+    joined_none (field_of a.field) a.pw.now a.at a.step a.h a.out.now
 
 pub point-x-requires : goal.point-x-requires
 point-x-requires c =
@@ -24,12 +22,5 @@ pub loop-j-preserved : goal.loop-j-preserved
 loop-j-preserved c =
     let a = c.args in
     let l = c.loop-j in
-    let more = joined_more (field_of a.field) a.pw.now a.at a.step a.h a.out.now l.out l.j (omega arith) c.requires.0 l.invariant.1 in
-    (omega arith, rw (c.turn.ensures, c.point-y.ensures, c.point-x.ensures) more)
-
-pub returns : goal.returns
-returns c =
-    let a = c.args in
-    let l = c.loop-j in
-    let all : l.j ≡ a.h = omega arith in
-    subst (λ (m : ℕ). Joined (field_of a.field) a.pw.now a.at a.step a.h m a.out.now l.out) all l.invariant.1
+    let more = joined_more (field_of a.field) a.pw.now a.at a.step a.h a.out.now l.out l.j (omega arith) c.requires.0 l.invariant in
+    rw (c.turn.ensures, c.point-y.ensures, c.point-x.ensures) more

@@ -1,12 +1,7 @@
-use Prim.Native.Nat.{◌-◌, ◌≤◌}
-use lib.ListN.{length}
 use Rattle.definition.specs.Field.{field_of}
 use Rattle.list_laws.specs.Filled.{Filled}
 use Rattle.tables.specs.Halving.{point_at}
 use Rattle.tables.proofs.linear.Given as goal
 
 abbrev pub invariant-loop-j : goal.invariant-loop-j
-invariant-loop-j l = (l.j ≤ length l.initial.out) × Filled (λ i. (field_of l.field).◌⊕◌ l.a ((field_of l.field).◌⊗◌ (point_at l.pw l.at l.step i) l.b)) l.initial.out l.out l.j
-
-abbrev pub decreases-loop-j : goal.decreases-loop-j
-decreases-loop-j l = length l.initial.out - l.j
+invariant-loop-j l = Filled (λ i. (field_of l.field).◌⊕◌ l.a ((field_of l.field).◌⊗◌ (point_at l.pw l.at l.step i) l.b)) l.initial.out l.out l.j

@@ -6,20 +6,13 @@ use Rattle.layouts.specs.Spellings.{count_zero}
 use Rattle.word_input.specs.Input.{coefficient_words}
 use Rattle.word_input.proofs.coefficient_words.Goals as goal
 
--- `word_input::coefficient_words` meets its contract.
-pub returns-then-words-lt3 : goal.returns-then-words-lt3
+pub returns-in_default : goal.returns-in_default
 unfolding coefficient_words
-returns-then-words-lt3 c =
+returns-in_default c =
     let w = c.args.words.now in
     let σ = spelling_of (get_or w 0 0) in
     sym (ap (word_count σ) (get_or-eq_default w 0 {n = 2} (omega arith)) ∙ count_zero σ)
 
-pub overflow_cast-words : goal.overflow_cast-words
-overflow_cast-words c = omega (arith, c.shared_slice_known-3-1.given 2)
-
-pub words-requires : goal.words-requires
-words-requires c = omega (arith, c.shared_slice_known-3-1.given 2)
-
-pub returns : goal.returns
+pub returns-in-len3-up : goal.returns-in-len3-up
 unfolding coefficient_words
-returns c = c.words.ensures.0
+returns-in-len3-up c = c.words.ensures.0
