@@ -9,7 +9,7 @@ pub loop-n-init : goal.loop-n-init
 loop-n-init g c =
     let A = g.A.Arithmetic in
     let a = c.args in
-    turn_first (A.over a.a) (A.laws a.a) (A.value a.c) (A.value a.x) a.e (assumption) c.mul-q.ensures
+    turn_first (A.over a.a) (A.laws a.a) (A.value a.c) (A.value a.x) a.e (search) c.mul-q.ensures
 
 pub loop-n-preserved : goal.loop-n-preserved
 loop-n-preserved g c =
