@@ -2,8 +2,8 @@
  * C.
  *
  * The functions stand in libtevrolig.a, which `tools/archive` writes to target/staticlib for x86-64 Linux. They
- * call memcpy, memmove and memset and nothing else from outside. They are proved against the written definition: on
- * every input each one ends, and what it answers and writes is what the definition says (docs/STATEMENTS.md).
+ * call memcpy and memset and nothing else from outside. They are proved against the written definition: on every input
+ * each one ends, and what it answers and writes is what the definition says (docs/STATEMENTS.md).
  *
  * examples/verify.c is a program that uses them. A program is built with the first line, or with the second once
  * `tools/install` has put the header, the archive and tevrolig.pc below /usr/local (`tools/install PREFIX`: elsewhere).

@@ -75,8 +75,8 @@ pub fn sum(bounds: &[u32]) -> usize
     ensures { (result ≡ sum_of bounds.now) × (result ≤ 4294967295 * length bounds.now) }
 {
     let mut sum = 0;
-    for bound in bounds {
-        sum += *bound as usize;
+    for m in 0..bounds.len() {
+        sum += bounds[m] as usize;
     }
     sum
 }

@@ -66,7 +66,7 @@ fn report(
     ensures output_after { output.new ≡ (f.now ++ (count ∷ unlike_at field values.now table.now)) ++ drop (length f.now + 1 + count) output.old }
 {
     let d = f.len();
-    output[..d].copy_from_slice(f);
+    honest_words::copy(f, &mut output[..d]);
     output[d] = count as u32;
     numbers(field, values, table, &mut output[d + 1..]);
     d + 1 + count

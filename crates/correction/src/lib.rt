@@ -151,22 +151,22 @@ fn shifted<A: Arithmetic>(a: A, q: &[u32], n: usize, i: usize) -> A::Element
     a.get(q, j)
 }
 
-// -c^n.
-fn minus_power<A: Arithmetic>(a: A, c: A::Element, n: usize) -> A::Element
-    requires { n ≤ 65536 }
-    ensures { A.value result ≡ (A.over a).◌⊖◌ (A.over a).𝟘 (power (A.over a) (A.value c) n) }
+// -c^(e+1), from (1 - c)·(1 + c + .. + c^e) = 1 - c^(e+1): the sum is at hand by doubling, for an exponent of any size.
+fn minus_power<A: Arithmetic>(a: A, c: A::Element, e: usize) -> A::Element
+    ensures { A.value result ≡ (A.over a).◌⊖◌ (A.over a).𝟘 (power (A.over a) (A.value c) (e + 1)) }
 {
-    let powered = arithmetic::pow_turns(a, c, n as u32);
-    a.sub(a.zero(), powered.value)
+    let one = a.one();
+    let sum = polynomial::geometric_at(a, c, e, one);
+    a.sub(a.mul(a.sub(one, c), sum), one)
 }
 
 // The product of q and g = 1 + cX + .. + (cX)^e, from the lowest coefficient up. (1 - cX)·g is 1 - (cX)^(e+1), so that each coefficient is the sum of
 // c times the one before it and of `fresh`, the coefficient of q·(1 - (cX)^(e+1)) in its place.
 fn correct<A: Arithmetic>(a: A, c: A::Element, e: usize, q: &[u32], out: &mut [u32])
-    requires { (0 < length (A.elements q.now)) × ((length (A.elements out.old) ≡ length (A.elements q.now) + e) × (e < 65536)) }
+    requires { (0 < length (A.elements q.now)) × (length (A.elements out.old) ≡ length (A.elements q.now) + e) }
     ensures { A.elements out.new ≡ mul_poly (A.over a) (A.elements q.now) (geometric (A.over a) (A.value c) e) }
 {
-    let t = minus_power(a, c, e + 1);
+    let t = minus_power(a, c, e);
     let mut last = a.zero();
     for i in 0..a.count(out) {
         let fresh = a.add_product(shifted(a, q, 0, i), t, shifted(a, q, e + 1, i));

@@ -5,10 +5,9 @@ use mathlib.Core.Option.{some}
 use mathlib.Core.List.{List}
 use lib.ListN.{length, get_or}
 use Rattle.definition.specs.Field.{Quad, prime_field, prime_of, field_of, embed, spelling_of, field_in, number_in, quads, elements_in}
-use Rattle.algebra.specs.PrimeField.{laws, opposite_signs}
 use Rattle.spelling.specs.Field3.{field3, base}
 use Rattle.folds.specs.Halving.{halving, exponent_of}
-use Rattle.folds.specs.OneHalf.{two, half_of, half_is}
+use Rattle.folds.specs.OneHalf.{two, half_of}
 use Rattle.folds.specs.PointsIn.{inverse_power_in}
 use Rattle.quartic.specs.Meaning.{quad_of}
 use Rattle.quartic.specs.declared.Four.{Four}
@@ -37,11 +36,9 @@ module _ (field : ℕ) (values : List ℕ) where
         at_three (λ n. value_at n v ≡ halving (field_at n) (half_of (field_at n)) (inverse_at n pw) (exponent_of (length (elements_at n values))) e d (value_at n r) (λ m. get_or (elements_at n values) m (field_at n).𝟘))
         field h (q ∙ ap (λ (u : Quad ℕ). halving field3 u (inverse_four pw) (exponent_of (length (quads values))) e d (quad_of r) (λ m. get_or (quads values) m field3.𝟘)) (half_four (subst (λ (n : ℕ). some half ≡ (field_of n).inverse (two (field_of n))) h eh)))
 
-    pub fold_one : {half x : ℕ} → (field ≡ 3 → ⊥) → some half ≡ (field_of field).inverse (two (field_of field)) → v.a ≡ x →
-        x ≡ halving (field_of field) half (λ n. inverse_power_in 0 pw n) (exponent_of (length values)) e d r.a (λ m. get_or values m (field_of field).𝟘) →
+    pub fold_one : {x : ℕ} → (field ≡ 3 → ⊥) → v.a ≡ x → x ≡ halving (field_of field) (half_of (field_of field)) (inverse_power_in 0 pw) (exponent_of (length values)) e d r.a (λ m. get_or values m 0) →
         value_at field v ≡ halving (field_at field) (half_of (field_at field)) (inverse_at field pw) (exponent_of (length (elements_at field values))) e d (value_at field r) (λ m. get_or (elements_at field values) m (field_at field).𝟘)
     unfolding field_in value_in elements_in number_in field_of prime_field
-    fold_one h eh ev q =
+    fold_one h ev q =
         at_one (λ σ. value_in σ v ≡ halving (field_in σ (prime_of field)) (half_of (field_in σ (prime_of field))) (λ n. number_in σ (inverse_power_in 0 pw n)) (exponent_of (length (elements_in σ values))) e d (value_in σ r)
-        (λ m. get_or (elements_in σ values) m (field_in σ (prime_of field)).𝟘)) field h
-        (ev ∙ q ∙ ap (λ (u : ℕ). halving (field_of field) u (λ n. inverse_power_in 0 pw n) (exponent_of (length values)) e d r.a (λ m. get_or values m (field_of field).𝟘)) (half_is (field_of field) (laws field) (opposite_signs field) eh))
+        (λ m. get_or (elements_in σ values) m (field_in σ (prime_of field)).𝟘)) field h (ev ∙ q)

@@ -9,7 +9,6 @@ ghost use Rattle.spelling.specs.ByField.{field_at, elements_at};
 ghost use Rattle.elements.specs.Meaning.{value_at};
 ghost use Rattle.element_folds.specs.Points.{inverse_at};
 
-use field::Prime;
 use quartic::{Four, FourWords};
 
 // The values at the powers e, e + d, .. of ω, folded with r.
@@ -18,13 +17,12 @@ pub fn fold_values(field: u32, pw: &[u32], e: usize, d: usize, r: Four, values: 
     requires values_len { (length (elements_at field values.old) ≡ 2 ^ exponent_of (length (elements_at field values.old))) × (length (elements_at field values.old) ≤ 16) }
     ensures { value_at field result ≡ halving (field_at field) (half_of (field_at field)) (inverse_at field pw.now) (exponent_of (length (elements_at field values.old))) e d (value_at field r) (λ m. get_or (elements_at field values.old) m (field_at field).𝟘) }
 {
-    let Some(half) = folds::invert_two(field) else {
-        // never: 2 differs from 0 in each field
-        return r;
-    };
     if field == 3 {
-        return folds::fold_values(FourWords, half, pw, e, d, r, values);
+        let Some(half) = folds::invert_two(field) else {
+            // never: 2 differs from 0 in each field
+            return r;
+        };
+        return folds::fold_by_half(FourWords, half, pw, e, d, r, values);
     }
-    let a = Prime { field: field };
-    elements::number(folds::fold_values(a, half, pw, e, d, r.a, values))
+    elements::number(folds::fold_values(field, pw, e, d, r.a, values))
 }

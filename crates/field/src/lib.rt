@@ -250,8 +250,12 @@ pub fn power(field: u32, a: u32, exponent: u32) -> Option<u32>
 pub fn power_turns(field: u32, a: u32, exponent: u32) -> Option<Powered<u32>>
     ensures { powered_of result ≡ power_turns_of field a exponent }
 {
-    let powered = pow_turns(field, a, exponent);
-    if 2 < field { None } else { Some(powered) }
+    if 2 < field {
+        None
+    } else {
+        let powered = pow_turns(field, a, exponent);
+        Some(powered)
+    }
 }
 
 // Why there is no inverse: the word is 0 modulo the prime, or the number names no field.

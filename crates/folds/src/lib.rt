@@ -10,10 +10,11 @@ ghost use Rattle.std.specs.Prelude.{◌≡◌, ℕ, ◌+◌, ◌*◌, ◌^◌, �
 ghost use Rattle.definition.specs.Field.{Field, field_of};
 ghost use Rattle.field.specs.Answer.{inversion_of};
 ghost use Rattle.folds.specs.Halving.{joined, halving, exponent_of};
-ghost use Rattle.folds.specs.OneHalf.{two};
+ghost use Rattle.folds.specs.OneHalf.{two, half_of};
 ghost use Rattle.folds.specs.PointsIn.{inverse_power_in, inverse_as, shift_in, ShiftPoint};
 
 use arithmetic::Arithmetic;
+use field::Prime;
 
 // A word as an index.
 pub fn wide(x: u32) -> usize
@@ -89,7 +90,7 @@ fn turn<A: Arithmetic>(
 }
 
 // The values at the powers e, e + d, .. of ω, folded with r; half is 1/2. Each turn doubles the exponents and squares the coin.
-pub fn fold_values<A: Arithmetic>(
+pub fn fold_by_half<A: Arithmetic>(
     a: A,
     half: u32,
     pw: &[u32],
@@ -114,4 +115,17 @@ pub fn fold_values<A: Arithmetic>(
         coin = a.mul(coin, coin);
     }
     a.get(values, 0)
+}
+
+// The values of one word at the powers e, e + d, .. of ω, folded with r.
+pub fn fold_values(field: u32, pw: &[u32], e: usize, d: usize, r: u32, values: &mut [u32]) -> u32
+    requires pw_nonzero { (0 < length pw.now) × ((e ≤ 4096) × (d ≤ 4096)) }
+    requires values_len { (length values.old ≡ 2 ^ exponent_of (length values.old)) × (length values.old ≤ 16) }
+    ensures { result ≡ halving (field_of field) (half_of (field_of field)) (inverse_power_in 0 pw.now) (exponent_of (length values.old)) e d r (λ m. get_or values.old m 0) }
+{
+    let Some(half) = invert_two(field) else {
+        // never: 2 differs from 0 in each field
+        return 0;
+    };
+    fold_by_half(Prime { field: field }, half, pw, e, d, r, values)
 }

@@ -43,11 +43,10 @@ pub fn text(line: Line, bytes: &[u8]) -> Line
     requires { line.length + length bytes.now ≤ 64 }
     ensures { Extends line bytes.now result }
 {
-    let at = line.length;
-    let end = at + bytes.len();
     let mut longer = line;
-    longer.bytes[at..end].copy_from_slice(bytes);
-    longer.length = end;
+    for i in 0..bytes.len() {
+        longer = put(longer, bytes[i]);
+    }
     longer
 }
 

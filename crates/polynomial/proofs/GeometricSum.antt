@@ -48,8 +48,8 @@ module _ {A : Type 0} (F : Field A) (L : FieldLaws F) where
     pub reduced : L.reduce a ≡ a
     pub left : a ⊕ b ⊗ geometric_sum F q n ≡ t
 
-  pub turn_first : (c x : A) (e : ℕ) {q : A} → q ≡ x ⊗ c → Turn (evaluate F (geometric F c e) x) 𝟙 q q e
-  turn_first c x e {q} h = record { reduced = reduce_one; left = sym (sum_suc q e) ∙ ap (λ (s : A). geometric_sum F s (suc e)) h ∙ geometric_sum_lem c x e }
+  pub turn_first : (c x : A) (e : ℕ) {a q : A} → a ≡ 𝟙 → q ≡ x ⊗ c → Turn (evaluate F (geometric F c e) x) a q q e
+  turn_first c x e {q = q} ea h = rw ea (record { reduced = reduce_one; left = sym (sum_suc q e) ∙ ap (λ (s : A). geometric_sum F s (suc e)) h ∙ geometric_sum_lem c x e })
 
   pub turn_even : {t a b q a' b₁ b' q' : A} {n : ℕ} → Turn t a b q n → (n % 2 ≡ 1 → ⊥) → a' ≡ a → b₁ ≡ b → b' ≡ b₁ ⊕ b₁ ⊗ q → q' ≡ q ⊗ q →
       Turn t a' b' q' (n / 2)

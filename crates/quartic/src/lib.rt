@@ -185,7 +185,9 @@ pub fn inv(x: Four) -> Option<Four>
         field::mul(2, n, n),
         field::mul(2, 11, field::mul(2, m, m)),
     );
-    let i = field::inv(2, norm)?;
+    let Some(i) = field::inv(2, norm) else {
+        return None;
+    };
     let y = Four {
         a: x.a,
         b: field::sub(2, 0, x.b),

@@ -81,6 +81,10 @@ module _ (file output : List ℕ) (block : 512 ≤ length file) where
   unfolding value_of
   no_end_before at h e = omega (arith, ended (stream_of file) at e, stream_length file)
 
+  -- the number after a word that is there
+  pub moved_on : (at v : ℕ) {n : ℕ} → value_of (Some v) ≡ word_in (stream_of file) at → n ≡ number_after (stream_of file) at → n ≡ at + 1
+  moved_on at v value after = after ∙ sym (number_there file at (Some v) value refl)
+
   pub sheet_next : {at : ℕ} {o : List ℕ} (v : ℕ) → at < 12 → 12 ≤ length output → o ≡ overwrite output 0 (take at (take 12 (stream_of file)))
       → value_of (Some v) ≡ word_in (stream_of file) at → set o at v ≡ overwrite output 0 (take (at + 1) (take 12 (stream_of file)))
   sheet_next {at} {o} v h room before value =

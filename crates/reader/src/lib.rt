@@ -90,11 +90,14 @@ fn walk_sheet(file: &[u8], output: &mut [u32])
     requires { (512 ≤ length file.now) × (12 ≤ length output.old) }
     ensures { output.new ≡ overwrite output.old 0 (take 12 (stream_of file.now)) }
 {
-    for at in 0..12 {
-        let Some(x) = word_in(file, at) else {
+    let mut at = 0;
+    while at < 12 {
+        let step = step_in(file, at);
+        let Some(x) = step.word else {
             return;
         };
         output[at] = x;
+        at = step.next;
     }
 }
 

@@ -103,7 +103,10 @@ fn gather_by_roots(
     let mut from = elements::count(field, px);
     for i in (0..shifts.len()).rev() {
         let s = sample_at(field, pw, roots, oracle, k, r, shifts, i, values);
-        from = samples::push(field, px, py, from, s.x, s.y)?;
+        let Some(j) = samples::push(field, px, py, from, s.x, s.y) else {
+            return None;
+        };
+        from = j;
     }
     samples::push_all(field, outs, replies, px, py, from)
 }

@@ -84,7 +84,10 @@ pub fn push_all(
     for i in (0..elements::count(field, xs)).rev() {
         let x = elements::get(field, xs, i);
         let y = elements::get(field, ys, i);
-        k = push(field, px, py, k, x, y)?;
+        let Some(j) = push(field, px, py, k, x, y) else {
+            return None;
+        };
+        k = j;
     }
     Some(k)
 }

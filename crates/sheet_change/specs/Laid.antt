@@ -19,6 +19,41 @@ copied l from to count inside =
     let long : length (take count (drop from l)) ≡ count = length-take-le count (drop from l) (simp length-drop (omega arith)) in
     rw long
 
+-- a word past what was put there, or before it, stays
+module _ (l : List ℕ) (at : ℕ) (q : List ℕ) (inside : at ≤ length l) where
+  past : (n : ℕ) → at + length q ≤ n → get_or (overwrite l at q) n 0 ≡ get_or l n 0
+  unfolding overwrite
+  past n h =
+      let m = at + length q in
+      let long : length (take at l ++ q) ≡ m = simp (length-append, length-take) (omega arith) in
+      let e : n ≡ length (take at l ++ q) + (n - m) = omega (arith, long) in
+      let f : m + (n - m) ≡ n = omega arith in
+      ap (λ (x : ℕ). get_or (take at l ++ q ++ drop m l) x 0) e ∙ get_or-append-add (take at l ++ q) (drop m l) (n - m) 0 ∙ get_or-drop m l (n - m) 0 ∙ ap (λ (x : ℕ). get_or l x 0) f
+
+  before : (n : ℕ) → n < at → get_or (overwrite l at q) n 0 ≡ get_or l n 0
+  unfolding overwrite
+  before n h =
+      let long : length (take at l) ≡ at = length-take-le at l inside in
+      get_or-append (take at l ++ q) _ 0 n (simp length-append (omega arith)) ∙ get_or-append (take at l) q 0 n (omega arith) ∙ get_or-take at l n 0 h
+
+-- the word to copy next, where i words are copied down, or up past all of them
+pub next_word : (l : List ℕ) (from to count i : ℕ) → from + count ≤ length l → to + count ≤ length l → (from < to → from + count ≤ to) → i < count →
+    get_or (overwrite l to (take i (take count (drop from l)))) (from + i) 0 ≡ get_or (take count (drop from l)) i 0
+next_word l from to count i a b apart h = go (dec_lt from to)
+  where
+    q : List ℕ
+    q = take i (take count (drop from l))
+
+    long : length q ≡ i
+    long = length-take-le i (take count (drop from l)) (simp (length-take, length-drop) (omega arith))
+
+    here : get_or l (from + i) 0 ≡ get_or (take count (drop from l)) i 0
+    here = sym (get_or-take count (drop from l) i 0 h ∙ get_or-drop from l i 0)
+
+    go : Dec (from < to) → get_or (overwrite l to q) (from + i) 0 ≡ get_or (take count (drop from l)) i 0
+    go (yes up) = let e = apart up in before l to q (omega arith) (from + i) (omega arith) ∙ here
+    go (no down) = past l to q (omega arith) (from + i) (omega (arith, long)) ∙ here
+
 -- ---- the sheet of edition 2
 
 -- k_1 to k_5, of words 4 and 3

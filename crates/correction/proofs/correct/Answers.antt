@@ -24,7 +24,7 @@ loop-i-preserved g c =
     let out = A.elements l.out in
     let whole = even A.elements A.width g.met.A.Arithmetic.counted l.out a.out.now l.auto.out in
     let inside : l.i < length out = omega (arith, whole, c.count-i-end.ensures) in
-    let r = product_turn F (A.laws a.a) (A.elements a.q.now) out (A.value a.c) a.e l.i c.requires.0 (whole ∙ c.requires.1.0) inside l.invariant.0 l.invariant.1
+    let r = product_turn F (A.laws a.a) (A.elements a.q.now) out (A.value a.c) a.e l.i c.requires.0 (whole ∙ c.requires.1) inside l.invariant.0 l.invariant.1
     c.minus_power-t.ensures c.shifted.ensures c.shifted-in-loop-i.ensures c.add_product-fresh.ensures c.add_product-last.ensures in
     (ap (take (l.i + 1)) c.put.ensures ∙ r.0, r.1)
 
@@ -37,4 +37,4 @@ returns g c =
     let p = mul_poly F (A.elements a.q.now) (geometric F (A.value a.c) a.e) in
     let n = product_length F (A.laws a.a) (A.elements a.q.now) (A.value a.c) a.e c.requires.0 in
     let whole = even A.elements A.width g.met.A.Arithmetic.counted l.out a.out.now l.auto.out in
-    take_end (A.elements l.out) p l.i (omega (arith, whole, c.count-i-end.ensures)) (omega (arith, n, c.count-i-end.ensures, c.requires.1.0)) l.invariant.0
+    take_end (A.elements l.out) p l.i (omega (arith, whole, c.count-i-end.ensures)) (omega (arith, n, c.count-i-end.ensures, c.requires.1)) l.invariant.0

@@ -6,12 +6,14 @@ use Rattle.correction.proofs.multiplied.Goals as goal
 pub correct-requires : goal.correct-requires
 correct-requires c =
     let a = c.args in
-    product_asked_three a.field a.e a.q.now a.out.now (omega arith) c.requires
+    let r = product_asked_three a.field a.e a.q.now a.out.now (omega arith) c.requires in
+    (r.0, r.1.0)
 
 pub correct-requires-else-field-eq3 : goal.correct-requires-else-field-eq3
 correct-requires-else-field-eq3 c =
     let a = c.args in
-    product_asked_one a.field a.e a.q.now a.out.now (omega arith) c.requires
+    let r = product_asked_one a.field a.e a.q.now a.out.now (omega arith) c.requires in
+    (r.0, r.1.0)
 
 pub returns-then-field-eq3 : goal.returns-then-field-eq3
 returns-then-field-eq3 c =

@@ -1,11 +1,12 @@
-use Rattle.definition.specs.Field.{field_of}
 use Rattle.definition.specs.Polynomial.{evaluate, geometric}
-use Rattle.algebra.specs.PrimeField.{laws}
 use Rattle.polynomial.proofs.GeometricSum.{Turn}
 use Rattle.polynomial.proofs.geometric_at.Given as goal
 
 abbrev pub invariant-loop-n : goal.invariant-loop-n
-invariant-loop-n l = Turn (field_of l.field) (laws l.field) (evaluate (field_of l.field) (geometric (field_of l.field) l.c l.e) l.x) l.a l.b l.q l.n
+invariant-loop-n g l =
+    let A = g.A.Arithmetic in
+    let F = A.over l.a in
+    Turn F (A.laws l.a) (evaluate F (geometric F (A.value l.fn.c) l.e) (A.value l.fn.x)) (A.value l.s) (A.value l.b) (A.value l.q) l.n
 
 abbrev pub decreases-loop-n : goal.decreases-loop-n
-decreases-loop-n l = l.n
+decreases-loop-n g l = l.n

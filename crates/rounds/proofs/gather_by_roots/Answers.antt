@@ -35,20 +35,20 @@ push-requires c =
     let same = elements_even σ a.py.now a.px.now m.0 in
     (omega (arith, c.loop-i-test.true, n.0, n.1.1.0, m.1.1), (omega (arith, n.1.0, same-x), same-y ∙ same ∙ sym same-x))
 
-pub shape_of-values-in_err-from : goal.shape_of-values-in_err-from
-shape_of-values-in_err-from c = c.sample_at-s.auto.values ∙ c.loop-i.invariant.1.1.1.1.1.1
+pub shape_of-values-in_default : goal.shape_of-values-in_default
+shape_of-values-in_default c = c.sample_at-s.auto.values ∙ c.loop-i.invariant.1.1.1.1.1.1
 
-pub shape_of-px-in_err-from : goal.shape_of-px-in_err-from
-shape_of-px-in_err-from c = c.push.auto.xs ∙ c.loop-i.invariant.1.1.1.0
+pub shape_of-px-in_default : goal.shape_of-px-in_default
+shape_of-px-in_default c = c.push.auto.xs ∙ c.loop-i.invariant.1.1.1.0
 
-pub shape_of-py-in_err-from : goal.shape_of-py-in_err-from
-shape_of-py-in_err-from c = c.push.auto.ys ∙ c.loop-i.invariant.1.1.1.1.0
+pub shape_of-py-in_default : goal.shape_of-py-in_default
+shape_of-py-in_default c = c.push.auto.ys ∙ c.loop-i.invariant.1.1.1.1.0
 
-pub returns-in_err-from : goal.returns-in_err-from
-returns-in_err-from c =
+pub returns-in_default : goal.returns-in_default
+returns-in_default c =
     let a = c.args in
     let l = c.loop-i in
-    let t = shifts_turn (field_at a.field) (sample_at a.field a.pw.now a.roots.now a.oracle a.k a.r) a.shifts.now (laws_at a.field) l.i c.loop-i-test.true l.invariant.0 l.invariant.1.1.1.1.1.0 c.sample_at-s.ensures c.in_err-from.ensures.ys_after in rw c.from_residual.ensures (record { py_after = kept_none _ _ (shifts_clash (field_at a.field) (sample_at a.field a.pw.now a.roots.now a.oracle a.k a.r) a.shifts.now (pair (elements_at a.field a.outs.now) (elements_at a.field a.replies.now)) (l.i - 1) (kept_clash (elements_at a.field c.push.new.xs) (elements_at a.field c.push.new.ys) refl t)); room = tt })
+    let t = shifts_turn (field_at a.field) (sample_at a.field a.pw.now a.roots.now a.oracle a.k a.r) a.shifts.now (laws_at a.field) l.i c.loop-i-test.true l.invariant.0 l.invariant.1.1.1.1.1.0 c.sample_at-s.ensures c.push.ensures.ys_after in record { py_after = kept_none _ _ (shifts_clash (field_at a.field) (sample_at a.field a.pw.now a.roots.now a.oracle a.k a.r) a.shifts.now (pair (elements_at a.field a.outs.now) (elements_at a.field a.replies.now)) (l.i - 1) (kept_clash (elements_at a.field c.push.new.xs) (elements_at a.field c.push.new.ys) c.in_default.is t)); room = tt }
 
 pub loop-i-preserved : goal.loop-i-preserved
 loop-i-preserved c =
@@ -57,7 +57,7 @@ loop-i-preserved c =
     let n = l.invariant.1.1.1 in
     let u = c.push in
     let h = c.loop-i-test.true in
-    let w = c.in_ok-from.ensures.room in (
+    let w = c.in-Some.ensures.room in (
       omega (arith, l.invariant.0, h),
       (
         omega (arith, w.1, l.invariant.1.0),
@@ -68,7 +68,7 @@ loop-i-preserved c =
             (
               u.auto.ys ∙ n.1.0,
               (
-                kept_from (elements_at a.field u.new.xs) (elements_at a.field u.new.ys) refl (shifts_turn (field_at a.field) (sample_at a.field a.pw.now a.roots.now a.oracle a.k a.r) a.shifts.now (laws_at a.field) l.i h l.invariant.0 n.1.1.0 c.sample_at-s.ensures c.in_ok-from.ensures.ys_after),
+                kept_from (elements_at a.field u.new.xs) (elements_at a.field u.new.ys) refl (shifts_turn (field_at a.field) (sample_at a.field a.pw.now a.roots.now a.oracle a.k a.r) a.shifts.now (laws_at a.field) l.i h l.invariant.0 n.1.1.0 c.sample_at-s.ensures c.in-Some.ensures.ys_after),
                 c.sample_at-s.auto.values ∙ n.1.1.1,
               ),
             ),

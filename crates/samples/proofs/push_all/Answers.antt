@@ -33,8 +33,8 @@ push-requires c =
     let n = l.invariant in
     (omega (arith, n.0, c.loop-i-test.true), (omega (arith, n.1.0, px-even, c.requires.from_in_bounds), py-even ∙ c.requires.ys_len.1 ∙ sym px-even))
 
-pub returns-in_err-k : goal.returns-in_err-k
-returns-in_err-k c =
+pub returns-in_default : goal.returns-in_default
+returns-in_default c =
     let l = c.loop-i in
     let a = c.args in
     let F = field_at a.field in
@@ -44,11 +44,10 @@ returns-in_err-k c =
     let py = elements_at a.field c.push.new.ys in
     let g = pair (drop l.k (elements_at a.field l.px)) (drop l.k (elements_at a.field l.py)) in
     let inside : l.i ≤ length xs = omega (arith, l.auto.i, c.count-i.ensures) in
-    let put-now = c.in_err-k.ensures.ys_after ∙ ap₂ (λ (p v : ElementOf a.field). put F.equal (record { point = p; value = v }) g) c.get-x.ensures c.get-y.ensures in
-    rw c.from_residual.ensures (record {
-      py_after = λ ps h. kept_none _ _ (walk_clash F xs ys ps (l.i - 1) c.requires.ys_len.0 (walk_turn F xs ys ps (laws_at a.field) l.i (omega (arith, c.loop-i-test.true)) inside c.requires.ys_len.0 (l.invariant.1.1.1 ps h) (kept_clash px py refl put-now)));
+    let put-now = c.push.ensures.ys_after ∙ ap₂ (λ (p v : ElementOf a.field). put F.equal (record { point = p; value = v }) g) c.get-x.ensures c.get-y.ensures in record {
+      py_after = λ ps h. kept_none _ _ (walk_clash F xs ys ps (l.i - 1) c.requires.ys_len.0 (walk_turn F xs ys ps (laws_at a.field) l.i (omega (arith, c.loop-i-test.true)) inside c.requires.ys_len.0 (l.invariant.1.1.1 ps h) (kept_clash px py c.in_default.is put-now)));
       room = tt;
-    })
+    }
 
 pub loop-i-preserved : goal.loop-i-preserved
 loop-i-preserved c =
@@ -63,8 +62,8 @@ loop-i-preserved c =
     let inside : l.i ≤ length xs = omega (arith, l.auto.i, c.count-i.ensures) in
     let some_left : 0 < l.i = omega (arith, c.loop-i-test.true) in
     let n = l.invariant in
-    let w = c.in_ok-k.ensures.room in
-    let put-now = c.in_ok-k.ensures.ys_after ∙ ap₂ (λ (p v : ElementOf a.field). put F.equal (record { point = p; value = v }) g) c.get-x.ensures c.get-y.ensures in (
+    let w = c.in-Some.ensures.room in
+    let put-now = c.in-Some.ensures.ys_after ∙ ap₂ (λ (p v : ElementOf a.field). put F.equal (record { point = p; value = v }) g) c.get-x.ensures c.get-y.ensures in (
       omega (arith, w, some_left, n.0),
       (
         omega (arith, w, n.1.0),

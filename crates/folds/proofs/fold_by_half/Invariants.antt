@@ -2,7 +2,7 @@ use Rattle.std.proofs.Common.{◌≡◌, ◌*◌, ◌≤◌, ◌<◌, length, ge
 use Rattle.folds.specs.Halving.{halving, exponent_of}
 use Rattle.folds.specs.PointsIn.{inverse_as}
 use Rattle.folds.proofs.Turns.{Left}
-use Rattle.folds.proofs.fold_values.Given as goal
+use Rattle.folds.proofs.fold_by_half.Given as goal
 
 abbrev pub invariant-loop-count : goal.invariant-loop-count
 invariant-loop-count g l =
